@@ -1,0 +1,144 @@
+-- The figures of a task, all in blocks. The walks run inside one function; displacements go from callees to callers, the entry
+-- occupancy and the chain from callers to callees. Calls lead to later functions, which bounds the depth of both.
+use Prim.Native.Nat.{ℕ, zero, suc, pred, _+_, _-_, _*_, min, max}
+use mathlib.Core.Bool.{Bool, true, false, not, _&&_, _||_}
+use mathlib.Core.List.{List, [], _∷_}
+use mathlib.Core.Option.{Option, none, some}
+use lib.Dec.{leb, eqb}
+use Rattle.model.specs.Basic.{if_then_else_, joined, select, largest, smallest, upTo, aboveAll, lowest}
+use Rattle.model.specs.Task.{Func, Task, size, count, func, point}
+use Rattle.model.specs.Walk.{leads, called, loads, stores, touches, calls, isCall, isEnsure, returns, never, someWalk, arrival}
+
+-- some walk from point 0 reaches p; it reaches p with no store of o before
+unfoldable pub reached : Func → ℕ → Bool
+reached x p = someWalk x never (eqb p) 0
+
+unfoldable pub uninitialised : Func → ℕ → ℕ → Bool
+uninitialised x o p = someWalk x (stores x o) (eqb p) 0
+
+-- offset o is live at p: some walk from p loads it with no store of it before
+unfoldable pub live : Func → ℕ → ℕ → Bool
+live x o p = someWalk x (stores x o) (loads x o) p
+
+-- dead: the lowest live offset. Below it the frame holds nothing that will be loaded
+unfoldable pub dead : Func → ℕ → ℕ
+dead x p = lowest (λ o. live x o p) (x .frame)
+
+-- need: how far up the frame is touched before any ensure
+unfoldable pub need : Func → ℕ → ℕ
+need x p = aboveAll (λ o. someWalk x (isEnsure x) (touches x o) p) (x .frame)
+
+-- the functions that x calls
+abbrev pub theCalled : Option ℕ → List ℕ
+theCalled none = []
+theCalled (some f) = f ∷ []
+
+unfoldable pub callees : Func → List ℕ
+callees x = joined (λ p. theCalled (called p)) (x .points)
+
+-- some walk from point 0 to a return makes no call
+unfoldable pub callFree : Func → Bool
+callFree x = someWalk x (isCall x) (returns x) 0
+
+-- the longest displacement D and the shortest displacement d, to a depth of n calls
+unfoldable pub longestTo : Task → ℕ → ℕ → ℕ
+longestTo t zero f = 0
+longestTo t (suc n) f = func t f .frame + largest (longestTo t n) (callees (func t f))
+
+unfoldable pub shortestTo : Task → ℕ → ℕ → ℕ
+shortestTo t zero f = 0
+shortestTo t (suc n) f =
+    if callFree (func t f)
+    then func t f .frame
+    else func t f .frame + smallest (shortestTo t n) (callees (func t f))
+
+unfoldable pub longest : Task → ℕ → ℕ
+longest t f = longestTo t (count t) f
+
+unfoldable pub shortest : Task → ℕ → ℕ
+shortest t f = shortestTo t (count t) f
+
+-- fill: what the ensure after a call of g may fill
+abbrev pub fillAfter : Task → ℕ → Option ℕ → ℕ
+fillAfter t k none = 0
+fillAfter t k (some g) = k - (t .stack - longest t g)
+
+unfoldable pub fill : Task → ℕ → ℕ → ℕ
+fill t f p =
+    if isEnsure (func t f) p then fillAfter t (func t f .frame) (called (point (func t f) (p - 1))) else 0
+
+-- the occupancy after point p, at most, where it is at most h before
+abbrev pub cutBy : Task → ℕ → Option ℕ → ℕ
+cutBy t h none = h
+cutBy t h (some g) = min h (t .stack - shortest t g)
+
+unfoldable pub after : Task → ℕ → ℕ → ℕ → ℕ
+after t f p h =
+    if isEnsure (func t f) p then max h (func t f .frame) else cutBy t h (called (point (func t f) p))
+
+-- high: the largest occupancy at p over all walks from point 0, entry e being the largest occupancy where f is called
+unfoldable pub highFrom : Task → ℕ → ℕ → ℕ → ℕ
+highFrom t f e p =
+    pred
+    (arrival
+    (leads (func t f))
+    (after t f)
+    (min (t .stack) (e + func t f .frame))
+    (size (func t f))
+    (2 * size (func t f))
+    p)
+
+-- the points of x that call f
+unfoldable pub callPoints : Func → ℕ → List ℕ
+callPoints x f = select (calls x f) (upTo (size x))
+
+-- the largest, over the points that call f, of what the function and the point give
+unfoldable pub overCalls : Task → ℕ → (ℕ → ℕ → ℕ) → ℕ
+overCalls t f figure = largest (λ h. largest (figure h) (callPoints (func t h) f)) (upTo (count t))
+
+-- E: the largest occupancy where f is called; 0 for function 0. To a depth of n callers, and whole
+unfoldable pub entryTo : Task → ℕ → ℕ → ℕ
+entryTo t zero f = 0
+entryTo t (suc n) f = overCalls t f (λ h p. highFrom t h (entryTo t n h) p)
+
+unfoldable pub entry : Task → ℕ → ℕ
+entry t f = entryTo t f f
+
+unfoldable pub high : Task → ℕ → ℕ → ℕ
+high t f p = highFrom t f (entry t f) p
+
+-- spill: what entering f may spill
+unfoldable pub spill : Task → ℕ → ℕ
+spill t f = entry t f + func t f .frame - t .stack
+
+-- kept: of a caller's frame, what is certainly still cached at the ensure p after its call
+abbrev pub kept : Task → ℕ → ℕ → ℕ
+kept t f p = func t f .frame - fill t f p
+
+-- chain: what the callers' first ensures may have to fill above their fill, summed along the dearest chain of calls
+unfoldable pub chainTo : Task → ℕ → ℕ → ℕ
+chainTo t zero f = 0
+chainTo t (suc n) f = overCalls t f (λ h p. chainTo t n h + kept t h (suc p))
+
+unfoldable pub chain : Task → ℕ → ℕ
+chain t f = chainTo t f f
+
+-- q: the largest such part over the first ensures on walks from p, p included
+unfoldable pub firstEnsure : Func → ℕ → ℕ → Bool
+firstEnsure x e p = someWalk x (isEnsure x) (λ q. eqb e q && isEnsure x q) p
+
+unfoldable pub keptNext : Task → ℕ → ℕ → ℕ
+keptNext t f p = largest (kept t f) (select (λ e. firstEnsure (func t f) e p) (upTo (size (func t f))))
+
+-- the four parts of the cost of a preemption at a point, and the cost
+unfoldable pub save : Task → ℕ → ℕ → ℕ
+save t f p = high t f p - dead (func t f) p
+
+unfoldable pub reload : Task → ℕ → ℕ → ℕ
+reload t f p = need (func t f) p - dead (func t f) p
+
+unfoldable pub later : Task → ℕ → ℕ → ℕ
+later t f p = keptNext t f p - need (func t f) p
+
+unfoldable pub cost : Task → ℕ → ℕ → ℕ
+cost t f p = save t f p + reload t f p + later t f p + chain t f

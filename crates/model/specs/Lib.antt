@@ -1,0 +1,14 @@
+-- Every definition of document 01, in its order. This folder is what a reader has to believe.
+pub mod Basic
+pub mod Text
+pub mod Task
+pub mod Walk
+pub mod Core
+pub mod Figures
+pub mod Sheet
+pub mod Refusal
+pub mod Plain
+pub mod Run
+pub mod Services
+pub mod Opened
+pub mod Examples

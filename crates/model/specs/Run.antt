@@ -1,0 +1,161 @@
+-- A run on the core: what each event does to the frames, the cache and the memory, what it moves, and what the sheet allows.
+use Prim.Native.Nat.{ℕ, zero, suc, _+_, _≤_}
+use mathlib.Core.Path.{_≡_}
+use mathlib.Core.List.{List, [], _∷_}
+use mathlib.Core.Option.{Option, none, some}
+use lib.Dec.{eqb}
+use Rattle.model.specs.declared.Point.{Point}
+use Rattle.model.specs.declared.Point.the-variants.{Load, Store, Call, Ensure, Goto, Either, Return}
+use Rattle.model.specs.declared.Refusal.{Refusal}
+use Rattle.model.specs.declared.Ending.{Ending}
+use Rattle.model.specs.declared.Ending.the-variants.{AllDone, Refused}
+use Rattle.model.specs.Basic.{if_then_else_}
+use Rattle.model.specs.Task.{Task, func, point}
+use Rattle.model.specs.Core.{Core, Moved, reserve, free, ensure, load, store, preempt, fresh}
+use Rattle.model.specs.Sheet.{Sheet}
+use Rattle.model.specs.Refusal.{eventRows}
+use Rattle.model.specs.Plain.{Event, Frame, entered, running, afterEvent, plain}
+
+-- a frame of the run is a function and a point: its numbers are in the cache and the memory
+pub record Place : Type 0 where
+  pub fn : ℕ
+  pub at : ℕ
+
+-- the frames, the running one first, and the core
+pub record State : Type 0 where
+  pub frames : List Place
+  pub core : Core
+
+-- an event's state after it, answer and blocks moved
+pub record Turn : Type 0 where
+  pub state : State
+  pub answer : ℕ
+  pub blocks : ℕ
+
+abbrev pub runningPlace : Task → List Place → Option Point
+runningPlace t [] = none
+runningPlace t (x ∷ fs) = some (point (func t (x .fn)) (x .at))
+
+-- on inside function f at point p, with this core, answer and count of blocks
+abbrev pub onwards : ℕ → ℕ → List Place → Core → ℕ → ℕ → Turn
+onwards f p fs c a b =
+    record { state = record { frames = record { fn = f; at = p } ∷ fs; core = c }; answer = a; blocks = b }
+
+-- a step with value v at point p of function f
+abbrev pub stepTurn : Task → ℕ → ℕ → List Place → Core → Point → ℕ → Turn
+stepTurn t f p fs c (Load o) v = onwards f (suc p) fs c (load o c) 0
+stepTurn t f p fs c (Store o) v = onwards f (suc p) fs (store o v c) 0 0
+stepTurn t f p fs c (Call g) v =
+    onwards
+    g
+    0
+    (record { fn = f; at = suc p } ∷ fs)
+    (reserve (func t g .frame) c .core)
+    0
+    (reserve (func t g .frame) c .blocks)
+stepTurn t f p fs c (Ensure k) v = onwards f (suc p) fs (ensure k c .core) 0 (ensure k c .blocks)
+stepTurn t f p fs c (Goto q) v = onwards f q fs c 0 0
+stepTurn t f p fs c (Either q r) v = onwards f (if eqb v 0 then q else r) fs c 0 0
+stepTurn t f p fs c Return v =
+    record { state = record { frames = fs; core = free (func t f .frame) c }; answer = 0; blocks = 0 }
+
+-- a preemption there, v being what the other task left
+abbrev pub preemptTurn : Sheet → ℕ → ℕ → List Place → Core → ℕ → Turn
+preemptTurn s f p fs c v =
+    onwards
+    f
+    p
+    fs
+    (preempt (s .at f p .dead) (s .at f p .need) v c .core)
+    0
+    (preempt (s .at f p .dead) (s .at f p .need) v c .blocks)
+
+-- an event that is not refused
+abbrev pub turnAt : Task → Sheet → List Place → Core → Event → Turn
+turnAt t s [] c e = record { state = record { frames = []; core = c }; answer = 0; blocks = 0 }
+turnAt t s (x ∷ fs) c e =
+    if eqb (e .kind) 0
+    then stepTurn t (x .fn) (x .at) fs c (point (func t (x .fn)) (x .at)) (e .value)
+    else preemptTurn s (x .fn) (x .at) fs c (e .value)
+
+unfoldable pub turn : Task → Sheet → State → Event → Turn
+turn t s x e = turnAt t s (x .frames) (x .core) e
+
+-- what a run gives: how it ended, how many events were done, what it moved, the answers, and the core as it was left
+pub record Ran : Type 0 where
+  pub ending : Ending
+  pub done : ℕ
+  pub moved : ℕ
+  pub answers : List ℕ
+  pub core : Core
+
+abbrev pub orRan : Option Refusal → Core → Turn → Ran → Ran
+orRan (some r) c u rest = record { ending = Refused r; done = 0; moved = 0; answers = []; core = c }
+orRan none c u rest =
+    record {
+      ending = rest .ending;
+      done = suc (rest .done);
+      moved = u .blocks + rest .moved;
+      answers = u .answer ∷ rest .answers;
+      core = rest .core;
+    }
+
+-- the events from number i on, at this state
+unfoldable pub ranFrom : Task → Sheet → ℕ → State → List Event → Ran
+ranFrom t s i x [] = record { ending = AllDone; done = 0; moved = 0; answers = []; core = x .core }
+ranFrom t s i x (e ∷ es) =
+    orRan
+    (eventRows i (e .kind) (e .value) (runningPlace t (x .frames)))
+    (x .core)
+    (turn t s x e)
+    (ranFrom t s (suc i) (turn t s x e .state) es)
+
+-- a fresh start: function 0 has just been entered, and cache and memory hold whatever they were lent with
+abbrev pub freshState : Task → List ℕ → List ℕ → State
+freshState t cache memory =
+    record { frames = record { fn = 0; at = 0 } ∷ []; core = fresh (func t 0 .frame) cache memory }
+
+abbrev pub ran : Task → Sheet → List ℕ → List ℕ → List Event → Ran
+ran t s cache memory es = ranFrom t s 0 (freshState t cache memory) es
+
+-- what the sheet allows an event at a frame of the plain stack: the callee's spill for a call, the fill for an ensure, the point's
+-- cost for a preemption
+abbrev pub stepBound : Sheet → ℕ → ℕ → Point → ℕ
+stepBound s f p (Load o) = 0
+stepBound s f p (Store o) = 0
+stepBound s f p (Call g) = s .spill g
+stepBound s f p (Ensure k) = s .at f p .fill
+stepBound s f p (Goto q) = 0
+stepBound s f p (Either q r) = 0
+stepBound s f p Return = 0
+
+unfoldable pub eventBound : Task → Sheet → List Frame → Event → ℕ
+eventBound t s [] e = 0
+eventBound t s (x ∷ fs) e =
+    if eqb (e .kind) 0
+    then stepBound s (x .fn) (x .at) (point (func t (x .fn)) (x .at))
+    else s .at (x .fn) (x .at) .cost
+
+abbrev pub orBound : Option Refusal → ℕ → ℕ → ℕ
+orBound (some r) a rest = 0
+orBound none a rest = a + rest
+
+-- the sum over the events done, from number i on, at these frames of the plain stack
+unfoldable pub allowedFrom : Task → Sheet → ℕ → List Frame → List Event → ℕ
+allowedFrom t s i fs [] = 0
+allowedFrom t s i fs (e ∷ es) =
+    orBound
+    (eventRows i (e .kind) (e .value) (running t fs))
+    (eventBound t s fs e)
+    (allowedFrom t s (suc i) (afterEvent t fs e) es)
+
+abbrev pub allowed : Task → Sheet → List Event → ℕ
+allowed t s es = allowedFrom t s 0 (entered t 0 ∷ []) es
+
+-- demand 3, of one run from a fresh start: it ends, counts its events and answers as the plain stack does, and it moves at most what
+-- the sheet allows
+pub record Faithful (t : Task) (s : Sheet) (cache memory : List ℕ) (es : List Event) : Type 0 where
+  pub ending : ran t s cache memory es .ending ≡ plain t es .ending
+  pub done : ran t s cache memory es .done ≡ plain t es .done
+  pub answers : ran t s cache memory es .answers ≡ plain t es .answers
+  pub bounded : ran t s cache memory es .moved ≤ allowed t s es

@@ -1,0 +1,123 @@
+-- Laws of the tables: what is read back after a write, and the task that the tables hold, point by point.
+use Prim.Native.Nat.{ℕ, zero, suc, _+_, _*_, _≤_, _<_}
+use native.Mathlib.Nat.{add-suc}
+use native.Mathlib.Omega.{arith}
+use native.Mathlib.Decide.{decLt}
+use native.Mathlib.Numerals.{add-one}
+use mathlib.Core.Path.{_≡_, refl, ap, sym, _∙_}
+use mathlib.Core.List.{List, [], _∷_, _++_}
+use lib.ListN.{length, getD, set, take, length-append, length-set}
+use lib.ListN.{List·getD-append}
+use lib.Seq.{getD-set-same, getD-set-other, getD-at, take-append-le, take-all}
+use Rattle.model.specs.declared.Point.{Point}
+use Rattle.model.specs.declared.Point.the-variants.{Load, Store, Call, Ensure, Goto, Either, Return}
+use Rattle.model.specs.Basic.{sumOf}
+use Rattle.model.specs.Task.{Func, Task, size, count, func, point, empty, inAll, funcLine}
+use Rattle.tables.specs.Tables.{pointOf, kindOf, firstArgument, secondArgument, pointAt, putPoint, frameAt, baseAt, sizeAt, putFunc, pointsOf, funcOf, funcsOf, taskOf, Stacked, none, more}
+
+-- a point survives being written as numbers
+pub point-back : (p : Point) → pointOf (kindOf p) (firstArgument p) (secondArgument p) ≡ p
+point-back (Load o) = refl
+point-back (Store o) = refl
+point-back (Call f) = refl
+point-back (Ensure k) = refl
+point-back (Goto p) = refl
+point-back (Either p q) = refl
+point-back Return = refl
+
+-- the points of a function, counted and one by one
+pub length-points : (w : List ℕ) (b n : ℕ) → length (pointsOf w b n) ≡ n
+unfolding pointsOf
+length-points w b zero = refl
+length-points w b (suc n) = simp (length-append, length-points w b n) (omega arith)
+
+pub point-there : (w : List ℕ) (b n p : ℕ) → p < n → getD (pointsOf w b n) p Return ≡ pointAt w (b + p)
+unfolding pointsOf
+point-there w b zero p h = absurd (omega arith)
+point-there w b (suc n) p h =
+    elim (decLt p n) [
+      | yes k ↦
+          List·getD-append (pointsOf w b n) (pointAt w (b + n) ∷ []) Return p (rw (length-points w b n) k)
+          ∙ point-there w b n p k
+      | no k ↦
+          let e : p ≡ n = omega arith in
+          rw e (getD-at (pointsOf w b n) (pointAt w (b + n)) [] Return n (length-points w b n))
+    ]
+
+-- the functions of a task, counted and one by one
+pub length-funcs : (w : List ℕ) (n : ℕ) → length (funcsOf w n) ≡ n
+unfolding funcsOf
+length-funcs w zero = refl
+length-funcs w (suc n) = simp (length-append, length-funcs w n) (omega arith)
+
+pub func-there : (w : List ℕ) (n f : ℕ) → f < n → getD (funcsOf w n) f empty ≡ funcOf w f
+unfolding funcsOf
+func-there w zero f h = absurd (omega arith)
+func-there w (suc n) f h =
+    elim (decLt f n) [
+      | yes k ↦
+          List·getD-append (funcsOf w n) (funcOf w n ∷ []) empty f (rw (length-funcs w n) k) ∙ func-there w n f k
+      | no k ↦
+          let e : f ≡ n = omega arith in
+          rw e (getD-at (funcsOf w n) (funcOf w n) [] empty n (length-funcs w n))
+    ]
+
+-- what the task of the tables has at function f and its point p
+module _ (w : List ℕ) (s n f : ℕ) (h : f < n) where
+  pub func-is : func (taskOf w s n) f ≡ funcOf w f
+  func-is = func-there w n f h
+
+  pub size-is : size (func (taskOf w s n) f) ≡ sizeAt w f
+  size-is = ap size func-is ∙ length-points w (baseAt w f) (sizeAt w f)
+
+  pub frame-is : func (taskOf w s n) f .frame ≡ frameAt w f
+  frame-is = ap (λ (x : Func). x .frame) func-is
+
+  pub point-is : (p : ℕ) → p < sizeAt w f → point (func (taskOf w s n) f) p ≡ pointAt w (baseAt w f + p)
+  point-is p k =
+      ap (λ (x : Func). point x p) func-is ∙ point-there w (baseAt w f) (sizeAt w f) p k
+
+-- functions that lie one after the other: each ends where the next begins, and all end at m
+pub stacked-within : {w : List ℕ} {n m : ℕ} → Stacked w n m → (f : ℕ) → f < n → baseAt w f + sizeAt w f ≤ m
+stacked-within none f h = absurd (omega arith)
+stacked-within {w} (more {n} {m} k e) f h =
+    elim (decLt f n) [
+      | yes l ↦ let i = stacked-within k f l in omega arith
+      | no l ↦ let j : f ≡ n = omega arith in omega (arith, e, ap (baseAt w) j, ap (sizeAt w) j)
+    ]
+
+pub sum-append : (l k : List Func) → inAll (l ++ k) ≡ inAll l + inAll k
+unfolding sumOf
+sum-append [] k = omega arith
+sum-append (x ∷ l) k = let i = sum-append l k in omega arith
+
+pub sum-funcs : {w : List ℕ} {n m : ℕ} → Stacked w n m → inAll (funcsOf w n) ≡ m
+unfolding funcsOf sumOf
+sum-funcs none = refl
+sum-funcs {w} (more {n} {m} k e) =
+    sum-append (funcsOf w n) (funcOf w n ∷ [])
+    ∙ (let i = sum-funcs k in let l = length-points w (baseAt w n) (sizeAt w n) in omega arith)
+
+pub sum-before : {w : List ℕ} {n m : ℕ} → Stacked w n m → (f : ℕ) → f < n → inAll (take f (funcsOf w n)) ≡ baseAt w f
+unfolding funcsOf
+sum-before none f h = absurd (omega arith)
+sum-before {w} (more {n} {m} k e) f h =
+    elim (decLt f n) [
+      | yes l ↦
+          ap inAll (take-append-le f (funcsOf w n) (funcOf w n ∷ []) (rw (length-funcs w n) (omega arith)))
+          ∙ sum-before k f l
+      | no l ↦
+          let i : f ≡ n = omega arith in
+          rw
+          i
+          (ap
+          inAll
+          (take-append-le n (funcsOf w n) (funcOf w n ∷ []) (rw (length-funcs w n) (omega arith))
+          ∙ take-all n (funcsOf w n) (rw (length-funcs w n) (omega arith)))
+          ∙ (sum-funcs k ∙ sym e))
+    ]
+
+-- the line of function f
+pub line-is : {w : List ℕ} {n m : ℕ} (s : ℕ) → Stacked w n m → (f : ℕ) → f < n → funcLine (taskOf w s n) f ≡ 2 + 2 * f + baseAt w f
+unfolding funcLine
+line-is s k f h = rw (sum-before k f h)

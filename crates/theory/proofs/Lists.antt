@@ -1,0 +1,200 @@
+-- Laws of the functions of the model's Basic: what is a member of a list that they make, and that the largest and the smallest
+-- number that they find is one. The walks and the arrivals are proved from these.
+use Prim.Native.Nat.{ℕ, zero, suc, _+_, _≤_, _<_, min, max}
+use mathlib.Core.Bool.{Bool, true, false, not, _&&_, _||_}
+use mathlib.Core.List.{List, [], _∷_, List·Memᴰ, List·Memᴰ·head, List·Memᴰ·tail, List·Memᴰ·not-nil, List·Memᴰ·cases-cons, List·Memᴰ·eq-of-singleton, List·Memᴰ·append-cases, Memᴰ·append-left, Memᴰ·append-right}
+use mathlib.Core.Logic.{_↔_, _⊎_, inl, inr, ⊎-elim}
+use mathlib.Core.Path.{_≡_, refl, ap}
+use native.Mathlib.Decide.{decLe, decLt, ℕ-discrete}
+use native.Mathlib.Omega.{arith}
+use lib.Dec.{T, T-not}
+use Rattle.model.specs.Basic.{if_then_else_, any, select, joined, largest, smallest, countFrom, upTo, aboveAll, lowestFrom, lowest}
+use Rattle.model.specs.Walk.{Largest, Smallest}
+
+-- what holds of both ways of a test holds of the chosen one
+pub by-test {ℓ} : {X : Type ℓ} (P : X → Type 0) (t : Bool) {x y : X} → (T t → P x) → (T (not t) → P y) → P (if t then x else y)
+by-test P true f g = f tt
+by-test P false f g = g tt
+
+-- what holds of two numbers holds of the larger one
+pub by-max : (P : ℕ → Type 0) (a b : ℕ) → P a → P b → P (max a b)
+by-max P a b x y =
+    elim (decLe a b) [
+      | yes h ↦ let e : max a b ≡ b = omega arith in rw e y
+      | no h ↦ let e : max a b ≡ a = omega arith in rw e x
+    ]
+
+-- what holds of two numbers holds of the smaller one
+pub by-min : (P : ℕ → Type 0) (a b : ℕ) → P a → P b → P (min a b)
+by-min P a b x y =
+    elim (decLe a b) [
+      | yes h ↦ let e : min a b ≡ a = omega arith in rw e x
+      | no h ↦ let e : min a b ≡ b = omega arith in rw e y
+    ]
+
+-- a test that asks for one of two
+pub or-holds : (a b : Bool) → T (a || b) ↔ (T a ⊎ T b)
+or-holds true b = (λ h. inl tt, λ h. tt)
+or-holds false b = (inr, ⊎-elim absurd (λ h. h))
+
+-- a test that asks for both of two
+pub and-holds : (a b : Bool) → T (a && b) ↔ (T a × T b)
+and-holds true b = (λ h. (tt, h), λ h. h .1)
+and-holds false b = (absurd, λ h. h .0)
+
+module _ {A : Type 0} where
+  -- some element passes the test
+  pub any-holds : (t : A → Bool) (l : List A) → T (any t l) ↔ ((a : A) × List·Memᴰ a l × T (t a))
+  unfolding any
+  any-holds t [] = (absurd, λ m. absurd (List·Memᴰ·not-nil (m .1)))
+  any-holds t (a ∷ l) = (
+    λ h. ⊎-elim (λ x. (a, List·Memᴰ·head refl, x))
+        (λ x. let m = any-holds t l .0 x in (m .0, List·Memᴰ·tail (m .1), m .2)) (or-holds (t a) (any t l) .0 h),
+    λ m. or-holds (t a) (any t l) .1
+        (⊎-elim (λ e. inl (rw e at (m .2))) (λ k. inr (any-holds t l .1 (m .0, k, m .2))) (List·Memᴰ·cases-cons (m .1))),
+  )
+
+  -- the members of the selected list
+  pub mem-select : (t : A → Bool) (l : List A) {a : A} → List·Memᴰ a (select t l) ↔ (List·Memᴰ a l × T (t a))
+  unfolding select
+  mem-select t [] = (λ m. absurd (List·Memᴰ·not-nil m), λ m. absurd (List·Memᴰ·not-nil (m .0)))
+  mem-select t (b ∷ l) {a} =
+      by-test (λ k. List·Memᴰ a k ↔ (List·Memᴰ a (b ∷ l) × T (t a))) (t b)
+      (λ h. (
+        λ m. ⊎-elim (λ e. (List·Memᴰ·head e, rw e h))
+            (λ k. let r = mem-select t l .0 k in (List·Memᴰ·tail (r .0), r .1)) (List·Memᴰ·cases-cons m),
+        λ m. ⊎-elim (λ e. List·Memᴰ·head e) (λ k. List·Memᴰ·tail (mem-select t l .1 (k, m .1))) (List·Memᴰ·cases-cons (m .0)),
+      ))
+      (λ h. (
+        λ k. let r = mem-select t l .0 k in (List·Memᴰ·tail (r .0), r .1),
+        λ m. ⊎-elim (λ e. absurd (T-not (t b) h (rw e at (m .1)))) (λ k. mem-select t l .1 (k, m .1)) (List·Memᴰ·cases-cons (m .0)),
+      ))
+
+  -- the members of the joined lists
+  pub mem-joined : {B : Type 0} (f : A → List B) (l : List A) {b : B}
+      → List·Memᴰ b (joined f l) ↔ ((a : A) × List·Memᴰ a l × List·Memᴰ b (f a))
+  unfolding joined
+  mem-joined f [] = (λ m. absurd (List·Memᴰ·not-nil m), λ m. absurd (List·Memᴰ·not-nil (m .1)))
+  mem-joined f (a ∷ l) = (
+    λ h. ⊎-elim (λ x. (a, List·Memᴰ·head refl, x))
+        (λ x. let m = mem-joined f l .0 x in (m .0, List·Memᴰ·tail (m .1), m .2)) (List·Memᴰ·append-cases (f a) h),
+    λ m. ⊎-elim (λ e. Memᴰ·append-left (joined f l) (rw e at (m .2)))
+        (λ k. Memᴰ·append-right (f a) (mem-joined f l .1 (m .0, k, m .2))) (List·Memᴰ·cases-cons (m .1)),
+  )
+
+-- the members of i, i + 1, .., n of them
+pub mem-countFrom : (i n : ℕ) {j : ℕ} → List·Memᴰ j (countFrom i n) ↔ ((i ≤ j) × (j < i + n))
+unfolding countFrom
+mem-countFrom i zero = (λ m. absurd (List·Memᴰ·not-nil m), λ m. absurd (omega arith))
+mem-countFrom i (suc n) {j} = (
+  λ m. ⊎-elim (λ (e : j ≡ i). omega arith) (λ k. let r = mem-countFrom (suc i) n .0 k in omega arith) (List·Memᴰ·cases-cons m),
+  λ m. elim (ℕ-discrete j i) [ yes e ↦ List·Memᴰ·head e | no e ↦ List·Memᴰ·tail (mem-countFrom (suc i) n .1 (omega arith)) ],
+)
+
+-- the members of the numbers below n
+pub mem-upTo : (n : ℕ) {i : ℕ} → List·Memᴰ i (upTo n) ↔ (i < n)
+mem-upTo n = (λ m. let r = mem-countFrom 0 n .0 m in omega arith, λ h. mem-countFrom 0 n .1 (omega arith))
+
+module _ {A : Type 0} (f : A → ℕ) where
+  -- what holds of 0 and of every element's number holds of the largest one
+  pub by-largest : (P : ℕ → Type 0) (l : List A) → P 0 → ((a : A) → List·Memᴰ a l → P (f a)) → P (largest f l)
+  unfolding largest
+  by-largest P [] z g = z
+  by-largest P (a ∷ l) z g =
+      by-max P (f a) (largest f l) (g a (List·Memᴰ·head refl)) (by-largest P l z (λ b m. g b (List·Memᴰ·tail m)))
+
+  -- no element's number is above the largest one
+  pub largest-bounds : {a : A} {l : List A} → List·Memᴰ a l → f a ≤ largest f l
+  unfolding largest
+  largest-bounds (List·Memᴰ·head e) = let k = ap f e in omega arith
+  largest-bounds (List·Memᴰ·tail m) = let k = largest-bounds m in omega arith
+
+  -- the largest number of a list
+  pub largest-largest : (l : List A) → Largest (λ m. (a : A) × List·Memᴰ a l × (m ≡ f a)) (largest f l)
+  largest-largest l = record {
+    bounds = λ n h. let k = largest-bounds (h .1) in omega arith;
+    attained =
+        by-largest (λ m. 0 < m → (a : A) × List·Memᴰ a l × (m ≡ f a)) l (λ h. absurd (omega arith)) (λ a m h. (a, m, refl));
+  }
+
+  -- no element's number is below the smallest one
+  pub smallest-bounds : {a : A} {l : List A} → List·Memᴰ a l → smallest f l ≤ f a
+  unfolding smallest
+  smallest-bounds {l = []} m = absurd (List·Memᴰ·not-nil m)
+  smallest-bounds {l = b ∷ []} m = let k = ap f (List·Memᴰ·eq-of-singleton m) in omega arith
+  smallest-bounds {l = b ∷ c ∷ l} m =
+      ⊎-elim (λ e. let k = ap f e in omega arith) (λ n. let k = smallest-bounds n in omega arith) (List·Memᴰ·cases-cons m)
+
+  smallest-among : (a : A) (l : List A) → (b : A) × List·Memᴰ b (a ∷ l) × (smallest f (a ∷ l) ≡ f b)
+  unfolding smallest
+  smallest-among a [] = (a, List·Memᴰ·head refl, refl)
+  smallest-among a (c ∷ l) =
+      by-min (λ m. (b : A) × List·Memᴰ b (a ∷ c ∷ l) × (m ≡ f b)) (f a) (smallest f (c ∷ l))
+      (a, List·Memᴰ·head refl, refl)
+      (let r = smallest-among c l in (r .0, List·Memᴰ·tail (r .1), r .2))
+
+  -- the smallest number of a list that has an element is an element's
+  pub smallest-attained : {a : A} {l : List A} → List·Memᴰ a l → (b : A) × List·Memᴰ b l × (smallest f l ≡ f b)
+  smallest-attained {l = []} m = absurd (List·Memᴰ·not-nil m)
+  smallest-attained {l = c ∷ l} m = smallest-among c l
+
+module _ (t : ℕ → Bool) where
+  -- one more than the largest number below n that passes the test
+  pub above-largest : (n : ℕ) → Largest (λ m. (o : ℕ) × (m ≡ suc o) × (o < n) × T (t o)) (aboveAll t n)
+  unfolding aboveAll
+  above-largest zero = record { bounds = λ m h. absurd (omega arith); attained = λ h. absurd (omega arith) }
+  above-largest (suc n) =
+      by-test (λ k. Largest (λ m. (o : ℕ) × (m ≡ suc o) × (o < suc n) × T (t o)) k) (t n)
+      (λ h. record { bounds = λ m k. omega arith; attained = λ k. (n, refl, omega arith, h) })
+      (λ h. record {
+        bounds = λ m k. elim (ℕ-discrete (k .0) n) [
+          | yes e ↦ absurd (T-not (t n) h (rw e at (k .3)))
+          | no e ↦ above-largest n .bounds m (k .0, k .1, omega arith, k .3)
+        ];
+        attained = λ k. let r = above-largest n .attained k in (r .0, r .1, omega arith, r .3);
+      })
+
+  lowest-within : (i n : ℕ) → (i ≤ lowestFrom t i n) × (lowestFrom t i n ≤ i + n)
+  unfolding lowestFrom
+  lowest-within i zero = omega arith
+  lowest-within i (suc n) =
+      by-test (λ k. (i ≤ k) × (k ≤ i + suc n)) (t i) (λ h. omega arith)
+      (λ h. let r = lowest-within (suc i) n in omega arith)
+
+  lowest-bounds : (i n j : ℕ) → i ≤ j → j < i + n → T (t j) → lowestFrom t i n ≤ j
+  unfolding lowestFrom
+  lowest-bounds i zero j h k x = omega arith
+  lowest-bounds i (suc n) j h k x =
+      by-test (λ m. m ≤ j) (t i) (λ y. h)
+      (λ y. elim (ℕ-discrete j i) [
+        | yes e ↦ absurd (T-not (t i) y (rw e at x))
+        | no e ↦ lowest-bounds (suc i) n j (omega arith) (omega arith) x
+      ])
+
+  lowest-attained : (i n : ℕ) → lowestFrom t i n < i + n → T (t (lowestFrom t i n))
+  unfolding lowestFrom
+  lowest-attained i zero = λ h. absurd (omega arith)
+  lowest-attained i (suc n) =
+      by-test (λ m. m < i + suc n → T (t m)) (t i) (λ x h. x) (λ x h. lowest-attained (suc i) n (omega arith))
+
+  -- the smallest number below n that passes the test
+  pub lowest-smallest : (n : ℕ) → Smallest (λ o. T (t o)) n (lowest t n)
+  lowest-smallest n = record {
+    within = let r = lowest-within 0 n in omega arith;
+    bounds = λ i h x. lowest-bounds 0 n i (omega arith) (omega arith) x;
+    attained = λ h. lowest-attained 0 n (omega arith);
+  }
+
+-- two largest numbers of one kind are the same
+pub largest-unique : {P : ℕ → Type 0} {m n : ℕ} → Largest P m → Largest P n → m ≡ n
+largest-unique {P} {m} {n} a b = omega (arith, under a b, under b a)
+  where
+    under : {x y : ℕ} → Largest P x → Largest P y → x ≤ y
+    under {x} {y} c d = elim (decLt 0 x) [ yes h ↦ d .bounds x (c .attained h) | no h ↦ omega arith ]
+
+-- two smallest numbers of one kind are the same
+pub smallest-unique : {P : ℕ → Type 0} {n a b : ℕ} → Smallest P n a → Smallest P n b → a ≡ b
+smallest-unique {P} {n} {a} {b} x y = omega (arith, under x y, under y x)
+  where
+    under : {c d : ℕ} → Smallest P n c → Smallest P n d → c ≤ d
+    under {c} {d} u v = elim (decLt d n) [ yes h ↦ u .bounds d h (v .attained h) | no h ↦ let k = u .within in omega arith ]
