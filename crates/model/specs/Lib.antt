@@ -12,3 +12,4 @@ pub mod Run
 pub mod Services
 pub mod Opened
 pub mod Examples
+pub mod Cases

@@ -1,0 +1,224 @@
+-- Outside cases and cases of refusal order, by computation: the definitions are tried on them before any code rests on them.
+use Prim.Native.Nat.{ℕ}
+use mathlib.Core.Path.{_≡_, refl}
+use mathlib.Core.List.{List, [], _∷_, _++_}
+use lib.ListN.{replicate}
+use Rattle.model.specs.declared.Refusal.the-variants.{WorkTooSmall, Form, StackSize, FrameSize, Offset, TooMany, Callee, Pairing, Target, LastPoint, Unreachable, Uncalled, Uninitialised, EventList, AnswersTooSmall, CacheSize, MemoryTooSmall, AfterFinish, Kind, Choice}
+use Rattle.model.specs.declared.Ending.the-variants.{AllDone, Refused}
+use Rattle.model.specs.Text.{bytes}
+use Rattle.model.specs.Task.{Task, Judged, refused, task}
+use Rattle.model.specs.Sheet.{reportText}
+use Rattle.model.specs.Refusal.{judge, checkRows}
+use Rattle.model.specs.Services.{runOf}
+use Rattle.model.specs.Opened.{opened}
+use Rattle.model.specs.Examples.{lines, sample}
+
+-- a working space of the length asked for, before and after a service
+abbrev space : List ℕ
+space = replicate 16384 3
+
+abbrev spaceAfter : List ℕ
+spaceAfter = replicate 16384 0
+
+-- the task of an accepted text
+abbrev the : Judged → Task
+the (task t) = t
+the (refused r) = record { stack = 0; funcs = [] }
+
+-- refusals 2 to 13
+pub refusals :
+    (judge checkRows 16384 (lines ([])) ≡ refused (Form 1))
+    × (judge checkRows 16384 (bytes "(stack 1)") ≡ refused (Form 1))
+    × (judge checkRows 16384 (bytes "(st") ≡ refused (Form 1))
+    × (judge checkRows 16384 (lines ("(stack 65)" ∷ "(stack 16)" ∷ "(func 4" ∷ [])) ≡ refused (StackSize 1))
+    × (judge checkRows 16384 (lines ("(stack 5)" ∷ "(func 6" ∷ "  (return)" ∷ ")" ∷ [])) ≡ refused (FrameSize 2))
+    × (judge checkRows 16384 (lines ("(stack 5)" ∷ "(func 5" ∷ "  (store 5)" ∷ [])) ≡ refused (Offset 3))
+    × (judge checkRows 16384 (lines ("(stack 4)" ∷ "(func 1" ∷ (replicate 256 "  (store 0)" ++ ("  (return)" ∷ ")" ∷ []))))
+    ≡ refused (TooMany 259))
+    × (judge checkRows 16384 (lines ("(stack 5)" ∷ "(func 1" ∷ "  (store 0)" ∷ "  (ensure 1)" ∷ "  (either 7 4)" ∷ "  (load 0)"
+    ∷ "  (load 0)" ∷ "  (load 0)" ∷ "  (load 0)" ∷ "  (either 9 11)" ∷ "  (load 0)" ∷ "  (store 0)" ∷ "  (return)" ∷ ")"
+    ∷ "(func 0" ∷ "  (either 1 1)" ∷ "  (goto 2)" ∷ "  (goto 3)" ∷ "  (goto 4)" ∷ "  (goto 5)" ∷ "  (goto 6)" ∷ "  (return)"
+    ∷ ")" ∷ [])) ≡ refused (Pairing 4))
+    × (judge checkRows 16384 (lines ("(stack 6)" ∷ "(func 5" ∷ "  (store 0)" ∷ "  (store 2)" ∷ "  (store 1)" ∷ "  (store 3)"
+    ∷ "  (store 4)" ∷ "  (load 2)" ∷ "  (store 2)" ∷ "  (load 0)" ∷ "  (call 1)" ∷ "  (ensure 5)" ∷ "  (either 11 13)"
+    ∷ "  (call 5)" ∷ "  (ensure 5)" ∷ "  (store 0)" ∷ "  (store 1)" ∷ "  (store 2)" ∷ "  (call 1)" ∷ "  (ensure 5)"
+    ∷ "  (either 3 19)" ∷ "  (store 1)" ∷ "  (return)" ∷ ")" ∷ "(func 0" ∷ "  (goto 2)" ∷ "  (goto 2)" ∷ "  (either 3 4)"
+    ∷ "  (goto 4)" ∷ "  (goto 5)" ∷ "  (goto 6)" ∷ "  (goto 1)" ∷ ")" ∷ [])) ≡ refused (Callee 14))
+    × (judge checkRows 16384 (lines ("(stack 8)" ∷ "(func 0" ∷ "  (goto 1)" ∷ ")" ∷ [])) ≡ refused (Target 3))
+    × (judge checkRows 16384 (lines ("(stack 1)" ∷ "(func 1" ∷ "  (either 1 1)" ∷ "  (store 0)" ∷ ")" ∷ [])) ≡ refused (LastPoint 4))
+    × (judge checkRows 16384 (lines ("(stack 5)" ∷ "(func 0" ∷ "  (goto 2)" ∷ "  (goto 1)" ∷ "  (return)" ∷ ")" ∷ []))
+    ≡ refused (Unreachable 4))
+    × (judge checkRows 16384 (lines ("(stack 3)" ∷ "(func 1" ∷ "  (call 4)" ∷ "  (ensure 1)" ∷ "  (call 1)" ∷ "  (ensure 1)"
+    ∷ "  (store 0)" ∷ "  (call 1)" ∷ "  (ensure 1)" ∷ "  (call 2)" ∷ "  (ensure 1)" ∷ "  (call 1)" ∷ "  (ensure 1)"
+    ∷ "  (return)" ∷ ")" ∷ "(func 3" ∷ "  (store 2)" ∷ "  (store 1)" ∷ "  (store 0)" ∷ "  (store 1)" ∷ "  (store 1)"
+    ∷ "  (load 2)" ∷ "  (goto 7)" ∷ "  (either 8 8)" ∷ "  (return)" ∷ ")" ∷ "(func 1" ∷ "  (store 0)" ∷ "  (either 2 5)"
+    ∷ "  (goto 3)" ∷ "  (load 0)" ∷ "  (store 0)" ∷ "  (either 6 7)" ∷ "  (load 0)" ∷ "  (either 8 10)" ∷ "  (load 0)"
+    ∷ "  (either 10 4)" ∷ "  (return)" ∷ ")" ∷ "(func 0" ∷ "  (call 4)" ∷ "  (ensure 0)" ∷ "  (goto 3)" ∷ "  (either 4 4)"
+    ∷ "  (call 4)" ∷ "  (ensure 0)" ∷ "  (goto 7)" ∷ "  (call 4)" ∷ "  (ensure 0)" ∷ "  (goto 10)" ∷ "  (either 11 11)"
+    ∷ "  (goto 3)" ∷ ")" ∷ "(func 0" ∷ "  (goto 1)" ∷ "  (return)" ∷ ")" ∷ [])) ≡ refused (Uncalled 40))
+    × (judge checkRows 16384 (lines ("(stack 16)" ∷ "(func 6" ∷ "  (store 3)" ∷ "  (store 2)" ∷ "  (store 0)" ∷ "  (load 1)"
+    ∷ "  (either 1 5)" ∷ "  (return)" ∷ ")" ∷ [])) ≡ refused (Uninitialised 6))
+unfolding opened lines sample
+refusals = (refl, refl, refl, refl, refl, refl, refl, refl, refl, refl, refl, refl, refl, refl)
+
+-- reports: loops and branches; calls in a row; a chain of calls in a small cache
+pub reports :
+    (reportText (the (judge checkRows 16384 (lines ("(stack 4)" ∷ "(func 4" ∷ "  (either 1 3)" ∷ "  (store 0)" ∷ "  (goto 5)"
+    ∷ "  (store 3)" ∷ "  (either 5 1)" ∷ "  (either 6 6)" ∷ "  (either 7 1)" ∷ "  (store 0)" ∷ "  (either 7 4)" ∷ ")" ∷ []))))
+    ≡ lines ("(report" ∷ "  (func 0 4 4 4 0 0)" ∷ "  (at 0 4 4 4 0 0 0 0 0 0)" ∷ "  (at 1 4 4 1 0 0 0 0 0 0)"
+    ∷ "  (at 2 4 4 1 0 0 0 0 0 0)" ∷ "  (at 3 4 4 4 0 0 0 0 0 0)" ∷ "  (at 4 4 4 1 0 0 0 0 0 0)" ∷ "  (at 5 4 4 1 0 0 0 0 0 0)"
+    ∷ "  (at 6 4 4 1 0 0 0 0 0 0)" ∷ "  (at 7 4 4 1 0 0 0 0 0 0)" ∷ "  (at 8 4 4 1 0 0 0 0 0 0)" ∷ ")" ∷ []))
+    × (reportText (the (judge checkRows 16384 (lines ("(stack 6)" ∷ "(func 0" ∷ "  (goto 1)" ∷ "  (call 1)" ∷ "  (ensure 0)"
+    ∷ "  (goto 4)" ∷ "  (goto 5)" ∷ "  (goto 4)" ∷ ")" ∷ "(func 6" ∷ "  (store 2)" ∷ "  (store 5)" ∷ "  (store 1)"
+    ∷ "  (call 2)" ∷ "  (ensure 6)" ∷ "  (call 2)" ∷ "  (ensure 6)" ∷ "  (store 2)" ∷ "  (either 9 9)" ∷ "  (return)" ∷ ")"
+    ∷ "(func 5" ∷ "  (store 2)" ∷ "  (store 0)" ∷ "  (goto 2)" ∷ ")" ∷ [])))) ≡ lines ("(report" ∷ "  (func 0 0 11 11 0 0)"
+    ∷ "  (at 0 0 0 0 0 0 0 0 0 0)" ∷ "  (at 1 0 0 0 0 0 0 0 0 0)" ∷ "  (at 2 0 0 0 0 0 0 0 0 0)" ∷ "  (at 3 0 0 0 0 0 0 0 0 0)"
+    ∷ "  (at 4 0 0 0 0 0 0 0 0 0)" ∷ "  (at 5 0 0 0 0 0 0 0 0 0)" ∷ "  (func 1 6 11 11 0 0)" ∷ "  (at 0 6 6 6 0 0 0 0 0 0)"
+    ∷ "  (at 1 6 6 6 0 0 0 0 0 0)" ∷ "  (at 2 6 6 2 0 0 0 0 0 0)" ∷ "  (at 3 6 6 0 0 0 1 0 1 0)" ∷ "  (at 4 1 6 0 0 0 1 0 1 5)"
+    ∷ "  (at 5 6 6 0 0 0 1 0 1 0)" ∷ "  (at 6 1 6 0 0 0 1 0 1 5)" ∷ "  (at 7 6 6 3 0 0 0 0 0 0)" ∷ "  (at 8 6 6 0 0 0 0 0 0 0)"
+    ∷ "  (at 9 6 6 0 0 0 0 0 0 0)" ∷ "  (func 2 5 5 5 5 1)" ∷ "  (at 0 6 5 3 1 0 0 1 2 0)" ∷ "  (at 1 6 5 1 1 0 0 1 2 0)"
+    ∷ "  (at 2 6 5 0 1 0 0 1 2 0)" ∷ ")" ∷ []))
+    × (reportText (the (judge checkRows 16384 (lines ("(stack 2)" ∷ "(func 1" ∷ "  (call 2)" ∷ "  (ensure 1)" ∷ "  (call 2)"
+    ∷ "  (ensure 1)" ∷ "  (call 1)" ∷ "  (ensure 1)" ∷ "  (goto 7)" ∷ "  (call 1)" ∷ "  (ensure 1)" ∷ "  (either 10 10)"
+    ∷ "  (store 0)" ∷ "  (return)" ∷ ")" ∷ "(func 1" ∷ "  (either 1 4)" ∷ "  (either 2 4)" ∷ "  (call 2)" ∷ "  (ensure 1)"
+    ∷ "  (call 2)" ∷ "  (ensure 1)" ∷ "  (return)" ∷ ")" ∷ "(func 0" ∷ "  (either 1 1)" ∷ "  (return)" ∷ ")" ∷ []))))
+    ≡ lines ("(report" ∷ "  (func 0 1 1 2 0 0)" ∷ "  (at 0 1 1 0 0 0 1 0 1 0)" ∷ "  (at 1 1 1 0 0 0 1 0 1 0)"
+    ∷ "  (at 2 1 1 0 0 0 1 0 1 0)" ∷ "  (at 3 1 1 0 0 0 1 0 1 0)" ∷ "  (at 4 1 1 0 0 0 1 0 1 0)" ∷ "  (at 5 1 1 0 0 0 1 0 1 0)"
+    ∷ "  (at 6 1 1 0 0 0 1 0 1 0)" ∷ "  (at 7 1 1 0 0 0 1 0 1 0)" ∷ "  (at 8 1 1 0 0 0 1 0 1 0)" ∷ "  (at 9 1 1 1 0 0 0 0 0 0)"
+    ∷ "  (at 10 1 1 1 0 0 0 0 0 0)" ∷ "  (at 11 1 1 0 0 0 0 0 0 0)" ∷ "  (func 1 1 1 1 0 1)" ∷ "  (at 0 2 1 0 1 0 1 1 3 0)"
+    ∷ "  (at 1 2 1 0 1 0 1 1 3 0)" ∷ "  (at 2 2 1 0 1 0 1 1 3 0)" ∷ "  (at 3 2 1 0 1 0 1 1 3 0)" ∷ "  (at 4 2 1 0 1 0 1 1 3 0)"
+    ∷ "  (at 5 2 1 0 1 0 1 1 3 0)" ∷ "  (at 6 2 1 0 1 0 0 1 2 0)" ∷ "  (func 2 0 0 0 0 2)" ∷ "  (at 0 2 0 0 2 0 0 2 4 0)"
+    ∷ "  (at 1 2 0 0 2 0 0 2 4 0)" ∷ ")" ∷ []))
+unfolding opened lines sample
+reports = (refl, refl, refl)
+
+-- runs: a step after the finish; preemptions in a loop-free task; calls and ensures with preemptions; refusals 16 and 18
+pub runs :
+    (runOf (lines ("(stack 5)" ∷ "(func 1" ∷ "  (store 0)" ∷ "  (goto 2)" ∷ "  (return)" ∷ ")" ∷ [])) space (0 ∷ 2934011270 ∷ 0
+    ∷ 589427096 ∷ 0 ∷ 3997777106 ∷ 0 ∷ 0 ∷ 0 ∷ 0 ∷ []) (373894995 ∷ 2968548144 ∷ 886888172 ∷ 3830429940 ∷ 3190996365
+    ∷ []) (898285158 ∷ 1500554193 ∷ 2598987744 ∷ 1007897788 ∷ 1265440252 ∷ []) (858584284 ∷ [])
+    ≡ record {
+      result = record { ending = Refused (AfterFinish 3); done = 3; moved = 0; allowed = 0 };
+      work = spaceAfter;
+      answers = 0
+          ∷ 0 ∷ 0 ∷ 3830429940 ∷ 3190996365 ∷ [];
+      cache = 2934011270 ∷ 1500554193 ∷ 2598987744 ∷ 1007897788 ∷ 1265440252
+          ∷ [];
+      memory = 858584284 ∷ [];
+    })
+    × (runOf (lines ("(stack 4)" ∷ "(func 1" ∷ "  (goto 1)" ∷ "  (goto 2)" ∷ "  (store 0)" ∷ "  (goto 4)" ∷ "  (load 0)"
+    ∷ "  (goto 6)" ∷ "  (load 0)" ∷ "  (return)" ∷ ")" ∷ [])) space (0 ∷ 2895956331 ∷ 0 ∷ 909425933 ∷ 0 ∷ 1896762787 ∷ 1
+    ∷ 2804987225 ∷ 0 ∷ 1839070548 ∷ 0 ∷ 3101506463 ∷ 0 ∷ 3370136954 ∷ 1 ∷ 1911718603 ∷ 1 ∷ 2495569231 ∷ 1 ∷ 1025133807 ∷ 0
+    ∷ 3222885024 ∷ 0 ∷ 4274936422 ∷ []) (2953963103 ∷ 774874867 ∷ 1597049441 ∷ 1054608902 ∷ 3584791696 ∷ 2295094126 ∷ 254103220
+    ∷ 2238442858 ∷ 2439674725 ∷ 3205676868 ∷ 1670587855 ∷ 3353686216 ∷ []) (3681709112 ∷ 2385878438 ∷ 3345814839 ∷ 3210900165
+    ∷ []) (2414184793 ∷ 3897494404 ∷ 3591637451 ∷ 1488934572 ∷ 3163266442 ∷ 2404110971 ∷ [])
+    ≡ record {
+      result = record { ending = AllDone; done = 12; moved = 8; allowed = 8 };
+      work = spaceAfter;
+      answers = 0 ∷ 0 ∷ 0
+          ∷ 0 ∷ 0 ∷ 1896762787 ∷ 0 ∷ 0 ∷ 0 ∷ 0 ∷ 1896762787 ∷ 0 ∷ [];
+      cache = 1025133807 ∷ 1896762787 ∷ 1025133807 ∷ 1025133807
+          ∷ [];
+      memory = 2414184793 ∷ 3897494404 ∷ 3591637451 ∷ 1488934572 ∷ 3163266442 ∷ 1896762787 ∷ [];
+    })
+    × (runOf (lines ("(stack 8)" ∷ "(func 8" ∷ "  (store 1)" ∷ "  (store 5)" ∷ "  (store 3)" ∷ "  (store 6)" ∷ "  (load 1)"
+    ∷ "  (call 1)" ∷ "  (ensure 8)" ∷ "  (call 1)" ∷ "  (ensure 8)" ∷ "  (store 6)" ∷ "  (call 1)" ∷ "  (ensure 8)"
+    ∷ "  (either 12 2)" ∷ ")" ∷ "(func 3" ∷ "  (store 0)" ∷ "  (store 1)" ∷ "  (store 2)" ∷ "  (store 1)" ∷ "  (goto 5)"
+    ∷ "  (return)" ∷ ")" ∷ [])) space (0 ∷ 343548935 ∷ 0 ∷ 1382360379 ∷ 0 ∷ 2831718133 ∷ 0 ∷ 4244988237 ∷ 0 ∷ 1184329595 ∷ 0
+    ∷ 3996152404 ∷ 0 ∷ 2874150811 ∷ 1 ∷ 614367015 ∷ 0 ∷ 184484199 ∷ 0 ∷ 181731476 ∷ 0 ∷ 178036337 ∷ 0 ∷ 1427494250 ∷ 1
+    ∷ 1789875070 ∷ 0 ∷ 555757364 ∷ 0 ∷ 2479613213 ∷ 0 ∷ 3770896815 ∷ 0 ∷ 2817283816 ∷ 0 ∷ 239142375 ∷ 0 ∷ 2841588492 ∷ 0
+    ∷ 731878003 ∷ []) (1312826082 ∷ 3007879134 ∷ 3249559854 ∷ 594189102 ∷ 1003021628 ∷ 3075854954 ∷ 3300767047 ∷ 1332354898
+    ∷ 2142794415 ∷ 205333238 ∷ 3425538620 ∷ 3853149224 ∷ 1905902347 ∷ 4219321020 ∷ 3327701956 ∷ 2706750067 ∷ 3602063796
+    ∷ 4250023341 ∷ 159836219 ∷ 1133340427 ∷ []) (3727233847 ∷ 3180727928 ∷ 2130549762 ∷ 1714817226 ∷ 1810988266 ∷ 24717597
+    ∷ 357127227 ∷ 1221336634 ∷ []) (2839140983 ∷ 2500482646 ∷ 443744283 ∷ 2510779550 ∷ 1305496735 ∷ 1745604338 ∷ 1557541568
+    ∷ 2026975510 ∷ 2361847538 ∷ 400976173 ∷ 1993639439 ∷ 1365413304 ∷ 3690443241 ∷ 2720607234 ∷ 2502797216 ∷ 341990167 ∷ [])
+    ≡ record {
+      result = record { ending = AllDone; done = 20; moved = 19; allowed = 29 };
+      work = spaceAfter;
+      answers = 0 ∷ 0 ∷ 0
+          ∷ 0 ∷ 343548935 ∷ 0 ∷ 0 ∷ 0 ∷ 0 ∷ 0 ∷ 0 ∷ 0 ∷ 0 ∷ 0 ∷ 0 ∷ 0 ∷ 0 ∷ 0 ∷ 0 ∷ 0 ∷ [];
+      cache = 3727233847 ∷ 343548935
+          ∷ 2130549762 ∷ 2831718133 ∷ 1810988266 ∷ 2817283816 ∷ 731878003 ∷ 2841588492 ∷ [];
+      memory = 2839140983 ∷ 2500482646
+          ∷ 443744283 ∷ 2510779550 ∷ 1305496735 ∷ 1745604338 ∷ 1557541568 ∷ 2026975510 ∷ 3727233847 ∷ 343548935 ∷ 2130549762
+          ∷ 2831718133 ∷ 1810988266 ∷ 1382360379 ∷ 4244988237 ∷ 1221336634 ∷ [];
+    })
+    × (runOf (lines ("(stack 2)" ∷ "(func 2" ∷ "  (store 0)" ∷ "  (store 1)" ∷ "  (call 1)" ∷ "  (ensure 2)" ∷ "  (call 1)"
+    ∷ "  (ensure 2)" ∷ "  (goto 1)" ∷ ")" ∷ "(func 0" ∷ "  (either 1 3)" ∷ "  (goto 2)" ∷ "  (goto 4)" ∷ "  (goto 4)"
+    ∷ "  (goto 5)" ∷ "  (goto 7)" ∷ "  (return)" ∷ "  (either 5 8)" ∷ "  (goto 6)" ∷ ")" ∷ [])) space (7 ∷ []) ([]) (1138740478
+    ∷ 3583472818 ∷ []) (670524004 ∷ 1676998962 ∷ [])
+    ≡ record {
+      result = record { ending = Refused EventList; done = 0; moved = 0; allowed = 0 };
+      work = spaceAfter;
+      answers = [];
+      cache = 1138740478
+          ∷ 3583472818 ∷ [];
+      memory = 670524004 ∷ 1676998962 ∷ [];
+    })
+    × (runOf (lines ("(stack 5)" ∷ "(func 3" ∷ "  (store 2)" ∷ "  (store 1)" ∷ "  (store 0)" ∷ "  (load 2)" ∷ "  (either 5 5)"
+    ∷ "  (return)" ∷ ")" ∷ [])) space (0 ∷ 3400196418 ∷ 0 ∷ 3513183446 ∷ 0 ∷ 476545124 ∷ 0 ∷ 2604493378 ∷ 0 ∷ 1 ∷ []) (344260931
+    ∷ 4174468066 ∷ 2193317402 ∷ 3117858009 ∷ 69215398 ∷ []) (3996965014 ∷ 2450955901 ∷ 4248015098 ∷ 371480247 ∷ 2559686712 ∷ 1
+    ∷ []) (2908766338 ∷ 935844569 ∷ 3984743703 ∷ 2776743189 ∷ [])
+    ≡ record {
+      result = record { ending = Refused (CacheSize 5); done = 0; moved = 0; allowed = 0 };
+      work = spaceAfter;
+      answers = 344260931
+          ∷ 4174468066 ∷ 2193317402 ∷ 3117858009 ∷ 69215398 ∷ [];
+      cache = 3996965014 ∷ 2450955901 ∷ 4248015098 ∷ 371480247
+          ∷ 2559686712 ∷ 1 ∷ [];
+      memory = 2908766338 ∷ 935844569 ∷ 3984743703 ∷ 2776743189 ∷ [];
+    })
+unfolding opened lines sample
+runs = (refl, refl, refl, refl, refl)
+
+-- where several rows hold: 11 before 12 before 13 whatever the lines; 7 before 8 on one line, 9 before 7 by line, 8 before 10; 4 by
+-- line before 5; 3 before 2 by line; the first of two lines; 15 before all
+pub orders :
+    (judge checkRows 16384 (lines ("(stack 4)" ∷ "(func 2" ∷ "  (load 0)" ∷ "  (return)" ∷ ")" ∷ "(func 1" ∷ "  (goto 2)"
+    ∷ "  (return)" ∷ "  (return)" ∷ ")" ∷ [])) ≡ refused (Unreachable 8))
+    × (judge checkRows 16384 (lines ("(stack 4)" ∷ "(func 2" ∷ "  (load 0)" ∷ "  (return)" ∷ ")" ∷ "(func 1" ∷ "  (return)" ∷ ")"
+    ∷ "(func 1" ∷ "  (return)" ∷ ")" ∷ [])) ≡ refused (Uncalled 6))
+    × (judge checkRows 16384 (lines ("(stack 4)" ∷ "(func 2" ∷ "  (load 0)" ∷ "  (load 1)" ∷ "  (return)" ∷ ")" ∷ []))
+    ≡ refused (Uninitialised 3))
+    × (judge checkRows 16384 (lines ("(stack 4)" ∷ "(func 2" ∷ "  (call 0)" ∷ "  (goto 9)" ∷ ")" ∷ [])) ≡ refused (Callee 3))
+    × (judge checkRows 16384 (lines ("(stack 4)" ∷ "(func 2" ∷ "  (goto 9)" ∷ "  (call 0)" ∷ ")" ∷ [])) ≡ refused (Target 3))
+    × (judge checkRows 16384 (lines ("(stack 4)" ∷ "(func 2" ∷ "  (call 1)" ∷ ")" ∷ "(func 0" ∷ "  (return)" ∷ ")" ∷ []))
+    ≡ refused (Pairing 3))
+    × (judge checkRows 16384 (lines ("(stack 4)" ∷ "(func 5" ∷ "  (load 7)" ∷ "x" ∷ [])) ≡ refused (FrameSize 2))
+    × (judge checkRows 16384 (lines ("(stack 65)" ∷ "x" ∷ [])) ≡ refused (StackSize 1))
+    × (judge checkRows 16383 (lines ("x" ∷ [])) ≡ refused WorkTooSmall)
+unfolding opened lines sample
+orders = (refl, refl, refl, refl, refl, refl, refl, refl, refl)
+
+-- the wrong turns that the paper names: only the first ensure of a frame pays, a call that may be skipped leaves a high occupancy, and a
+-- store in one branch leaves the other branch live.
+-- Then refusals of events, in their order, and 17 and 19
+pub turns :
+    (reportText (the (judge checkRows 16384 (lines ("(stack 4)" ∷ "(func 2" ∷ "  (store 1)" ∷ "  (call 1)" ∷ "  (ensure 2)"
+    ∷ "  (call 2)" ∷ "  (ensure 2)" ∷ "  (load 1)" ∷ "  (return)" ∷ ")" ∷ "(func 4" ∷ "  (return)" ∷ ")" ∷ "(func 0"
+    ∷ "  (return)" ∷ ")" ∷ [])))) ≡ lines ("(report" ∷ "  (func 0 2 2 6 0 0)" ∷ "  (at 0 2 2 2 0 0 0 0 0 0)"
+    ∷ "  (at 1 2 1 0 1 0 0 0 1 0)" ∷ "  (at 2 0 1 0 0 0 0 0 0 2)" ∷ "  (at 3 2 1 0 1 0 2 0 3 0)" ∷ "  (at 4 2 1 0 1 0 2 0 3 0)"
+    ∷ "  (at 5 2 1 2 1 1 0 0 2 0)" ∷ "  (at 6 2 2 0 0 0 0 0 0 0)" ∷ "  (func 1 4 4 4 2 0)" ∷ "  (at 0 4 4 0 0 0 0 0 0 0)"
+    ∷ "  (func 2 0 0 0 0 2)" ∷ "  (at 0 2 0 0 2 0 0 2 4 0)" ∷ ")" ∷ []))
+    × (reportText (the (judge checkRows 16384 (lines ("(stack 4)" ∷ "(func 3" ∷ "  (call 1)" ∷ "  (ensure 3)" ∷ "  (return)" ∷ ")"
+    ∷ "(func 1" ∷ "  (either 1 3)" ∷ "  (call 2)" ∷ "  (ensure 1)" ∷ "  (return)" ∷ ")" ∷ "(func 2" ∷ "  (return)" ∷ ")"
+    ∷ [])))) ≡ lines ("(report" ∷ "  (func 0 3 4 6 0 0)" ∷ "  (at 0 3 3 0 0 0 1 0 1 0)" ∷ "  (at 1 3 3 0 0 0 1 0 1 2)"
+    ∷ "  (at 2 3 3 0 0 0 0 0 0 0)" ∷ "  (func 1 1 1 3 0 1)" ∷ "  (at 0 4 1 0 3 0 1 1 5 0)" ∷ "  (at 1 4 1 0 3 0 1 1 5 0)"
+    ∷ "  (at 2 2 1 0 1 0 1 1 3 0)" ∷ "  (at 3 4 1 0 3 0 0 1 4 0)" ∷ "  (func 2 2 2 2 2 2)" ∷ "  (at 0 4 2 0 2 0 0 2 4 0)" ∷ ")"
+    ∷ []))
+    × (reportText (the (judge checkRows 16384 (lines ("(stack 2)" ∷ "(func 1" ∷ "  (store 0)" ∷ "  (either 2 4)" ∷ "  (store 0)"
+    ∷ "  (goto 4)" ∷ "  (load 0)" ∷ "  (return)" ∷ ")" ∷ [])))) ≡ lines ("(report" ∷ "  (func 0 1 1 1 0 0)"
+    ∷ "  (at 0 1 1 1 0 0 0 0 0 0)" ∷ "  (at 1 1 0 1 1 1 0 0 2 0)" ∷ "  (at 2 1 1 1 0 0 0 0 0 0)" ∷ "  (at 3 1 0 1 1 1 0 0 2 0)"
+    ∷ "  (at 4 1 0 1 1 1 0 0 2 0)" ∷ "  (at 5 1 1 0 0 0 0 0 0 0)" ∷ ")" ∷ []))
+    × (runOf (lines ("(stack 2)" ∷ "(func 1" ∷ "  (store 0)" ∷ "  (either 2 4)" ∷ "  (store 0)" ∷ "  (goto 4)" ∷ "  (load 0)"
+    ∷ "  (return)" ∷ ")" ∷ [])) space (0 ∷ 5 ∷ 0 ∷ 2 ∷ []) (replicate 2 0) (replicate 2 0) (replicate 1 0) .result .ending
+    ≡ Refused (Choice 1))
+    × (runOf (lines ("(stack 2)" ∷ "(func 1" ∷ "  (store 0)" ∷ "  (either 2 4)" ∷ "  (store 0)" ∷ "  (goto 4)" ∷ "  (load 0)"
+    ∷ "  (return)" ∷ ")" ∷ [])) space (0 ∷ 5 ∷ 1 ∷ 2 ∷ 0 ∷ 1 ∷ 2 ∷ 0
+    ∷ []) (replicate 4 0) (replicate 2 0) (replicate 1 0) .result .ending ≡ Refused (Kind 3))
+    × (runOf (sample) space (0 ∷ 0 ∷ 0 ∷ 0 ∷ 0 ∷ 0 ∷ 0 ∷ 0 ∷ 0 ∷ 0 ∷ 0 ∷ 0 ∷ 0 ∷ 0 ∷ 0 ∷ 0 ∷ 9 ∷ 9
+    ∷ []) (replicate 9 0) (replicate 5 0) (replicate 6 0) .result .ending ≡ Refused (AfterFinish 8))
+    × (runOf (sample) space (0 ∷ 0 ∷ []) (replicate 0 0) (replicate 5 0) (replicate 6 0) .result .ending ≡ Refused (AnswersTooSmall 1))
+    × (runOf (sample) space (0 ∷ 0 ∷ []) (replicate 1 0) (replicate 5 0) (replicate 5 0) .result .ending ≡ Refused (MemoryTooSmall 6))
+unfolding opened lines sample
+turns = (refl, refl, refl, refl, refl, refl, refl, refl)

@@ -1,0 +1,180 @@
+-- What a text that is read as a task is: rows 2 to 6 as facts. Every line keeps what has been read so far within the limits, and
+-- with it the task at the end.
+use Prim.Native.Nat.{ℕ, suc, _+_, _≤_, _<_}
+use mathlib.Core.Bool.{Bool, true, false, not, _&&_, _||_}
+use mathlib.Core.List.{List, [], _∷_, _++_}
+use mathlib.Core.Path.{_≡_}
+use native.Mathlib.Decide.{decLt}
+use native.Mathlib.Omega.{arith}
+use lib.Dec.{T, leb, ltb, leb→le, nleb→lt, nltb→le}
+use lib.ListN.{length, getD, length-append, List·getD-append}
+use lib.Seq.{getD-append-seam}
+use Rattle.model.specs.declared.Point.{Point}
+use Rattle.model.specs.declared.Point.the-variants.{Return}
+use Rattle.model.specs.declared.Line.{Line}
+use Rattle.model.specs.declared.Line.the-variants as line
+use Rattle.model.specs.Basic.{sumOf}
+use Rattle.model.specs.Text.{linesOf}
+use Rattle.model.specs.Task.{Func, Task, Judged, refused, task, Progress, start, between, inside, Step, stop, goes, size, count, inAll, empty, func, point, offsetFits, withPoint, withFunc, readLine, readEnd, onward, readFrom, readText}
+use Rattle.theory.proofs.Lists.{by-test, and-holds}
+
+-- a task that the lines of a text can make
+pub record Shaped (t : Task) : Type 0 where
+  pub stack-low : 1 ≤ t .stack
+  pub stack-high : t .stack ≤ 64
+  pub some : 1 ≤ count t
+  pub few : count t ≤ 64
+  pub all : inAll (t .funcs) ≤ 1024
+  pub frames : (f : ℕ) → f < count t → func t f .frame ≤ t .stack
+  pub nonempty : (f : ℕ) → f < count t → 1 ≤ size (func t f)
+  pub small : (f : ℕ) → f < count t → size (func t f) ≤ 256
+  pub offsets : (f p : ℕ) → f < count t → p < size (func t f) → T (offsetFits (func t f .frame) (point (func t f) p))
+
+-- a function that has been opened, with the points read so far
+pub record Opened (s : ℕ) (x : Func) : Type 0 where
+  pub frame : x .frame ≤ s
+  pub small : size x ≤ 256
+  pub offsets : (p : ℕ) → p < size x → T (offsetFits (x .frame) (point x p))
+
+-- a task with the functions closed so far
+pub record Begun (t : Task) : Type 0 where
+  pub low : 1 ≤ t .stack
+  pub high : t .stack ≤ 64
+  pub few : count t ≤ 64
+  pub all : inAll (t .funcs) ≤ 1024
+  pub closed : (f : ℕ) → f < count t → Opened (t .stack) (func t f) × (1 ≤ size (func t f))
+
+-- what a progress within the limits is
+abbrev pub Kept : Progress → Type 0
+Kept start = Unit {0}
+Kept (between t) = Begun t
+Kept (inside t x) = Begun t × Opened (t .stack) x × (count t < 64) × (inAll (t .funcs) + size x ≤ 1024)
+
+-- the kind P of the progress after a step, of the task of a judgement
+abbrev Goes : (Progress → Type 0) → Step → Type 0
+Goes P (stop r) = Unit {0}
+Goes P (goes s) = P s
+
+abbrev Tasked : (Task → Type 0) → Judged → Type 0
+Tasked P (refused r) = Unit {0}
+Tasked P (task t) = P t
+
+neither : (a b : Bool) → T (not (a || b)) → T (not a) × T (not b)
+neither true b h = absurd h
+neither false b h = (tt, h)
+
+not-not : (a : Bool) → T (not (not a)) → T a
+not-not true h = tt
+not-not false h = h
+
+-- what holds of a list's elements and of one more holds of the longer list's
+pub at-snoc : {A : Type 0} (P : A → Type 0) (l : List A) (x d : A) → ((i : ℕ) → i < length l → P (getD l i d)) → P x
+    → (i : ℕ) → i < length (l ++ (x ∷ [])) → P (getD (l ++ (x ∷ [])) i d)
+at-snoc P l x d h k i j =
+    elim (decLt i (length l)) [
+      | yes b ↦ rw (List·getD-append l (x ∷ []) d i b) (h i b)
+      | no b ↦ let e : i ≡ length l = omega (arith, length-append l (x ∷ [])) in rw (e, getD-append-seam) k
+    ]
+
+-- the sum over a list and one more element
+pub sum-snoc : {A : Type 0} (g : A → ℕ) (l : List A) (x : A) → sumOf g (l ++ (x ∷ [])) ≡ sumOf g l + g x
+unfolding sumOf
+sum-snoc g [] x = omega arith
+sum-snoc g (a ∷ l) x = omega (arith, sum-snoc g l x)
+
+-- the task with one function more
+more-func : (t : Task) (x : Func) → Begun t → Opened (t .stack) x → count t < 64 → inAll (t .funcs) + size x ≤ 1024 → 1 ≤ size x
+    → Begun (withFunc t x)
+more-func t x b o c a n = record {
+  low = b .low;
+  high = b .high;
+  few = omega (arith, length-append (t .funcs) (x ∷ []));
+  all = omega (arith, sum-snoc size (t .funcs) x);
+  closed = at-snoc (λ y. Opened (t .stack) y × (1 ≤ size y)) (t .funcs) x empty (b .closed) (o, n);
+}
+
+-- the function with one point more
+more-point : (s : ℕ) (x : Func) (p : Point) → Opened s x → size x < 256 → T (offsetFits (x .frame) p) → Opened s (withPoint x p)
+more-point s x p o c h = record {
+  frame = o .frame;
+  small = omega (arith, length-append (x .points) (p ∷ []));
+  offsets = at-snoc (λ y. T (offsetFits (x .frame) y)) (x .points) p Return (o .offsets) h;
+}
+
+-- what a line goes on with is within the limits
+line-goes : (n : ℕ) (s : Progress) (l : Line) → Kept s → Goes Kept (readLine n s l)
+unfolding readLine
+line-goes n start (line.Stack s) k =
+    by-test (Goes Kept) (leb 1 s && leb s 64) (λ h. let r = and-holds (leb 1 s) (leb s 64) .0 h in record {
+      low = leb→le 1 s (r .0);
+      high = leb→le s 64 (r .1);
+      few = omega arith;
+      all = unfold sumOf in omega arith;
+      closed = λ f j. absurd (omega arith);
+    }) (λ h. tt)
+line-goes n start (line.Func m) k = tt
+line-goes n start (line.At x) k = tt
+line-goes n start line.Close k = tt
+line-goes n start line.Malformed k = tt
+line-goes n (between t) (line.Stack s) k = tt
+line-goes n (between t) (line.Func m) k =
+    by-test (Goes Kept) (ltb (t .stack) m) (λ h. tt) (λ h.
+    by-test (Goes Kept) (leb 64 (count t)) (λ j. tt) (λ j. (
+      k,
+      record { frame = nltb→le (t .stack) m h; small = omega arith; offsets = λ p l. absurd (omega arith) },
+      nleb→lt 64 (count t) j,
+      omega (arith, k .all),
+    )))
+line-goes n (between t) (line.At x) k = tt
+line-goes n (between t) line.Close k = tt
+line-goes n (between t) line.Malformed k = tt
+line-goes n (inside t x) (line.Stack s) k = tt
+line-goes n (inside t x) (line.Func m) k = tt
+line-goes n (inside t x) (line.At p) k =
+    by-test (Goes Kept) (not (offsetFits (x .frame) p)) (λ h. tt) (λ h.
+    by-test (Goes Kept) (leb 256 (size x) || leb 1024 (inAll (t .funcs) + size x)) (λ j. tt) (λ j.
+    let r = neither (leb 256 (size x)) (leb 1024 (inAll (t .funcs) + size x)) j in
+    let a = nleb→lt 1024 (inAll (t .funcs) + size x) (r .1) in (
+      k .0,
+      more-point (t .stack) x p (k .1) (nleb→lt 256 (size x) (r .0)) (not-not (offsetFits (x .frame) p) h),
+      k .2,
+      omega (arith, length-append (x .points) (p ∷ [])),
+    )))
+line-goes n (inside t x) line.Close k =
+    by-test (Goes Kept) (leb 1 (size x)) (λ h. more-func t x (k .0) (k .1) (k .2) (k .3) (leb→le 1 (size x) h)) (λ h. tt)
+line-goes n (inside t x) line.Malformed k = tt
+
+-- every line keeps the limits
+pub line-keeps : (n : ℕ) (s : Progress) (l : Line) {s′ : Progress} → Kept s → readLine n s l ≡ goes s′ → Kept s′
+line-keeps n s l k e = rw e at (line-goes n s l k)
+
+end-keeps : (n : ℕ) (s : Progress) → Kept s → Tasked Shaped (readEnd n s)
+unfolding readEnd
+end-keeps n start k = tt
+end-keeps n (between t) k =
+    by-test (Tasked Shaped) (leb 1 (count t)) (λ h. record {
+      stack-low = k .low;
+      stack-high = k .high;
+      some = leb→le 1 (count t) h;
+      few = k .few;
+      all = k .all;
+      frames = λ f j. k .closed f j .0 .frame;
+      nonempty = λ f j. k .closed f j .1;
+      small = λ f j. k .closed f j .0 .small;
+      offsets = λ f p j. k .closed f j .0 .offsets p;
+    }) (λ h. tt)
+end-keeps n (inside t x) k = tt
+
+onward-keeps : (r : Step) (go : Progress → Judged) → Goes Kept r → ((s : Progress) → Kept s → Tasked Shaped (go s))
+    → Tasked Shaped (onward r go)
+onward-keeps (stop r) go k h = tt
+onward-keeps (goes s) go k h = h s k
+
+lines-keep : (n : ℕ) (s : Progress) (ls : List Line) → Kept s → Tasked Shaped (readFrom n s ls)
+unfolding readFrom
+lines-keep n s [] k = end-keeps n s k
+lines-keep n s (l ∷ ls) k = onward-keeps (readLine n s l) (λ s′. readFrom (suc n) s′ ls) (line-goes n s l k) (λ s′ k′. lines-keep (suc n) s′ ls k′)
+
+-- a text that is read as a task gives one within the limits
+pub read-shaped : (text : List ℕ) (t : Task) → readText text ≡ task t → Shaped t
+read-shaped text t e = rw e at (lines-keep 1 start (linesOf text) tt)
