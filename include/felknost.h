@@ -1,0 +1,47 @@
+/*
+ * Felknost: the preemption sheet of a task on a core with a stack cache.
+ *
+ * felknost_check judges a task text, given as its bytes. It needs no working space from the caller, touches nothing but its own
+ * stack, and returns for every byte string. Link with libfelknost.a and nothing else.
+ */
+#ifndef FELKNOST_H
+#define FELKNOST_H
+
+#include <stddef.h>
+#include <stdint.h>
+
+#ifdef __cplusplus
+extern "C" {
+#endif
+
+/*
+ * The answer is CODE * 65536 + PLACE. It is 0 where the text is accepted. Else CODE says why it is refused and PLACE where, a line
+ * counted from 1, but for code 1, whose place is 0. Where several rows hold, the first in this order counts: 1; the first line with one of 2
+ * to 6, and on it the smallest code; the first line with one of 7 to 10, likewise; the first line with 11; with 12; with 13.
+ *
+ *   1  the text has more than 32,768 bytes
+ *   2  a line of no form that is allowed there, a missing line, or no line feed at its end
+ *   3  the cache size S is outside 1 to 64
+ *   4  a frame K is above S
+ *   5  an offset is not below its frame K
+ *   6  the first function past 64, or the first point past 256 in its function or past 1,024 in all
+ *   7  a call of a function that is not a later one, or does not exist
+ *   8  a call with no ensure directly after it, an ensure with no call directly before it, or one whose number is not K
+ *   9  a target that is no point of the function, or is an ensure
+ *  10  the last point of a function is no goto, either or return
+ *  11  a point that no walk from point 0 reaches
+ *  12  a function that is never called, function 0 excepted (the line that opens it)
+ *  13  a load that some walk from point 0 reaches with no store of its offset
+ *
+ * text may be NULL where length is 0.
+ */
+uint32_t felknost_check(const uint8_t *text, size_t length);
+
+#define FELKNOST_CODE(answer) ((uint32_t)(answer) >> 16)
+#define FELKNOST_PLACE(answer) ((uint32_t)(answer) & 0xffffu)
+
+#ifdef __cplusplus
+}
+#endif
+
+#endif

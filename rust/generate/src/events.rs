@@ -1,0 +1,129 @@
+//! Random event lists with the numbers that a run is lent.
+
+use crate::model::{Point, Task};
+use crate::rng::Rng;
+
+/// What a run is lent.
+#[derive(Clone, Debug)]
+pub struct Lent {
+    /// Pairs of kind and value.
+    pub events: Vec<u32>,
+    /// The answers before the run.
+    pub answers: Vec<u32>,
+    /// The cache before the run.
+    pub cache: Vec<u32>,
+    /// The memory before the run.
+    pub memory: Vec<u32>,
+}
+
+/// How often an event of each kind is chosen.
+struct Rates {
+    preempt_of_8: usize,
+    bad_kind: bool,
+    bad_value: bool,
+}
+
+/// Follows the steps, so that an either gets a value that it can take.
+struct Follower<'a> {
+    task: &'a Task,
+    frames: Vec<(usize, usize)>,
+}
+
+impl Follower<'_> {
+    fn point(&self) -> Option<Point> {
+        let &(func, index) = self.frames.last()?;
+        self.task.funcs[func].points.get(index).copied()
+    }
+
+    fn step(&mut self, value: u32) {
+        let point = self.point();
+        let Some((_, index)) = self.frames.last_mut() else {
+            return;
+        };
+        match point {
+            Some(Point::Goto(target)) => *index = target,
+            Some(Point::Either(first, second)) => {
+                *index = if value == 0 { first } else { second };
+            }
+            Some(Point::Return) => {
+                self.frames.pop();
+            }
+            Some(Point::Call(callee)) => {
+                *index += 1;
+                self.frames.push((callee, 0));
+            }
+            _ => *index += 1,
+        }
+    }
+}
+
+/// Events and lengths that fit a valid task, but for some bad events.
+pub fn lent(rng: &mut Rng, task: &Task) -> Lent {
+    let events = events(rng, task);
+    let spare = rng.below(4);
+    let answers = rng.numbers(events.len() / 2 + spare);
+    let cache = rng.numbers(task.stack);
+    let unused = rng.below(6);
+    let memory = rng.numbers(task.deepest() + unused);
+    Lent {
+        events,
+        answers,
+        cache,
+        memory,
+    }
+}
+
+/// Makes one length not fit.
+pub fn unfit(rng: &mut Rng, task: &Task, lent: &mut Lent) {
+    match rng.below(5) {
+        0 => lent.events.push(0),
+        1 if !lent.events.is_empty() => lent.answers.truncate(lent.events.len() / 2 - 1),
+        2 => lent.cache.push(0),
+        3 if task.deepest() > 0 => lent.memory.truncate(task.deepest() - 1),
+        _ => {
+            lent.cache.pop();
+        }
+    }
+}
+
+fn events(rng: &mut Rng, task: &Task) -> Vec<u32> {
+    let most = rng.pick(&[0, 5, 20, 20, 60, 60, 60, 150, 150, 400]);
+    let count = rng.between(0, most);
+    let rates = Rates {
+        preempt_of_8: rng.pick(&[0, 1, 1, 2, 4, 7]),
+        bad_kind: rng.chance(1, 8),
+        bad_value: rng.chance(1, 8),
+    };
+    let frames = vec![(0, 0)];
+    let mut follower = Follower { task, frames };
+    let mut events = Vec::with_capacity(2 * count);
+    let mut after_finish = rng.below(3);
+    for _ in 0..count {
+        if follower.frames.is_empty() {
+            if after_finish == 0 {
+                break;
+            }
+            after_finish -= 1;
+        }
+        events.extend(event(rng, &rates, &mut follower));
+    }
+    events
+}
+
+fn event(rng: &mut Rng, rates: &Rates, follower: &mut Follower) -> [u32; 2] {
+    if rates.bad_kind && rng.chance(1, 40) {
+        return [rng.pick(&[2, 3, 256, u32::MAX]), rng.number()];
+    }
+    if rng.chance(rates.preempt_of_8, 8) {
+        return [1, rng.number()];
+    }
+    let value = match follower.point() {
+        Some(Point::Either(_, _)) if rates.bad_value && rng.chance(1, 12) => {
+            rng.pick(&[2, 3, u32::MAX])
+        }
+        Some(Point::Either(_, _)) => rng.below(2) as u32,
+        _ => rng.number(),
+    };
+    follower.step(value);
+    [0, value]
+}

@@ -1,0 +1,128 @@
+//! Random task texts and runs. Each case is made from one seed and carries it, so that a case
+//! found by a test can be made again.
+
+#![forbid(unsafe_code)]
+#![warn(missing_docs)]
+
+mod damage;
+mod events;
+mod model;
+mod near;
+mod rng;
+mod valid;
+
+use std::fmt;
+
+pub use events::Lent;
+pub use rng::Rng;
+
+/// How a text was made.
+#[derive(Clone, Copy, Debug, PartialEq, Eq)]
+pub enum Kind {
+    /// It passes all checks.
+    Valid,
+    /// A valid task with one change of its structure.
+    Near,
+    /// The text of a valid task with damage of its bytes or lines.
+    Damaged,
+}
+
+/// A text and how it was made.
+#[derive(Clone, Debug)]
+pub struct Case {
+    /// The seed that makes this case.
+    pub seed: u64,
+    /// How the text was made.
+    pub kind: Kind,
+    /// The changes made to a valid task.
+    pub changes: Vec<&'static str>,
+    /// The text.
+    pub text: Vec<u8>,
+}
+
+impl fmt::Display for Case {
+    fn fmt(&self, out: &mut fmt::Formatter) -> fmt::Result {
+        write!(out, "{:?} seed {} {:?}", self.kind, self.seed, self.changes)
+    }
+}
+
+/// A valid task with what a run of it is lent.
+#[derive(Clone, Debug)]
+pub struct RunCase {
+    /// The seed that makes this case.
+    pub seed: u64,
+    /// The text.
+    pub text: Vec<u8>,
+    /// The events, answers, cache and memory.
+    pub lent: Lent,
+}
+
+impl fmt::Display for RunCase {
+    fn fmt(&self, out: &mut fmt::Formatter) -> fmt::Result {
+        let events = self.lent.events.len() / 2;
+        write!(out, "run seed {} with {events} events", self.seed)
+    }
+}
+
+/// A text that passes all checks.
+pub fn valid(seed: u64) -> Case {
+    Case {
+        seed,
+        kind: Kind::Valid,
+        changes: Vec::new(),
+        text: valid::task(&mut Rng::new(seed)).text(),
+    }
+}
+
+/// The text of a valid task with one change of its structure. It may still be valid.
+pub fn near(seed: u64) -> Case {
+    let mut rng = Rng::new(seed);
+    let mut task = valid::task(&mut rng);
+    let change = near::change(&mut rng, &mut task);
+    Case {
+        seed,
+        kind: Kind::Near,
+        changes: vec![change],
+        text: task.text(),
+    }
+}
+
+/// The text of a valid task with one to three pieces of damage. It may still be valid.
+pub fn damaged(seed: u64) -> Case {
+    let mut rng = Rng::new(seed);
+    let mut text = valid::task(&mut rng).text();
+    let count = rng.pick(&[1, 1, 1, 2, 3]);
+    let changes = (0..count)
+        .map(|_| damage::damage(&mut rng, &mut text))
+        .collect();
+    Case {
+        seed,
+        kind: Kind::Damaged,
+        changes,
+        text,
+    }
+}
+
+/// A valid task with lengths that fit and some bad events.
+pub fn run(seed: u64) -> RunCase {
+    let mut rng = Rng::new(seed);
+    let task = valid::task(&mut rng);
+    RunCase {
+        seed,
+        text: task.text(),
+        lent: events::lent(&mut rng, &task),
+    }
+}
+
+/// A valid task with one length that does not fit.
+pub fn unfit_run(seed: u64) -> RunCase {
+    let mut rng = Rng::new(seed);
+    let task = valid::task(&mut rng);
+    let mut lent = events::lent(&mut rng, &task);
+    events::unfit(&mut rng, &task, &mut lent);
+    RunCase {
+        seed,
+        text: task.text(),
+        lent,
+    }
+}

@@ -1,0 +1,190 @@
+//! The figures of an accepted task, all in blocks.
+
+use crate::text::{Func, Point, Task};
+use crate::walks;
+
+/// The figures of one function.
+#[derive(Clone, Copy, Debug, Default, PartialEq, Eq)]
+pub struct FuncFigures {
+    /// The smallest displacement of a run of the function.
+    pub shortest: u32,
+    /// The largest displacement of a run of the function.
+    pub longest: u32,
+    /// The largest occupancy at a call of the function.
+    pub entry: u32,
+    /// The bound on the blocks spilled when the function is entered.
+    pub spill: u32,
+    /// What the ensures of all callers may fill after a preemption.
+    pub chain: u32,
+}
+
+/// The figures of one point.
+#[derive(Clone, Copy, Debug, Default, PartialEq, Eq)]
+pub struct PointFigures {
+    /// The largest occupancy at the point.
+    pub high: u32,
+    /// The smallest live offset, or the frame.
+    pub dead: u32,
+    /// The end of the offsets used before the next ensure.
+    pub need: u32,
+    /// The bound on the blocks written at a preemption.
+    pub save: u32,
+    /// The bound on the blocks read back at a preemption.
+    pub reload: u32,
+    /// What the next ensure of the frame may fill after a preemption.
+    pub later: u32,
+    /// The chain of the function.
+    pub chain: u32,
+    /// The bound on all blocks moved because of a preemption.
+    pub cost: u32,
+    /// The bound on the blocks filled by an ensure; 0 at other points.
+    pub fill: u32,
+}
+
+/// The figures of a task, in the order of its functions and of its points.
+#[derive(Clone, Debug)]
+pub struct Figures {
+    /// One entry per function.
+    pub funcs: Vec<FuncFigures>,
+    /// One entry per point of the task.
+    pub points: Vec<PointFigures>,
+}
+
+/// Works out all figures. The task must have passed the checks.
+pub fn figures(task: &Task) -> Figures {
+    let mut figures = Figures {
+        funcs: vec![FuncFigures::default(); task.funcs.len()],
+        points: vec![PointFigures::default(); task.points.len()],
+    };
+    // Calls go to later functions: callees first for displacement, callers first for occupancy.
+    for number in (0..task.funcs.len()).rev() {
+        displacement(task, number, &mut figures.funcs);
+    }
+    for number in 0..task.funcs.len() {
+        fills(task, number, &mut figures);
+        occupancy(task, number, &mut figures);
+        chains(task, number, &mut figures);
+        liveness(task, number, &mut figures);
+        costs(task, number, &mut figures);
+    }
+    figures
+}
+
+fn callees<'a>(points: &'a [Point]) -> impl Iterator<Item = usize> + 'a {
+    points.iter().filter_map(|point| match point {
+        Point::Call(callee) => Some(*callee as usize),
+        _ => None,
+    })
+}
+
+fn displacement(task: &Task, number: usize, funcs: &mut [FuncFigures]) {
+    let func = &task.funcs[number];
+    let points = task.points_of(func);
+    let longest = callees(points).map(|callee| funcs[callee].longest).max();
+    let shortest = callees(points).map(|callee| funcs[callee].shortest).min();
+    funcs[number].longest = func.frame + longest.unwrap_or(0);
+    funcs[number].shortest = match shortest {
+        Some(below) if !walks::returns_without_call(points) => func.frame + below,
+        _ => func.frame,
+    };
+}
+
+/// Sets the fill of each ensure of a function.
+fn fills(task: &Task, number: usize, figures: &mut Figures) {
+    let Func {
+        frame,
+        first,
+        count,
+        ..
+    } = task.funcs[number];
+    for index in first + 1..first + count {
+        if let Point::Call(callee) = task.points[index - 1] {
+            let left = task
+                .stack
+                .saturating_sub(figures.funcs[callee as usize].longest);
+            figures.points[index].fill = frame.saturating_sub(left);
+        }
+    }
+}
+
+/// Sets spill and high of a function, and raises the entry occupancy of its callees.
+fn occupancy(task: &Task, number: usize, figures: &mut Figures) {
+    let func = &task.funcs[number];
+    let points = task.points_of(func);
+    let wanted = figures.funcs[number].entry + func.frame;
+    figures.funcs[number].spill = wanted.saturating_sub(task.stack);
+    let highs = walks::largest_forward(points, wanted.min(task.stack), |index, high| match points
+        [index]
+    {
+        Point::Call(callee) => {
+            let shortest = figures.funcs[callee as usize].shortest;
+            high.min(task.stack.saturating_sub(shortest))
+        }
+        Point::Ensure(_) => high.max(func.frame),
+        _ => high,
+    });
+    for (index, high) in highs.into_iter().enumerate() {
+        let high = high.expect("every point of an accepted task is reachable");
+        figures.points[func.first + index].high = high;
+        if let Point::Call(callee) = points[index] {
+            let entry = &mut figures.funcs[callee as usize].entry;
+            *entry = high.max(*entry);
+        }
+    }
+}
+
+/// Raises the chain of the callees of a function.
+fn chains(task: &Task, number: usize, figures: &mut Figures) {
+    let func = &task.funcs[number];
+    let chain = figures.funcs[number].chain;
+    for (index, &point) in task.points_of(func).iter().enumerate() {
+        if let Point::Call(callee) = point {
+            let fill = figures.points[func.first + index + 1].fill;
+            let below = &mut figures.funcs[callee as usize].chain;
+            *below = (chain + func.frame - fill).max(*below);
+        }
+    }
+}
+
+/// Sets dead, need and later of a function.
+fn liveness(task: &Task, number: usize, figures: &mut Figures) {
+    let func = &task.funcs[number];
+    let points = task.points_of(func);
+    let own = &mut figures.points[func.first..func.first + func.count];
+    let live = walks::join_backward(
+        points,
+        |a: u64, b| a | b,
+        |index, after| match points[index] {
+            Point::Load(offset) => after | 1 << offset,
+            Point::Store(offset) => after & !(1 << offset),
+            _ => after,
+        },
+    );
+    let need = walks::join_backward(points, u32::max, |index, after| match points[index] {
+        Point::Load(offset) | Point::Store(offset) => after.max(u32::from(offset) + 1),
+        Point::Ensure(_) => 0,
+        _ => after,
+    });
+    let kept = walks::join_backward(points, u32::max, |index, after| match points[index] {
+        Point::Ensure(_) => func.frame - own[index].fill,
+        _ => after,
+    });
+    for (index, figure) in own.iter_mut().enumerate() {
+        // The frame is the answer when no offset is live: all live ones are below it.
+        figure.dead = live[index].trailing_zeros().min(func.frame);
+        figure.need = need[index];
+        figure.later = kept[index].saturating_sub(need[index]);
+    }
+}
+
+/// Sets the figures that follow from the others.
+fn costs(task: &Task, number: usize, figures: &mut Figures) {
+    let func = &task.funcs[number];
+    let chain = figures.funcs[number].chain;
+    for figure in &mut figures.points[func.first..func.first + func.count] {
+        figure.save = figure.high.saturating_sub(figure.dead);
+        figure.reload = figure.need.saturating_sub(figure.dead);
+        figure.chain = chain;
+        figure.cost = figure.save + figure.reload + figure.later + chain;
+    }
+}

@@ -1,0 +1,47 @@
+//! A second implementation of the preemption sheet: check, report and run over one task text.
+//!
+//! It is written for comparison with another implementation and depends on nothing else.
+
+#![forbid(unsafe_code)]
+#![warn(missing_docs)]
+
+pub mod figures;
+pub mod links;
+pub mod machine;
+pub mod plain;
+pub mod refusal;
+pub mod run;
+pub mod sheet;
+pub mod text;
+pub mod walks;
+
+pub use refusal::{Refusal, Verdict};
+pub use run::{run, RunResult};
+pub use sheet::report;
+
+use text::{Task, TEXT_MAX};
+
+/// The working numbers that each service is lent at least.
+pub const WORK_MIN: usize = 16_384;
+
+/// Checks a text: acceptance, or the first refusal in the order of the rules.
+pub fn check(text: &[u8], work_len: usize) -> Verdict {
+    match admit(text, work_len) {
+        Ok(_) => Verdict::ACCEPTED,
+        Err(refused) => refused,
+    }
+}
+
+/// Reads a text that passes the rows 15 and 1 to 13.
+pub fn admit(text: &[u8], work_len: usize) -> Result<Task, Verdict> {
+    if work_len < WORK_MIN {
+        return Err(Refusal::WorkTooShort.at(WORK_MIN as u32));
+    }
+    if text.len() > TEXT_MAX {
+        return Err(Refusal::TextTooLong.at(0));
+    }
+    let task = text::read(text)?;
+    links::check(&task)?;
+    walks::check(&task)?;
+    Ok(task)
+}

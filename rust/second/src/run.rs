@@ -1,0 +1,199 @@
+//! The run of an event list on the machine.
+
+use crate::figures::{figures, Figures};
+use crate::machine::Machine;
+use crate::refusal::{Refusal, Verdict};
+use crate::text::{Point, Task};
+
+/// The most numbers of an event list.
+pub const EVENTS_MAX: usize = 131_072;
+
+/// The result of a run.
+#[derive(Clone, Copy, Debug, Default, PartialEq, Eq)]
+pub struct RunResult {
+    /// The code of the row met, or 0.
+    pub code: u32,
+    /// The place of the refusal, or 0.
+    pub place: u32,
+    /// The events done.
+    pub done: u32,
+    /// The blocks moved by the events done.
+    pub moved: u64,
+    /// The sum of the bounds of the sheet for the events done.
+    pub allowed: u64,
+}
+
+/// Runs a task on lent cache and memory. An event is a pair of kind and value.
+pub fn run(
+    text: &[u8],
+    work_len: usize,
+    events: &[u32],
+    answers: &mut [u32],
+    cache: &mut [u32],
+    memory: &mut [u32],
+) -> RunResult {
+    let admitted = crate::admit(text, work_len).and_then(|task| {
+        let figures = figures(&task);
+        lengths(&task, &figures, events, answers, cache, memory)?;
+        Ok((task, figures))
+    });
+    match admitted {
+        Ok((task, figures)) => Run::new(&task, &figures, cache, memory).all(events, answers),
+        Err(Verdict { code, place }) => RunResult {
+            code,
+            place,
+            ..RunResult::default()
+        },
+    }
+}
+
+/// Refuses by the rows 16 to 19.
+fn lengths(
+    task: &Task,
+    figures: &Figures,
+    events: &[u32],
+    answers: &[u32],
+    cache: &[u32],
+    memory: &[u32],
+) -> Result<(), Verdict> {
+    let longest = figures.funcs[0].longest;
+    if events.len() % 2 == 1 || events.len() > EVENTS_MAX {
+        Err(Refusal::EventList.at(0))
+    } else if answers.len() < events.len() / 2 {
+        Err(Refusal::AnswersTooShort.at(events.len() as u32 / 2))
+    } else if cache.len() != task.stack as usize {
+        Err(Refusal::CacheLength.at(task.stack))
+    } else if memory.len() < longest as usize {
+        Err(Refusal::MemoryTooShort.at(longest))
+    } else {
+        Ok(())
+    }
+}
+
+/// A function that has not returned, and its next point.
+#[derive(Clone, Copy)]
+struct Frame {
+    func: usize,
+    point: usize,
+}
+
+/// The state of a run between two events.
+struct Run<'a> {
+    task: &'a Task,
+    figures: &'a Figures,
+    machine: Machine<'a>,
+    frames: Vec<Frame>,
+    moved: u64,
+    allowed: u64,
+}
+
+impl<'a> Run<'a> {
+    fn new(
+        task: &'a Task,
+        figures: &'a Figures,
+        cache: &'a mut [u32],
+        memory: &'a mut [u32],
+    ) -> Self {
+        let mut machine = Machine::new(cache, memory);
+        // A frame fits the empty cache, so nothing is spilled here.
+        machine.enter(task.funcs[0].frame as usize);
+        Run {
+            task,
+            figures,
+            machine,
+            frames: vec![Frame { func: 0, point: 0 }],
+            moved: 0,
+            allowed: 0,
+        }
+    }
+
+    fn all(mut self, events: &[u32], answers: &mut [u32]) -> RunResult {
+        let mut verdict = Verdict::ACCEPTED;
+        let mut done = 0;
+        for (pair, answer) in events.chunks_exact(2).zip(answers) {
+            match self.event(pair[0], pair[1]) {
+                Ok(number) => *answer = number,
+                Err(row) => {
+                    verdict = row.at(done);
+                    break;
+                }
+            }
+            done += 1;
+        }
+        RunResult {
+            code: verdict.code,
+            place: verdict.place,
+            done,
+            moved: self.moved,
+            allowed: self.allowed,
+        }
+    }
+
+    /// Does one event and gives its answer.
+    fn event(&mut self, kind: u32, value: u32) -> Result<u32, Refusal> {
+        let Some(&frame) = self.frames.last() else {
+            return Err(Refusal::AfterFinish);
+        };
+        let index = self.task.funcs[frame.func].first + frame.point;
+        match kind {
+            0 => self.step(frame, index, value),
+            1 => {
+                self.preempt(index, value);
+                Ok(0)
+            }
+            _ => Err(Refusal::EventKind),
+        }
+    }
+
+    fn preempt(&mut self, index: usize, left: u32) {
+        let point = &self.figures.points[index];
+        self.allowed += u64::from(point.cost);
+        self.moved += self
+            .machine
+            .preempt(point.dead as usize, point.need as usize, left);
+    }
+
+    fn step(&mut self, frame: Frame, index: usize, value: u32) -> Result<u32, Refusal> {
+        let own = self.task.funcs[frame.func].frame as usize;
+        let mut next = frame.point + 1;
+        let mut answer = 0;
+        match self.task.points[index] {
+            Point::Load(offset) => answer = self.machine.load(offset as usize),
+            Point::Store(offset) => self.machine.store(offset as usize, value),
+            Point::Ensure(_) => {
+                self.allowed += u64::from(self.figures.points[index].fill);
+                self.moved += self.machine.ensure(own);
+            }
+            Point::Goto(target) => next = target as usize,
+            Point::Either(first, second) => match value {
+                0 => next = first as usize,
+                1 => next = second as usize,
+                _ => return Err(Refusal::EitherValue),
+            },
+            Point::Call(callee) => {
+                self.go(next);
+                self.call(callee as usize);
+                return Ok(0);
+            }
+            Point::Return => {
+                self.machine.leave(own);
+                self.frames.pop();
+                return Ok(0);
+            }
+        }
+        self.go(next);
+        Ok(answer)
+    }
+
+    fn go(&mut self, point: usize) {
+        if let Some(frame) = self.frames.last_mut() {
+            frame.point = point;
+        }
+    }
+
+    fn call(&mut self, func: usize) {
+        self.allowed += u64::from(self.figures.funcs[func].spill);
+        self.moved += self.machine.enter(self.task.funcs[func].frame as usize);
+        self.frames.push(Frame { func, point: 0 });
+    }
+}

@@ -1,0 +1,206 @@
+//! The examples that settle the rules, and one task for each known wrong turn.
+
+mod common;
+
+use common::{run_on, steps, text, verdict, TWO};
+use second::figures::{figures, PointFigures};
+use second::{admit, check, machine, plain, report, RunResult, Verdict, WORK_MIN};
+
+const TWO_REPORT: &str = "(report
+  (func 0 2 6 6 0 0)
+  (at 0 2 2 2 0 0 0 0 0 0)
+  (at 1 2 1 0 1 0 1 0 2 0)
+  (at 2 1 1 0 0 0 1 0 1 1)
+  (at 3 2 1 2 1 1 0 0 2 0)
+  (at 4 2 2 0 0 0 0 0 0 0)
+  (func 1 4 4 4 1 1)
+  (at 0 5 4 1 1 0 0 1 2 0)
+  (at 1 5 0 1 5 1 0 1 7 0)
+  (at 2 5 4 0 1 0 0 1 2 0)
+)
+";
+
+fn point_figures(text: &str) -> Vec<PointFigures> {
+    let task = admit(text.as_bytes(), WORK_MIN).expect("an accepted text");
+    figures(&task).points
+}
+
+/// Runs a text and requires that the plain stack gives the same.
+fn run_like_plain(text: &str, cache: usize, memory: usize, events: &[u32]) -> RunResult {
+    let held = run_on(text, cache, memory, events);
+    let plain = plain::run(text.as_bytes(), events).expect("an accepted text");
+    let result = held.result;
+    let shared = (result.code, result.place, result.done);
+    assert_eq!(shared, (plain.code, plain.place, plain.done));
+    assert_eq!(held.answers[..plain.answers.len()], plain.answers);
+    assert!(result.moved <= result.allowed);
+    result
+}
+
+#[test]
+fn reserve() {
+    assert_eq!(machine::reserve(5, 1, 4), (0, 5));
+    assert_eq!(machine::reserve(5, 2, 4), (1, 5));
+}
+
+#[test]
+fn ensure() {
+    assert_eq!(machine::ensure(2, 2), (0, 2));
+    assert_eq!(machine::ensure(1, 2), (1, 2));
+}
+
+#[test]
+fn free() {
+    assert_eq!(machine::free(1, 4), 0);
+}
+
+#[test]
+fn report_of_two() {
+    let mut out = [7; 400];
+    let length = TWO_REPORT.len();
+    let result = report(TWO.as_bytes(), WORK_MIN, &mut out);
+    assert_eq!(result, (0, 0, length as u32));
+    assert_eq!(&out[..length], TWO_REPORT.as_bytes());
+    assert!(out[length..].iter().all(|&byte| byte == 7));
+}
+
+#[test]
+fn run_of_two_without_preemption() {
+    let result = run_like_plain(TWO, 5, 6, &steps(7, 3));
+    let wanted = RunResult {
+        done: 7,
+        moved: 2,
+        allowed: 2,
+        ..RunResult::default()
+    };
+    assert_eq!(result, wanted);
+}
+
+#[test]
+fn run_of_two_with_a_preemption() {
+    let events = [steps(3, 3), vec![1, 8], steps(4, 3)].concat();
+    let result = run_like_plain(TWO, 5, 6, &events);
+    let wanted = RunResult {
+        done: 8,
+        moved: 9,
+        allowed: 9,
+        ..RunResult::default()
+    };
+    assert_eq!(result, wanted);
+}
+
+#[test]
+fn run_without_events() {
+    let held = run_on(TWO, 5, 6, &[]);
+    assert_eq!(held.result, RunResult::default());
+    assert_eq!((held.cache, held.memory), (vec![9; 5], vec![9; 6]));
+}
+
+#[test]
+fn run_to_the_end() {
+    let events = [steps(2, 3), steps(6, 4)].concat();
+    let held = run_on(TWO, 5, 7, &events);
+    assert_eq!((held.result.code, held.result.done), (0, 8));
+    assert_eq!(held.answers, [0, 0, 0, 4, 0, 0, 3, 0]);
+    // Offset 1 of function 0 is address 6, in block 1: spilled by the call, filled by the ensure.
+    assert_eq!(held.memory, [9, 9, 9, 9, 9, 9, 3]);
+    assert_eq!(held.cache, [9, 3, 9, 9, 9]);
+}
+
+#[test]
+fn empty_text() {
+    assert_eq!(verdict(""), (2, 1));
+}
+
+#[test]
+fn stack_of_65() {
+    assert_eq!(verdict("(stack 65)\n"), (3, 1));
+    assert_eq!(verdict(text(65, &[(0, &["return"])])), (3, 1));
+}
+
+#[test]
+fn frame_at_the_stack() {
+    assert_eq!(verdict(text(5, &[(5, &["return"])])), (0, 0));
+    assert_eq!(verdict(text(5, &[(6, &["return"])])), (4, 2));
+}
+
+#[test]
+fn load_without_frame() {
+    assert_eq!(verdict(text(5, &[(0, &["load 0", "return"])])), (5, 3));
+}
+
+#[test]
+fn code_and_place_as_one_number() {
+    assert_eq!(check(b"", WORK_MIN).packed(), 2 * 65_536 + 1);
+    assert_eq!(Verdict::ACCEPTED.packed(), 0);
+    assert_eq!(check(b"", 0).packed(), 15 * 65_536 + 16_384);
+}
+
+/// A preemption two calls deep makes the ensures of both callers fill.
+#[test]
+fn ensures_of_all_callers_pay() {
+    let caller = |call| {
+        [
+            "store 0", "store 1", call, "ensure 2", "load 0", "load 1", "return",
+        ]
+    };
+    let text = text(
+        6,
+        &[
+            (2, &caller("call 1")),
+            (2, &caller("call 2")),
+            (2, &["store 0", "load 0", "return"]),
+        ],
+    );
+    let at = point_figures(&text)[14];
+    assert_eq!((at.save, at.reload, at.later, at.chain), (4, 0, 0, 4));
+    let events = [steps(6, 3), vec![1, 8], steps(11, 3)].concat();
+    let result = run_like_plain(&text, 6, 6, &events);
+    assert_eq!((result.moved, result.allowed), (8, 8));
+}
+
+/// After the first ensure the frame is cached again, so a second one has nothing to fill.
+#[test]
+fn only_the_first_ensure_pays() {
+    let caller = [
+        "store 0", "store 1", "call 1", "ensure 2", "call 1", "ensure 2", "load 1", "return",
+    ];
+    let text = text(4, &[(2, &caller), (1, &["return"])]);
+    let at = point_figures(&text)[2];
+    assert_eq!((at.save, at.reload, at.later), (1, 0, 2));
+    let events = [steps(2, 3), vec![1, 8], steps(7, 3)].concat();
+    let result = run_like_plain(&text, 4, 3, &events);
+    assert_eq!((result.moved, result.allowed), (2, 3));
+}
+
+/// The store after the preemption lies above the live offset and must stay counted as cached.
+#[test]
+fn occupancy_covers_a_coming_store() {
+    let caller = [
+        "store 0", "store 1", "load 0", "call 1", "ensure 2", "load 1", "return",
+    ];
+    let text = text(2, &[(2, &caller), (2, &["store 0", "store 1", "return"])]);
+    let at = point_figures(&text)[1];
+    assert_eq!((at.dead, at.need), (0, 2));
+    let events = [steps(1, 3), vec![1, 8], steps(9, 4)].concat();
+    let result = run_like_plain(&text, 2, 4, &events);
+    assert_eq!((result.code, result.done), (0, 11));
+}
+
+/// One branch stores the offset, the other loads it: it is live before the branch.
+#[test]
+fn a_store_in_one_branch_leaves_the_offset_live() {
+    let points = [
+        "store 0",
+        "either 2 4",
+        "store 0",
+        "goto 4",
+        "load 0",
+        "return",
+    ];
+    let text = text(3, &[(1, &points)]);
+    let dead: Vec<u32> = point_figures(&text).iter().map(|at| at.dead).collect();
+    assert_eq!(dead, [1, 0, 1, 0, 0, 1]);
+    let events = [0, 3, 1, 8, 0, 1, 0, 0];
+    run_like_plain(&text, 3, 1, &events);
+}

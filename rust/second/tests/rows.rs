@@ -1,0 +1,223 @@
+//! Check against a plain evaluation of each row by itself, on generated texts.
+
+use generate::Case;
+use second::{check, Verdict, WORK_MIN};
+
+const TEXTS: u64 = 10_000;
+
+/// A line taken apart: its word and its numbers.
+type Line = (&'static str, Vec<usize>);
+
+/// The forms of a line with `?` for each number.
+const FORMS: [(&str, &str); 10] = [
+    ("stack", "(stack ?)\n"),
+    ("func", "(func ?\n"),
+    ("end", ")\n"),
+    ("load", "  (load ?)\n"),
+    ("store", "  (store ?)\n"),
+    ("call", "  (call ?)\n"),
+    ("ensure", "  (ensure ?)\n"),
+    ("goto", "  (goto ?)\n"),
+    ("either", "  (either ? ?)\n"),
+    ("return", "  (return)\n"),
+];
+
+/// A line has a form if the form, printed with the numbers of the line, gives the line.
+fn take_apart(line: &[u8]) -> Option<Line> {
+    let text = std::str::from_utf8(line).ok()?;
+    let numbers: Vec<usize> = text
+        .split(|letter: char| !letter.is_ascii_digit())
+        .filter(|digits| !digits.is_empty())
+        .map(|digits| digits.parse().unwrap_or(usize::MAX))
+        .collect();
+    // A question mark in the text would pass for a number of a form.
+    if text.contains('?') || numbers.iter().any(|&number| number > 9_999) {
+        return None;
+    }
+    let fits = |form: &&(&str, &str)| {
+        let printed = numbers.iter().fold(form.1.to_string(), |form, number| {
+            form.replacen('?', &number.to_string(), 1)
+        });
+        printed == text
+    };
+    FORMS.iter().find(fits).map(|form| (form.0, numbers))
+}
+
+/// A function with the lines of its points.
+struct Func {
+    line: u32,
+    frame: usize,
+    points: Vec<Line>,
+}
+
+/// The words that may follow a line with `word` as its word.
+fn follows(before: &str, word: &str) -> bool {
+    match before {
+        "" => word == "stack",
+        "stack" | "end" => word == "func",
+        "func" => !["stack", "func", "end"].contains(&word),
+        _ => !["stack", "func"].contains(&word),
+    }
+}
+
+/// The rows 2 to 6: the functions, or the smallest row of the first line that meets one.
+fn read(text: &[u8]) -> Result<Vec<Func>, Verdict> {
+    let (mut stack, mut total, mut before) = (0, 0, "");
+    let mut funcs: Vec<Func> = Vec::new();
+    let mut line = 0;
+    for bytes in text.split_inclusive(|&byte| byte == b'\n') {
+        line += 1;
+        let refuse = |code| Err(Verdict { code, place: line });
+        let Some((word, numbers)) = take_apart(bytes) else {
+            return refuse(2);
+        };
+        if !follows(before, word) {
+            return refuse(2);
+        }
+        before = word;
+        let frame = funcs.last().map_or(0, |func| func.frame);
+        match word {
+            "stack" if !(1..=64).contains(&numbers[0]) => return refuse(3),
+            "stack" => stack = numbers[0],
+            "func" if numbers[0] > stack => return refuse(4),
+            "func" if funcs.len() == 64 => return refuse(6),
+            "func" => funcs.push(Func {
+                line,
+                frame: numbers[0],
+                points: Vec::new(),
+            }),
+            "load" | "store" if numbers[0] >= frame => return refuse(5),
+            "end" => {}
+            _ => {
+                total += 1;
+                let points = &mut funcs.last_mut().expect("a function is open").points;
+                if total > 1_024 || points.len() == 256 {
+                    return refuse(6);
+                }
+                points.push((word, numbers));
+            }
+        }
+    }
+    match before {
+        "end" => Ok(funcs),
+        _ => Err(Verdict {
+            code: 2,
+            place: line + 1,
+        }),
+    }
+}
+
+/// Whether point `index` of function `number` meets one of the rows 7 to 10.
+fn meets(funcs: &[Func], number: usize, index: usize, code: u32) -> bool {
+    let Func { frame, points, .. } = &funcs[number];
+    let (word, numbers) = &points[index];
+    let word_at = |at: usize| points.get(at).map_or("", |point| point.0);
+    match (code, *word) {
+        (7, "call") => numbers[0] <= number || numbers[0] >= funcs.len(),
+        (8, "call") => word_at(index + 1) != "ensure",
+        (8, "ensure") => index == 0 || word_at(index - 1) != "call" || numbers[0] != *frame,
+        (9, "goto" | "either") => numbers
+            .iter()
+            .any(|&target| ["", "ensure"].contains(&word_at(target))),
+        (10, _) => index + 1 == points.len() && !["goto", "either", "return"].contains(word),
+        _ => false,
+    }
+}
+
+/// The points of walks from 0 that do not go on after a point where `stop` holds.
+fn reached(points: &[Line], stop: impl Fn(&Line) -> bool) -> Vec<bool> {
+    let mut seen = vec![false; points.len()];
+    let mut pending = vec![0];
+    while let Some(index) = pending.pop() {
+        if seen[index] {
+            continue;
+        }
+        seen[index] = true;
+        if stop(&points[index]) {
+            continue;
+        }
+        match points[index].0 {
+            "goto" | "either" => pending.extend(&points[index].1),
+            "return" => {}
+            _ => pending.push(index + 1),
+        }
+    }
+    seen
+}
+
+/// The first point of a function that meets row 11.
+fn unreached(func: &Func) -> Option<usize> {
+    let seen = reached(&func.points, |_| false);
+    seen.iter().position(|&seen| !seen)
+}
+
+/// The first point of a function that meets row 13.
+fn unstored(func: &Func) -> Option<usize> {
+    func.points.iter().enumerate().position(|(index, point)| {
+        let store = ("store", point.1.clone());
+        point.0 == "load" && reached(&func.points, |point| *point == store)[index]
+    })
+}
+
+/// The refusal at the first point in text order that `row` gives for a function.
+fn first(
+    funcs: &[Func],
+    code: u32,
+    row: impl Fn(usize, &Func) -> Option<usize>,
+) -> Option<Verdict> {
+    funcs.iter().enumerate().find_map(|(number, func)| {
+        let index = row(number, func)?;
+        let place = func.line + 1 + index as u32;
+        Some(Verdict { code, place })
+    })
+}
+
+fn never_called(funcs: &[Func]) -> Option<Verdict> {
+    let number = (1..funcs.len()).find(|&callee| {
+        let call = ("call", vec![callee]);
+        !funcs.iter().any(|func| func.points.contains(&call))
+    })?;
+    let place = funcs[number].line;
+    Some(Verdict { code: 12, place })
+}
+
+fn by_rows(text: &[u8]) -> Verdict {
+    let funcs = match read(text) {
+        Ok(funcs) => funcs,
+        Err(verdict) => return verdict,
+    };
+    let links = (7..=10).filter_map(|code| {
+        first(&funcs, code, |number, func| {
+            (0..func.points.len()).find(|&index| meets(&funcs, number, index, code))
+        })
+    });
+    links
+        .min_by_key(|verdict| (verdict.place, verdict.code))
+        .or_else(|| first(&funcs, 11, |_, func| unreached(func)))
+        .or_else(|| never_called(&funcs))
+        .or_else(|| first(&funcs, 13, |_, func| unstored(func)))
+        .unwrap_or(Verdict::ACCEPTED)
+}
+
+fn compare(make: fn(u64) -> Case, first: u64, count: u64) {
+    for seed in first..first + count {
+        let case = make(seed);
+        let wanted = by_rows(&case.text);
+        assert_eq!(check(&case.text, WORK_MIN), wanted, "{case}");
+    }
+}
+
+#[test]
+fn damaged_texts() {
+    compare(generate::damaged, 1_000_000, TEXTS);
+}
+
+#[test]
+fn near_valid_texts() {
+    compare(generate::near, 2_000_000, TEXTS);
+}
+
+#[test]
+fn valid_texts() {
+    compare(generate::valid, 3_000_000, 2_000);
+}

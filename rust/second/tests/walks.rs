@@ -1,0 +1,207 @@
+//! The figures again, by searching the walks themselves, on generated tasks.
+
+use std::collections::HashSet;
+
+use second::figures::{figures, FuncFigures, PointFigures};
+use second::text::{Point, Task};
+use second::{admit, WORK_MIN};
+
+/// The points that a point leads to.
+fn leads(point: Point, index: usize) -> Vec<usize> {
+    match point {
+        Point::Goto(target) => vec![target.into()],
+        Point::Either(first, second) => vec![first.into(), second.into()],
+        Point::Return => vec![],
+        _ => vec![index + 1],
+    }
+}
+
+/// All points of walks from `start` that do not go on after a point where `stop` holds.
+fn search(points: &[Point], start: usize, stop: impl Fn(Point) -> bool) -> Vec<usize> {
+    let mut seen = vec![false; points.len()];
+    let mut found = Vec::new();
+    let mut pending = vec![start];
+    while let Some(index) = pending.pop() {
+        if !seen[index] {
+            seen[index] = true;
+            found.push(index);
+            if !stop(points[index]) {
+                pending.extend(leads(points[index], index));
+            }
+        }
+    }
+    found
+}
+
+/// What is known of a task while the figures are worked out.
+struct Search<'a> {
+    task: &'a Task,
+    funcs: Vec<FuncFigures>,
+    points: Vec<PointFigures>,
+}
+
+impl Search<'_> {
+    fn points(&self, number: usize) -> &[Point] {
+        self.task.points_of(&self.task.funcs[number])
+    }
+
+    fn depths(&mut self, number: usize) {
+        let frame = self.task.funcs[number].frame;
+        let mut callees = Vec::new();
+        for &point in self.points(number) {
+            if let Point::Call(callee) = point {
+                callees.push(self.funcs[callee as usize]);
+            }
+        }
+        let points = self.points(number);
+        let straight = search(points, 0, |point| matches!(point, Point::Call(_)))
+            .into_iter()
+            .any(|index| points[index] == Point::Return);
+        let longest = callees.iter().map(|callee| callee.longest).max();
+        let shortest = callees.iter().map(|callee| callee.shortest).min();
+        self.funcs[number].longest = frame + longest.unwrap_or(0);
+        self.funcs[number].shortest = match shortest {
+            Some(shortest) if !straight => frame + shortest,
+            _ => frame,
+        };
+    }
+
+    /// The occupancy after a point on a walk where it is `high` before it.
+    fn after(&self, frame: u32, point: Point, high: u32) -> u32 {
+        match point {
+            Point::Call(callee) => {
+                let shortest = self.funcs[callee as usize].shortest;
+                high.min(self.task.stack.saturating_sub(shortest))
+            }
+            Point::Ensure(_) => high.max(frame),
+            _ => high,
+        }
+    }
+
+    /// All pairs of point and occupancy that walks from point 0 have.
+    fn highs(&mut self, number: usize) {
+        let func = self.task.funcs[number];
+        let points = self.points(number).to_vec();
+        let wanted = self.funcs[number].entry + func.frame;
+        self.funcs[number].spill = wanted.saturating_sub(self.task.stack);
+        let mut seen = HashSet::new();
+        let mut pending = vec![(0, wanted.min(self.task.stack))];
+        while let Some((index, high)) = pending.pop() {
+            if seen.insert((index, high)) {
+                let after = self.after(func.frame, points[index], high);
+                pending.extend(
+                    leads(points[index], index)
+                        .iter()
+                        .map(|&next| (next, after)),
+                );
+            }
+        }
+        for (index, high) in seen {
+            let figure = &mut self.points[func.first + index];
+            figure.high = figure.high.max(high);
+            if let Point::Call(callee) = points[index] {
+                let callee = &mut self.funcs[callee as usize];
+                callee.entry = callee.entry.max(high);
+            }
+        }
+    }
+
+    /// The fill of each ensure, and from it the chain of the callee.
+    fn fills(&mut self, number: usize) {
+        let func = self.task.funcs[number];
+        for index in 0..func.count {
+            if let Point::Call(callee) = self.points(number)[index] {
+                let longest = self.funcs[callee as usize].longest;
+                let left = self.task.stack.saturating_sub(longest);
+                let fill = func.frame.saturating_sub(left);
+                self.points[func.first + index + 1].fill = fill;
+                let chain = self.funcs[number].chain + func.frame - fill;
+                let callee = &mut self.funcs[callee as usize];
+                callee.chain = callee.chain.max(chain);
+            }
+        }
+    }
+
+    fn dead(&self, number: usize, start: usize) -> u32 {
+        let points = self.points(number);
+        let frame = self.task.funcs[number].frame;
+        let live = |offset: &u32| {
+            let store = Point::Store(*offset as u16);
+            search(points, start, |point| point == store)
+                .into_iter()
+                .any(|index| points[index] == Point::Load(*offset as u16))
+        };
+        (0..frame).find(live).unwrap_or(frame)
+    }
+
+    /// Need and later: what the walks from a point meet up to their first ensure.
+    fn need_and_later(&self, number: usize, start: usize) -> (u32, u32) {
+        let func = &self.task.funcs[number];
+        let points = self.points(number);
+        let (mut need, mut kept) = (0, 0);
+        for index in search(points, start, |point| matches!(point, Point::Ensure(_))) {
+            match points[index] {
+                Point::Load(offset) | Point::Store(offset) => {
+                    need = need.max(u32::from(offset) + 1);
+                }
+                Point::Ensure(frame) => {
+                    kept = kept.max(u32::from(frame) - self.points[func.first + index].fill);
+                }
+                _ => {}
+            }
+        }
+        (need, kept.saturating_sub(need))
+    }
+
+    fn rest(&mut self, number: usize) {
+        let func = self.task.funcs[number];
+        for index in 0..func.count {
+            let dead = self.dead(number, index);
+            let (need, later) = self.need_and_later(number, index);
+            let chain = self.funcs[number].chain;
+            let figure = &mut self.points[func.first + index];
+            let save = figure.high.saturating_sub(dead);
+            let reload = need.saturating_sub(dead);
+            *figure = PointFigures {
+                dead,
+                need,
+                save,
+                reload,
+                later,
+                chain,
+                cost: save + reload + later + chain,
+                ..*figure
+            };
+        }
+    }
+}
+
+#[test]
+fn figures_equal_a_search_over_walks() {
+    let mut compared = 0;
+    for seed in 100_000..104_000 {
+        let case = generate::valid(seed);
+        let task = admit(&case.text, WORK_MIN).expect("a valid text");
+        if task.points.len() > 200 {
+            continue;
+        }
+        let mut search = Search {
+            task: &task,
+            funcs: vec![FuncFigures::default(); task.funcs.len()],
+            points: vec![PointFigures::default(); task.points.len()],
+        };
+        for number in (0..task.funcs.len()).rev() {
+            search.depths(number);
+        }
+        for number in 0..task.funcs.len() {
+            search.highs(number);
+            search.fills(number);
+            search.rest(number);
+        }
+        let got = figures(&task);
+        assert_eq!(got.funcs, search.funcs, "{case}");
+        assert_eq!(got.points, search.points, "{case}");
+        compared += 1;
+    }
+    assert!(compared > 2_000);
+}
