@@ -1,0 +1,24 @@
+-- `line::func_line` meets its contract.
+use mathlib.Core.Path.{sym, _∙_}
+use borrow.Author.Needs.{needs}
+use Rattle.line.proofs.Laws.{one-made, one-left}
+use Rattle.line.proofs.func_line.Statement.{statement}
+use Rattle.line.proofs.func_line.Tie as tie
+
+returns : tie.Need-returns
+returns c = one-left _ _ _ _ _ (sym (c .before .before .one .ensures) ∙ c .enum-told .given .1)
+
+returns-2 : tie.Need-returns-2
+returns-2 c = one-made _ _ _ _ _ _ (sym (c .before .before .before .one .ensures) ∙ c .before .n .given .1)
+
+pub func-line-spec : {M : Type 1} → statement M
+func-line-spec =
+    tie.close
+    (tie.spec
+    (λ c. search needs)
+    (λ c. search needs)
+    (λ c κs. search needs)
+    (λ c. search needs)
+    (λ c. search needs)
+    returns
+    returns-2)

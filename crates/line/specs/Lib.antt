@@ -1,0 +1,2 @@
+-- The forms of a line, one by one.
+pub mod Forms
