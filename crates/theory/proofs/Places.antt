@@ -6,7 +6,7 @@ use mathlib.Core.List.{List, [], _∷_, _++_, List·Memᴰ, List·Memᴰ·head, 
 use mathlib.Core.Option.{Option, none, some}
 use native.Mathlib.Omega.{arith}
 use lib.ListN.{length, take, length-append}
-use lib.Dec.{T, eqb, leb, ltb}
+use lib.Dec.{T, eqb, leb, ltb, nltb→le}
 use Rattle.model.specs.declared.Line.{Line}
 use Rattle.model.specs.declared.Line.the-variants as line
 use Rattle.model.specs.declared.Refusal.{Refusal}
@@ -16,9 +16,10 @@ use Rattle.model.specs.Text.{lineOf, linesFrom, linesOf}
 use Rattle.model.specs.Task.{Func, Task, Judged, refused, task, Progress, start, between, inside, Step, stop, goes, readLine, readEnd, readFrom, readText, onward, inAll, size, count, func, point, funcLine, pointLine, offsetFits}
 use Rattle.model.specs.Walk.{called, loaded}
 use Rattle.model.specs.Figures.{reached}
-use Rattle.model.specs.Refusal.{placeOf, calleeFits, paired, targetsFit, endFits, storedBefore, isCalled, linkRow, reachRow, loadRow, callRow, firstPoint, taskRows}
+use Rattle.model.specs.Services.{verdictOf}
+use Rattle.model.specs.Refusal.{placeOf, verdictPlace, judge, judgedTask, orTask, checkRows, calleeFits, paired, targetsFit, endFits, storedBefore, isCalled, linkRow, reachRow, loadRow, callRow, firstPoint, taskRows}
 use Rattle.theory.proofs.Lists.{by-test, mem-upTo, mem-countFrom}
-use Rattle.theory.proofs.Reading.{Shaped}
+use Rattle.theory.proofs.Reading.{Shaped, read-shaped}
 
 -- a text has at most as many lines as bytes
 lines-few : (l s : List ℕ) → length (linesFrom l s) ≤ length s + length l
@@ -216,3 +217,28 @@ rows-place {t} w =
     (or-some (λ r. placeOf r ≤ 1408) (firstPoint t (reachRow t)) _ (points-small w (reachRow t) (reach-place t))
     (or-some (λ r. placeOf r ≤ 1408) (firstOf (callRow t) (countFrom 1 (count t - 1))) _ (funcs-small w)
     (points-small w (loadRow t) (load-place t))))
+
+rows-fit : {t : Task} → Shaped t → (o : Option Refusal) → taskRows t ≡ o → verdictPlace (verdictOf (orTask (o orElse none) t)) ≤ 32769
+unfolding verdictOf
+rows-fit w none e = omega arith
+rows-fit w (some r) e = omega (arith, rows-place w r e)
+
+read-fits : (text : List ℕ) → length text ≤ 32768 → (j : Judged) → readText text ≡ j
+    → verdictPlace (verdictOf (judgedTask checkRows j)) ≤ 32769
+unfolding verdictOf
+read-fits text h (refused r) e = omega (arith, read-place text r e)
+read-fits text h (task t) e = rows-fit (read-shaped text t e) (taskRows t) refl
+
+-- the place of every verdict of check fits 16 bits
+pub check-place : (work : ℕ) (text : List ℕ) → verdictPlace (verdictOf (judge checkRows work text)) ≤ 32769
+unfolding judge verdictOf
+check-place work text =
+    by-test
+    (λ (j : Judged). verdictPlace (verdictOf j) ≤ 32769)
+    (ltb work 16384)
+    (λ h. omega arith)
+    (λ h. by-test
+    (λ (j : Judged). verdictPlace (verdictOf j) ≤ 32769)
+    (ltb 32768 (length text))
+    (λ k. omega arith)
+    (λ k. read-fits text (nltb→le 32768 (length text) k) (readText text) refl))

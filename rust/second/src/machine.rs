@@ -37,11 +37,6 @@ impl<'a> Machine<'a> {
         }
     }
 
-    /// Cached blocks of the stack.
-    pub fn occupancy(&self) -> usize {
-        self.occupancy
-    }
-
     fn block(&self, address: usize) -> usize {
         address % self.cache.len()
     }

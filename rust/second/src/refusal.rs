@@ -1,7 +1,7 @@
 //! The rows of the refusal table and the pair of code and place.
 
 /// A row of the refusal table; the value of a variant is its code.
-#[derive(Clone, Copy, Debug, PartialEq, Eq, PartialOrd, Ord)]
+#[derive(Clone, Copy, Debug, PartialEq, Eq)]
 #[repr(u32)]
 pub enum Refusal {
     /// The text has more bytes than allowed.

@@ -102,7 +102,7 @@ impl Reader<'_> {
         Err(row.at(self.line))
     }
 
-    /// Takes `word` off the front of the rest. Its length is known, so no loop is needed to compare.
+    /// Takes `word` off the front. Its length is known, so the comparison needs no loop.
     fn word<const N: usize>(&mut self, word: &[u8; N]) -> Option<()> {
         let (head, rest) = self.rest.split_first_chunk()?;
         if head != word {

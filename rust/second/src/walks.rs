@@ -42,11 +42,12 @@ fn each_lead(index: usize, point: Point, mut take: impl FnMut(usize)) {
 }
 
 /// The set of all offsets of a frame.
-pub fn all_offsets(frame: u32) -> u64 {
+fn all_offsets(frame: u32) -> u64 {
     u64::MAX.checked_shr(64 - frame).unwrap_or(0)
 }
 
-/// What the walks from point 0 of one function reach. The vectors are kept from function to function.
+/// What the walks from point 0 of one function reach. One survey serves all functions, so that
+/// its vectors are allocated once.
 #[derive(Default)]
 struct Survey {
     reached: PointSet,
@@ -69,7 +70,8 @@ impl Survey {
         self.reached.insert(point) || changed
     }
 
-    /// Sets only grow and a store acts on each offset alone, so the least solution is the union over all walks.
+    /// Surveys one function. Sets only grow and a store acts on its offset alone, so the sets
+    /// are the unions over all walks once nothing is pending.
     fn of(&mut self, points: &[Point], frame: u32) {
         self.reached = PointSet::default();
         self.unstored.clear();
@@ -141,7 +143,7 @@ pub fn check(task: &Task) -> Result<(), Verdict> {
     }
 }
 
-/// Whether some walk from point 0 to a return makes no call.
+/// Whether point 0 leads to a return without passing a call.
 pub fn returns_without_call(points: &[Point]) -> bool {
     let mut reached = PointSet::default();
     let mut pending = vec![0];
@@ -157,8 +159,8 @@ pub fn returns_without_call(points: &[Point]) -> bool {
     false
 }
 
-/// The largest value at each point over all walks from point 0, where it is `start`.
-/// `step` is monotone, so it maps the largest value before a point to the largest one after it.
+/// The largest value at each point over all walks from point 0, where it is `start`; `step` gives
+/// the value after a point. It is monotone, so the largest value before gives the largest after.
 pub fn largest_forward(
     points: &[Point],
     start: u32,
@@ -184,8 +186,8 @@ pub fn largest_forward(
     values
 }
 
-/// The join, at each point, over all walks from it. `step` gives the value at a point from the one after it.
-/// Rounds repeat from the least value until nothing changes, so each finite walk has been followed back.
+/// The join, at each point, over all walks from it; `step` gives the value at a point from the
+/// one after it. Rounds repeat until nothing changes, so every finite walk has been followed back.
 pub fn join_backward<T: Copy + Default + PartialEq>(
     points: &[Point],
     join: impl Fn(T, T) -> T,

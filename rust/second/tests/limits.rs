@@ -108,33 +108,29 @@ fn points_of_a_function() {
     assert_eq!(points(257), (6, 259));
 }
 
+/// A function of `count` points: a call with its ensure, stores, and a return.
+fn caller(call: &'static str, count: usize) -> Vec<&'static str> {
+    let mut points = vec![call, "ensure 1"];
+    points.resize(count - 1, "store 0");
+    points.push("return");
+    points
+}
+
 #[test]
 fn points_of_a_task() {
-    let task = |last: usize| {
-        let full = |call| {
-            let mut points = vec!["store 0"; 253];
-            points.extend([call, "ensure 1", "return"]);
-            points
-        };
-        let mut points = vec!["store 0"; last - 1];
-        points.push("return");
-        let one: [&str; 1] = ["return"];
+    let task = |last: &[&str]| {
         let funcs: [(usize, &[&str]); 5] = [
-            (1, &full("call 1")),
-            (1, &full("call 2")),
-            (1, &full("call 3")),
-            (1, &{
-                let mut points = points.clone();
-                points.splice(0..0, ["call 4", "ensure 1"]);
-                points
-            }),
-            (1, &one),
+            (1, &caller("call 1", 256)),
+            (1, &caller("call 2", 256)),
+            (1, &caller("call 3", 256)),
+            (1, &caller("call 4", 255)),
+            (1, last),
         ];
         verdict(text(1, &funcs))
     };
-    assert_eq!(task(253), (0, 0));
-    // One line, three functions of 258 lines, one of 258, and the second line of the last.
-    assert_eq!(task(254), (6, 1 + 3 * 258 + 258 + 2));
+    assert_eq!(task(&["return"]), (0, 0));
+    // The stack line, four functions with two more lines each, and the third line of the last.
+    assert_eq!(task(&["store 0", "return"]), (6, 1 + 3 * 258 + 257 + 3));
 }
 
 #[test]

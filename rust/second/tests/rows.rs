@@ -60,50 +60,61 @@ fn follows(before: &str, word: &str) -> bool {
     }
 }
 
-/// The rows 2 to 6: the functions, or the smallest row of the first line that meets one.
-fn read(text: &[u8]) -> Result<Vec<Func>, Verdict> {
-    let (mut stack, mut total, mut before) = (0, 0, "");
-    let mut funcs: Vec<Func> = Vec::new();
-    let mut line = 0;
-    for bytes in text.split_inclusive(|&byte| byte == b'\n') {
-        line += 1;
-        let refuse = |code| Err(Verdict { code, place: line });
-        let Some((word, numbers)) = take_apart(bytes) else {
-            return refuse(2);
-        };
-        if !follows(before, word) {
-            return refuse(2);
+/// What has been read up to some line.
+#[derive(Default)]
+struct Sofar {
+    stack: usize,
+    total: usize,
+    word: &'static str,
+    funcs: Vec<Func>,
+}
+
+impl Sofar {
+    /// Takes one line, or gives the smallest of the rows 2 to 6 that it meets.
+    fn take(&mut self, line: u32, bytes: &[u8]) -> Result<(), u32> {
+        let (word, numbers) = take_apart(bytes).ok_or(2u32)?;
+        if !follows(self.word, word) {
+            return Err(2);
         }
-        before = word;
-        let frame = funcs.last().map_or(0, |func| func.frame);
+        self.word = word;
+        let frame = self.funcs.last().map_or(0, |func| func.frame);
         match word {
-            "stack" if !(1..=64).contains(&numbers[0]) => return refuse(3),
-            "stack" => stack = numbers[0],
-            "func" if numbers[0] > stack => return refuse(4),
-            "func" if funcs.len() == 64 => return refuse(6),
-            "func" => funcs.push(Func {
+            "stack" if !(1..=64).contains(&numbers[0]) => return Err(3),
+            "stack" => self.stack = numbers[0],
+            "func" if numbers[0] > self.stack => return Err(4),
+            "func" if self.funcs.len() == 64 => return Err(6),
+            "func" => self.funcs.push(Func {
                 line,
                 frame: numbers[0],
                 points: Vec::new(),
             }),
-            "load" | "store" if numbers[0] >= frame => return refuse(5),
+            "load" | "store" if numbers[0] >= frame => return Err(5),
             "end" => {}
             _ => {
-                total += 1;
-                let points = &mut funcs.last_mut().expect("a function is open").points;
-                if total > 1_024 || points.len() == 256 {
-                    return refuse(6);
+                self.total += 1;
+                let points = &mut self.funcs.last_mut().expect("a function is open").points;
+                if self.total > 1_024 || points.len() == 256 {
+                    return Err(6);
                 }
                 points.push((word, numbers));
             }
         }
+        Ok(())
     }
-    match before {
-        "end" => Ok(funcs),
-        _ => Err(Verdict {
-            code: 2,
-            place: line + 1,
-        }),
+}
+
+/// The functions of a text, or its refusal by the rows 2 to 6.
+fn read(text: &[u8]) -> Result<Vec<Func>, Verdict> {
+    let mut sofar = Sofar::default();
+    let mut place = 1;
+    for bytes in text.split_inclusive(|&byte| byte == b'\n') {
+        let taken = sofar.take(place, bytes);
+        taken.map_err(|code| Verdict { code, place })?;
+        place += 1;
+    }
+    match sofar.word {
+        "end" => Ok(sofar.funcs),
+        _ => Err(Verdict { code: 2, place }),
     }
 }
 

@@ -1,0 +1,14 @@
+-- The shift loses nothing.
+use borrow.Author.Needs.{needs}
+use Rattle.bits.proofs.Laws.{bit-shifted}
+use Rattle.bits.proofs.single_bit.Statement.{statement}
+use Rattle.bits.proofs.single_bit.Tie as tie
+
+shl-result : tie.Need-shl-result
+shl-result c = search needs
+
+returns : tie.Need-returns
+returns c = bit-shifted (c .args .o) (c .pre)
+
+pub single-bit-spec : {M : Type 1} → statement M
+single-bit-spec = tie.close (tie.spec shl-result returns)

@@ -1,0 +1,18 @@
+-- A number as a set: its bits, counted from the lowest.
+use Prim.Native.Nat.{ℕ, zero, suc, _/_, _%_, _≤_, _<_}
+use mathlib.Core.Path.{_≡_}
+
+-- bit j of m, 0 or 1
+unfoldable pub bit : ℕ → ℕ → ℕ
+bit m zero = m % 2
+bit m (suc j) = bit (m / 2) j
+
+-- m has bit o alone
+pub record Single (o m : ℕ) : Type 0 where
+  pub there : bit m o ≡ 1
+  pub others : (j : ℕ) → (j ≡ o → ⊥) → bit m j ≡ 0
+
+-- m has the bits below k and no other
+pub record Low (k m : ℕ) : Type 0 where
+  pub below : (j : ℕ) → j < k → bit m j ≡ 1
+  pub above : (j : ℕ) → k ≤ j → bit m j ≡ 0

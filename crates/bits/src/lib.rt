@@ -1,0 +1,29 @@
+// Masks of 64 bits: one bit, the lowest bits, and the reading of a bit. The laws of bits are in proofs/Laws.antt.
+ghost use mathlib.Core.Path.{_≡_};
+ghost use Prim.Native.Nat.{_<_, _≤_};
+ghost use Rattle.bits.specs.Bits.{bit, Single, Low};
+
+pub fn single_bit(o: u32) -> u64
+    requires { ⌜ o < 64 ⌝ }
+    ensures { λ r. ⌜ Single o r ⌝ }
+{
+    1 << o
+}
+
+pub fn low_bits(k: u32) -> u64
+    requires { ⌜ k ≤ 64 ⌝ }
+    ensures { λ r. ⌜ Low k r ⌝ }
+{
+    if k == 64 {
+        18446744073709551615
+    } else {
+        (1 << k) - 1
+    }
+}
+
+pub fn bit_of(m: u64, o: u32) -> u64
+    requires { ⌜ o < 64 ⌝ }
+    ensures { λ r. ⌜ r ≡ bit m o ⌝ }
+{
+    (m >> o) & 1
+}

@@ -1,0 +1,158 @@
+-- Laws of the definitions: sums, cleared tables, sets as bits, and where the points of a function lead.
+use Prim.Native.Nat.{ℕ, zero, suc, _+_, _-_, _^_, _≤_, _<_, min, max}
+use native.Mathlib.Omega.{arith}
+use native.Mathlib.Decide.{ℕ-discrete}
+use mathlib.Core.Path.{_≡_, refl, ap, sym, _∙_}
+use mathlib.Core.List.{List, List·Memᴰ}
+use lib.ListN.{length, getD, set, drop, replicate, length-append, length-drop, length-replicate, List·getD-append, getD-replicate}
+use lib.Bits.{bitAnd, bitOr}
+use borrow.Author.Fill.{fill-none, fill-more}
+use Rattle.bits.specs.Bits.{bit}
+use Rattle.bits.proofs.Laws.{bit-or, bit-and, bit-not-word, or-ge}
+use Rattle.model.specs.declared.Point.{Point}
+use Rattle.model.specs.declared.Point.the-variants.{Return}
+use Rattle.model.specs.Task.{Func}
+use Rattle.model.specs.Walk.{leadsFrom, leads}
+use Rattle.tables.specs.Tables.{pointsOf}
+use Rattle.tables.proofs.Laws.{point-there}
+use Rattle.forward.specs.Forward.{item, function, Inside}
+use Rattle.forward.specs.Worklist.{nextAt, union, transfer, Progress, progress, listed, Raised, Propagated, targets, cleared, sum, waiting}
+use Rattle.forward.specs.declared.Next.{Next}
+use Rattle.forward.specs.declared.Next.the-variants.{Nowhere, To, Fork}
+
+-- tables are the same where their parts are
+pub progress-same : {s s′ t t′ l l′ : List ℕ} {c c′ : ℕ} → s ≡ s′ → t ≡ t′ → l ≡ l′ → c ≡ c′ → progress s t l c ≡ progress s′ t′ l′ c′
+progress-same a b d e = λ i. progress (a i) (b i) (d i) (e i)
+
+-- the ways in which the set m comes to q, where u is the union
+pub raised-found : (q m u : ℕ) (x y : Progress) → y ≡ listed q u x → u ≡ union (item (x .sets) q) m → u < 2 ^ 64 → item (x .state) q ≡ 0 → Raised q m x y
+raised-found q m u x y d e b s = rw (d, e) (Raised.found s (rw e at b))
+
+pub raised-again : (q m u : ℕ) (x y : Progress) → y ≡ listed q u x → u ≡ union (item (x .sets) q) m → u < 2 ^ 64 → (item (x .state) q ≡ 0 → ⊥) → (item (x .state) q ≡ 2 → ⊥) → (u ≡ item (x .sets) q → ⊥) → Raised q m x y
+raised-again q m u x y d e b s t g = rw (d, e) (Raised.again s t (rw e at g) (rw e at b))
+
+pub raised-grows : (q m u : ℕ) (x : Progress) → u ≡ union (item (x .sets) q) m → u < 2 ^ 64 → item (x .state) q ≡ 2 → Raised q m x (progress (set (x .sets) q u) (x .state) (x .todo) (x .count))
+raised-grows q m u x e b s = rw e (Raised.grows s (rw e at b))
+
+pub raised-rests : (q m u : ℕ) (x : Progress) → u ≡ union (item (x .sets) q) m → (item (x .state) q ≡ 0 → ⊥) → u ≡ item (x .sets) q → Raised q m x x
+raised-rests q m u x e s d = Raised.rests s (sym e ∙ d)
+
+-- the set m comes to the points that are next
+module _ (m : ℕ) (next : Next) where
+  pub propagated-none : (x : Progress) → next ≡ Nowhere → Propagated m (targets next) x x
+  propagated-none x e = rw e Propagated.none
+
+  pub propagated-one : (q : ℕ) (x y : Progress) → next ≡ To q → Raised q m x y → Propagated m (targets next) x y
+  propagated-one q x y e r = rw e (Propagated.more r Propagated.none)
+
+  pub propagated-two : (q p : ℕ) (x y z : Progress) → next ≡ Fork q p → Raised q m x y → Raised p m y z → Propagated m (targets next) x z
+  propagated-two q p x y z e r s = rw e (Propagated.more r (Propagated.more s Propagated.none))
+
+-- sums: of the same terms, of terms that differ at q alone, and of terms of which each is at most 1
+sum-same : (f g : ℕ → ℕ) (n : ℕ) → ((p : ℕ) → p < n → f p ≡ g p) → sum f n ≡ sum g n
+unfolding sum
+sum-same f g zero e = refl
+sum-same f g (suc n) e = omega (arith, sum-same f g n (λ p h. e p (omega arith)), e n (omega arith))
+
+pub sum-but : (f g : ℕ → ℕ) (q n : ℕ) → q < n → ((p : ℕ) → (p ≡ q → ⊥) → f p ≡ g p) → sum f n + g q ≡ sum g n + f q
+unfolding sum
+sum-but f g q zero h e = absurd (omega arith)
+sum-but f g q (suc n) h e =
+    elim (ℕ-discrete n q) [
+      | yes d ↦ omega (arith, ap f d, ap g d, sum-same f g n (λ p k. e p (omega arith)))
+      | no d ↦ omega (arith, sum-but f g q n (omega arith) e, e n d)
+    ]
+
+pub sum-at : (f : ℕ → ℕ) (p n : ℕ) → p < n → f p ≤ sum f n
+unfolding sum
+sum-at f p zero h = absurd (omega arith)
+sum-at f p (suc n) h =
+    elim (ℕ-discrete p n) [
+      | yes d ↦ omega (arith, ap f d)
+      | no d ↦ omega (arith, sum-at f p n (omega arith))
+    ]
+
+pub sum-le : (f : ℕ → ℕ) (n : ℕ) → ((p : ℕ) → f p ≤ 1) → sum f n ≤ n
+unfolding sum
+sum-le f zero h = omega arith
+sum-le f (suc n) h = omega (arith, sum-le f n h, h n)
+
+pub sum-short : (f : ℕ → ℕ) (q n : ℕ) → ((p : ℕ) → f p ≤ 1) → q < n → f q ≡ 0 → sum f n < n
+unfolding sum
+sum-short f q zero h k z = absurd (omega arith)
+sum-short f q (suc n) h k z =
+    elim (ℕ-discrete q n) [
+      | yes d ↦ omega (arith, ap f d, sum-le f n h)
+      | no d ↦ omega (arith, sum-short f q n h (omega arith) z, h n)
+    ]
+
+pub sum-zero : (f : ℕ → ℕ) (n : ℕ) → ((p : ℕ) → p < n → f p ≡ 0) → sum f n ≡ 0
+unfolding sum
+sum-zero f zero h = refl
+sum-zero f (suc n) h = omega (arith, sum-zero f n (λ p k. h p (omega arith)), h n (omega arith))
+
+-- the state 2 counts, and no other
+pub waiting-le : (s : ℕ) → waiting s ≤ 1
+unfolding waiting
+waiting-le zero = omega arith
+waiting-le (suc zero) = omega arith
+waiting-le (suc (suc zero)) = omega arith
+waiting-le (suc (suc (suc s))) = omega arith
+
+pub waiting-two : (s : ℕ) → s ≡ 2 → waiting s ≡ 1
+unfolding waiting
+waiting-two s e = rw e
+
+pub waiting-other : (s : ℕ) → (s ≡ 2 → ⊥) → waiting s ≡ 0
+unfolding waiting
+waiting-other zero h = refl
+waiting-other (suc zero) h = refl
+waiting-other (suc (suc zero)) h = absurd (h refl)
+waiting-other (suc (suc (suc s))) h = refl
+
+-- the sets as bits; a union is no smaller a number
+pub bit-union : (a b j : ℕ) → bit (union a b) j ≡ max (bit a j) (bit b j)
+unfolding union
+bit-union a b j = bit-or a b j
+
+pub union-ge : (a b : ℕ) → a ≤ union a b
+unfolding union
+union-ge a b = or-ge a b
+
+pub bit-transfer : (s kill gen j : ℕ) → kill < 2 ^ 64 → j < 64 → bit (transfer s kill gen) j ≡ max (min (bit s j) (1 - bit kill j)) (bit gen j)
+unfolding transfer
+bit-transfer s kill gen j h l =
+    bit-or (bitAnd s (18446744073709551615 - kill)) gen j
+    ∙ ap
+    (λ (x : ℕ). max x (bit gen j))
+    (bit-and s (18446744073709551615 - kill) j ∙ ap (λ (x : ℕ). min (bit s j) x) (bit-not-word kill j h l))
+
+-- a cleared table, entry by entry
+pub cleared-none : (l : List ℕ) → l ≡ cleared 0 l
+unfolding cleared
+cleared-none l = fill-none l 0
+
+pub cleared-more : (n : ℕ) (l : List ℕ) → n < length l → set (cleared n l) n 0 ≡ cleared (n + 1) l
+unfolding cleared
+cleared-more n l h = fill-more n 0 l h
+
+pub length-cleared : (n : ℕ) (l : List ℕ) → n ≤ length l → length (cleared n l) ≡ length l
+unfolding cleared
+length-cleared n l h = simp (length-append, length-replicate, length-drop) (omega arith)
+
+pub item-cleared : (n p : ℕ) (l : List ℕ) → p < n → item (cleared n l) p ≡ 0
+unfolding cleared
+item-cleared n p l h =
+    List·getD-append (replicate n 0) (drop n l) 0 p (rw (length-replicate {A = ℕ} n 0) h) ∙ getD-replicate n p 0 0 h
+
+-- where the points of a function lead
+pub leads-there : (w : List ℕ) (b n p : ℕ) → p < n → leads (function w b n) p ≡ nextAt w b p
+unfolding leads nextAt
+leads-there w b n p h = ap (λ (x : Point). leadsFrom p x) (point-there w b n p h)
+
+pub leads-same : (x y : Func) → x .points ≡ y .points → leads x ≡ leads y
+unfolding leads
+leads-same x y e = λ i p. leadsFrom p (getD (e i) p Return)
+
+pub inside-as : (w : List ℕ) (b n : ℕ) (x : Func) → x .points ≡ pointsOf w b n → Inside (leads x) n → Inside (leads (function w b n)) n
+inside-as w b n x e h = rw (leads-same (function w b n) x (sym e)) h

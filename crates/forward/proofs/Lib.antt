@@ -1,0 +1,3 @@
+pub mod Laws
+pub mod List
+pub mod Theory

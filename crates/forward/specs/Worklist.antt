@@ -1,0 +1,135 @@
+-- The worklist algorithm, step by step: what each function of the crate does to the sets, the states and the list.
+use Prim.Native.Nat.{ℕ, zero, suc, _+_, _-_, _^_, _≤_, _<_}
+use mathlib.Core.Path.{_≡_}
+use mathlib.Core.List.{List, [], _∷_, _++_, List·Memᴰ}
+use lib.ListN.{length, drop, set, replicate}
+use lib.Bits.{bitAnd, bitOr}
+use Rattle.model.specs.Walk.{leadsFrom}
+use Rattle.tables.specs.Tables.{pointAt}
+use Rattle.forward.specs.Forward.{item, Given}
+use Rattle.forward.specs.declared.Next.{Next}
+use Rattle.forward.specs.declared.Next.the-variants.{Nowhere, To, Fork}
+
+-- the points that are next
+abbrev pub targets : Next → List ℕ
+targets Nowhere = []
+targets (To q) = q ∷ []
+targets (Fork q r) = q ∷ r ∷ []
+
+-- where point p of the function at b leads
+unfoldable pub nextAt : List ℕ → ℕ → ℕ → List ℕ
+nextAt w b p = leadsFrom p (pointAt w (b + p))
+
+-- the bits of both sets; what leaves a point with this set
+unfoldable pub union : ℕ → ℕ → ℕ
+union a b = bitOr a b
+
+unfoldable pub transfer : ℕ → ℕ → ℕ → ℕ
+transfer s kill gen = bitOr (bitAnd s (18446744073709551615 - kill)) gen
+
+-- the tables: the set of each point, its state (0 unseen, 1 seen, 2 seen and in the list), and the list, of which the first count entries are
+-- in use
+pub record Progress : Type 0 where
+  pub sets : List ℕ
+  pub state : List ℕ
+  pub todo : List ℕ
+  pub count : ℕ
+
+abbrev pub progress : List ℕ → List ℕ → List ℕ → ℕ → Progress
+progress s t l c = record { sets = s; state = t; todo = l; count = c }
+
+-- the first n entries are 0
+unfoldable pub cleared : ℕ → List ℕ → List ℕ
+cleared n l = replicate n 0 ++ drop n l
+
+-- point q has the set m and is at the end of the list
+abbrev pub listed : ℕ → ℕ → Progress → Progress
+listed q m x =
+    progress
+    (set (x .sets) q m)
+    (set (x .state) q 2)
+    (set (x .todo) (x .count) q)
+    (x .count + 1)
+
+-- the last point of the list, and the tables without it in the list
+abbrev pub last : Progress → ℕ
+last x = item (x .todo) (x .count - 1)
+
+abbrev pub taken : Progress → Progress
+taken x = progress (x .sets) (set (x .state) (last x) 1) (x .todo) (x .count - 1)
+
+-- the set m has come to point q: it brings nothing new; q grows and is in the list; q is seen for the first time; q grows and goes into the
+-- list again
+pub data Raised (q m : ℕ) (x : Progress) : Progress → Type 0 where
+  rests : (item (x .state) q ≡ 0 → ⊥) → union (item (x .sets) q) m ≡ item (x .sets) q → Raised q m x x
+  grows : item (x .state) q ≡ 2
+      → union (item (x .sets) q) m < 2 ^ 64
+      → Raised q m x (progress (set (x .sets) q (union (item (x .sets) q) m)) (x .state) (x .todo) (x .count))
+  found : item (x .state) q ≡ 0
+      → union (item (x .sets) q) m < 2 ^ 64
+      → Raised q m x (listed q (union (item (x .sets) q) m) x)
+  again : (item (x .state) q ≡ 0 → ⊥)
+      → (item (x .state) q ≡ 2 → ⊥)
+      → (union (item (x .sets) q) m ≡ item (x .sets) q → ⊥)
+      → union (item (x .sets) q) m < 2 ^ 64
+      → Raised q m x (listed q (union (item (x .sets) q) m) x)
+
+-- the set m has come to each of these points
+pub data Propagated (m : ℕ) : List ℕ → Progress → Progress → Type 0 where
+  none : {x : Progress} → Propagated m [] x x
+  more : {q : ℕ} {l : List ℕ} {x y z : Progress} → Raised q m x y → Propagated m l y z → Propagated m (q ∷ l) x z
+
+-- the last point of the list has been visited
+abbrev pub Visited : (ℕ → List ℕ) → List ℕ → List ℕ → Progress → Progress → Type 0
+Visited next gen kill x y =
+    Propagated
+    (transfer (item (x .sets) (last x)) (item kill (last x)) (item gen (last x)))
+    (next (last x))
+    (taken x)
+    y
+
+-- visits, one after the other
+pub data Visits (next : ℕ → List ℕ) (gen kill : List ℕ) (x : Progress) : Progress → Type 0 where
+  none : Visits next gen kill x x
+  more : {y z : Progress} → Visits next gen kill x y → 0 < y .count → Visited next gen kill y z → Visits next gen kill x z
+
+-- the sum of f over the numbers below n; 1 for the state of a point in the list
+unfoldable pub sum : (ℕ → ℕ) → ℕ → ℕ
+sum f zero = 0
+sum f (suc n) = sum f n + f n
+
+unfoldable pub waiting : ℕ → ℕ
+waiting zero = 0
+waiting (suc zero) = 0
+waiting (suc (suc zero)) = 1
+waiting (suc (suc (suc s))) = 0
+
+-- the tables have room for n points, and the list holds each point with state 2, once
+pub record Listed (n : ℕ) (x : Progress) : Type 0 where
+  pub sets-long : n ≤ length (x .sets)
+  pub state-long : n ≤ length (x .state)
+  pub todo-long : n ≤ length (x .todo)
+  pub counted : x .count ≡ sum (λ p. waiting (item (x .state) p)) n
+  pub within : (i : ℕ) → i < x .count → item (x .todo) i < n
+  pub waits : (i : ℕ) → i < x .count → item (x .state) (item (x .todo) i) ≡ 2
+  pub apart : (i j : ℕ) → i < j → j < x .count → item (x .todo) i ≡ item (x .todo) j → ⊥
+
+-- what the coming of a set requires: of point q, and of each of the points l
+pub record Fits (q : ℕ) (x : Progress) : Type 0 where
+  pub in-sets : q < length (x .sets)
+  pub in-state : q < length (x .state)
+  pub small : q < 256
+  pub room : (item (x .state) q ≡ 2 → ⊥) → x .count < length (x .todo)
+
+pub record FitsAll (l : List ℕ) (x : Progress) : Type 0 where
+  pub n : ℕ
+  pub small : n ≤ 256
+  pub inside : (q : ℕ) → List·Memᴰ q l → q < n
+  pub list : Listed n x
+
+-- what a visit requires: a point is in the list
+pub record Ready (w : List ℕ) (b : ℕ) (gen kill : List ℕ) (x : Progress) : Type 0 where
+  pub n : ℕ
+  pub given : Given n w b gen kill
+  pub list : Listed n x
+  pub some : 0 < x .count

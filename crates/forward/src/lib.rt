@@ -1,0 +1,256 @@
+// The forward gen/kill data-flow kernel over the points of one function, with a list of the points still to visit.
+ghost use mathlib.Core.Path.{_≡_};
+ghost use Prim.Native.Nat.{ℕ, _+_, _<_, _≤_};
+ghost use lib.ListN.{length, set};
+ghost use Rattle.model.specs.Task.{Func};
+ghost use Rattle.model.specs.Walk.{leadsFrom, leads};
+ghost use Rattle.tables.specs.Tables.{pointsOf};
+ghost use Rattle.forward.specs.Forward.{item, function, Given, Solved};
+ghost use Rattle.forward.specs.Worklist.{targets, nextAt, union, transfer, progress, cleared, listed, Raised, Propagated, Visited, Visits, Listed, Fits, FitsAll, Ready};
+use model::Point;
+
+// Where a point leads.
+enum Next {
+    Nowhere,
+    To(usize),
+    Fork(usize, usize),
+}
+
+fn next_of(p: usize, x: Point) -> Next
+    requires { ⌜ p < 1024 ⌝ }
+    ensures { λ r. ⌜ targets r ≡ leadsFrom p x ⌝ }
+{
+    match x {
+        Point::Load(_) => Next::To(p + 1),
+        Point::Store(_) => Next::To(p + 1),
+        Point::Call(_) => Next::To(p + 1),
+        Point::Ensure(_) => Next::To(p + 1),
+        Point::Goto(q) => Next::To(q as usize),
+        Point::Either(q, r) => Next::Fork(q as usize, r as usize),
+        Point::Return => Next::Nowhere,
+    }
+}
+
+// Where point p of the function at base leads.
+fn next_at(work: &[u32], base: usize, p: usize) -> Next
+    requires { ⌜ (base + p < 1024) × (16384 ≤ length (now work)) ⌝ }
+    ensures { λ r. ⌜ targets r ≡ nextAt (now (work .entry)) base p ⌝ }
+{
+    next_of(p, tables::point_at(work, base + p))
+}
+
+// The operators on sets, by name.
+fn union_of(a: u64, b: u64) -> u64
+    ensures { λ r. ⌜ r ≡ union a b ⌝ }
+{
+    a | b
+}
+
+fn transfer_of(set: u64, kills: u64, gens: u64) -> u64
+    ensures { λ r. ⌜ r ≡ transfer set kills gens ⌝ }
+{
+    (set & !kills) | gens
+}
+
+// The list is a stack of bytes: a point is put at its end and taken from its end.
+fn put(todo: &mut [u8], count: usize, q: usize) -> usize
+    requires { ⌜ (count < length (now todo)) × (q < 256) ⌝ }
+    ensures { λ r. ⌜ (r ≡ count + 1) × (now (todo .exit) ≡ set (now (todo .entry)) count q) ⌝ }
+{
+    todo[count] = q as u8;
+    count + 1
+}
+
+fn take_at(todo: &[u8], last: usize) -> usize
+    requires { ⌜ last < length (now todo) ⌝ }
+    ensures { λ r. ⌜ r ≡ item (now (todo .entry)) last ⌝ }
+{
+    wide(todo[last])
+}
+
+fn wide(x: u8) -> usize
+    ensures { λ r. ⌜ r ≡ x ⌝ }
+{
+    x as usize
+}
+
+// Point q gets the set m and goes into the list.
+fn add_to_list(
+    sets: &mut [u64],
+    state: &mut [u8],
+    todo: &mut [u8],
+    count: usize,
+    q: usize,
+    m: u64,
+) -> usize
+    requires { ⌜ (q < length (now sets)) × (q < length (now state)) × (q < 256) × (count < length (now todo)) ⌝ }
+    ensures { λ r. ⌜ progress (now (sets .exit)) (now (state .exit)) (now (todo .exit)) r
+        ≡ listed q m (progress (now (sets .entry)) (now (state .entry)) (now (todo .entry)) count) ⌝ }
+{
+    sets[q] = m;
+    state[q] = 2;
+    put(todo, count, q)
+}
+
+// The set m comes to point q.
+fn raise(
+    sets: &mut [u64],
+    state: &mut [u8],
+    todo: &mut [u8],
+    count: usize,
+    q: usize,
+    m: u64,
+) -> usize
+    requires { ⌜ Fits q (progress (now sets) (now state) (now todo) count) ⌝ }
+    ensures { λ r. ⌜ Raised q m (progress (now (sets .entry)) (now (state .entry)) (now (todo .entry)) count)
+        (progress (now (sets .exit)) (now (state .exit)) (now (todo .exit)) r) ⌝ }
+{
+    let s = state[q];
+    let old = sets[q];
+    let new = union_of(old, m);
+    if s == 0 {
+        return add_to_list(sets, state, todo, count, q, new);
+    }
+    if new == old {
+        return count;
+    }
+    if s == 2 {
+        sets[q] = new;
+        return count;
+    }
+    add_to_list(sets, state, todo, count, q, new)
+}
+
+// The set m comes to each point that is next.
+fn propagate(
+    next: Next,
+    m: u64,
+    sets: &mut [u64],
+    state: &mut [u8],
+    todo: &mut [u8],
+    count: usize,
+) -> usize
+    requires { ⌜ FitsAll (targets next) (progress (now sets) (now state) (now todo) count) ⌝ }
+    ensures { λ r. ⌜ Propagated m (targets next) (progress (now (sets .entry)) (now (state .entry)) (now (todo .entry)) count)
+        (progress (now (sets .exit)) (now (state .exit)) (now (todo .exit)) r) ⌝ }
+{
+    match next {
+        Next::Nowhere => count,
+        Next::To(q) => raise(sets, state, todo, count, q, m),
+        Next::Fork(q, r) => {
+            let more = raise(sets, state, todo, count, q, m);
+            raise(sets, state, todo, more, r, m)
+        }
+    }
+}
+
+// The last point of the list is taken, and what leaves it comes to the points that are next.
+fn visit(
+    work: &[u32],
+    base: usize,
+    gens: &[u64],
+    kills: &[u64],
+    sets: &mut [u64],
+    state: &mut [u8],
+    todo: &mut [u8],
+    count: usize,
+) -> usize
+    requires { ⌜ Ready (now work) base (now gens) (now kills) (progress (now sets) (now state) (now todo) count) ⌝ }
+    ensures { λ r. ⌜ Visited (nextAt (now (work .entry)) base) (now (gens .entry)) (now (kills .entry))
+        (progress (now (sets .entry)) (now (state .entry)) (now (todo .entry)) count)
+        (progress (now (sets .exit)) (now (state .exit)) (now (todo .exit)) r) ⌝ }
+{
+    let left = count - 1;
+    let p = take_at(todo, left);
+    state[p] = 1;
+    let m = transfer_of(sets[p], kills[p], gens[p]);
+    propagate(next_at(work, base, p), m, sets, state, todo, left)
+}
+
+// Points are visited until the list is empty.
+fn drain(
+    work: &[u32],
+    base: usize,
+    n: usize,
+    gens: &[u64],
+    kills: &[u64],
+    sets: &mut [u64],
+    state: &mut [u8],
+    todo: &mut [u8],
+    first: usize,
+)
+    requires { ⌜ Given n (now work) base (now gens) (now kills) × Listed n (progress (now sets) (now state) (now todo) first) ⌝ }
+    ensures { λ r. ⌜ Visits (leads (function (now (work .entry)) base n)) (now (gens .entry)) (now (kills .entry))
+        (progress (now (sets .entry)) (now (state .entry)) (now (todo .entry)) first)
+        (progress (now (sets .exit)) (now (state .exit)) (now (todo .exit)) 0) ⌝ }
+{
+    let mut count = first;
+    while count > 0 {
+        count = visit(work, base, gens, kills, sets, state, todo, count);
+    }
+}
+
+// The first n entries are cleared.
+fn clear_sets(sets: &mut [u64], n: usize)
+    requires { ⌜ n ≤ length (now sets) ⌝ }
+    ensures { λ r. ⌜ now (sets .exit) ≡ cleared n (now (sets .entry)) ⌝ }
+{
+    let mut i = 0;
+    while i < n {
+        sets[i] = 0;
+        i += 1;
+    }
+}
+
+fn clear_state(state: &mut [u8], n: usize)
+    requires { ⌜ n ≤ length (now state) ⌝ }
+    ensures { λ r. ⌜ now (state .exit) ≡ cleared n (now (state .entry)) ⌝ }
+{
+    let mut i = 0;
+    while i < n {
+        state[i] = 0;
+        i += 1;
+    }
+}
+
+// The tables are cleared, and the visits start at point 0 with the set entry.
+fn solve(
+    work: &[u32],
+    base: usize,
+    n: usize,
+    entry: u64,
+    gens: &[u64],
+    kills: &[u64],
+    sets: &mut [u64],
+    state: &mut [u8],
+    todo: &mut [u8],
+)
+    requires { ⌜ Given n (now work) base (now gens) (now kills) × (n ≤ length (now sets)) × (n ≤ length (now state)) × (n ≤ length (now todo)) ⌝ }
+    ensures { λ r. ⌜ Solved (leads (function (now (work .entry)) base n)) n entry (now (gens .entry)) (now (kills .entry))
+        (now (sets .exit)) (now (state .exit)) ⌝ }
+{
+    clear_sets(sets, n);
+    clear_state(state, n);
+    let count = add_to_list(sets, state, todo, 0, 0, entry);
+    drain(work, base, n, gens, kills, sets, state, todo, count);
+}
+
+// For the n points of work from base on: which of them a walk from point 0 reaches, and which bits such walks carry to each. The first n
+// entries of sets and state are the answer, whatever they held.
+pub fn forward(
+    work: &[u32],
+    base: usize,
+    n: usize,
+    entry: u64,
+    gens: &[u64],
+    kills: &[u64],
+    sets: &mut [u64],
+    state: &mut [u8],
+)
+    requires { ⌜ Given n (now work) base (now gens) (now kills) × (n ≤ length (now sets)) × (n ≤ length (now state)) ⌝ }
+    ensures { λ r. ⌜ ((x : Func) → x .points ≡ pointsOf (now (work .entry)) base n
+        → Solved (leads x) n entry (now (gens .entry)) (now (kills .entry)) (now (sets .exit)) (now (state .exit))) ⌝ }
+{
+    let mut todo = [0u8; 256];
+    solve(work, base, n, entry, gens, kills, sets, state, &mut todo);
+}

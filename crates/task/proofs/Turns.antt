@@ -1,0 +1,149 @@
+-- The invariants of the two loops of the reader, and what each turn and each way out makes of them.
+use Prim.Native.Nat.{ℕ, _+_, _-_, _≤_, _<_}
+use native.Mathlib.Omega.{arith}
+use native.Mathlib.Numerals.{add-one}
+use mathlib.Core.Path.{_≡_, refl, _∙_}
+use mathlib.Core.List.{List}
+use lib.ListN.{length, take, drop}
+use Rattle.model.specs.declared.Line.{Line}
+use Rattle.model.specs.declared.Refusal.{Refusal}
+use Rattle.model.specs.declared.Refusal.the-variants.{Form}
+use Rattle.model.specs.Text.{lineOf, linesOf}
+use Rattle.model.specs.Task.{Task, Judged, readEnd, readFrom}
+use Rattle.tables.specs.Tables.{funcsOf, putFunc, none}
+use Rattle.tables.proofs.Writes.{put-func-stacked, put-func-more, put-func-past, put-func-length}
+use Rattle.task.specs.declared.Tables.{Tables}
+use Rattle.task.specs.declared.Place.{Place}
+use Rattle.task.specs.declared.Took.{Took}
+use Rattle.task.specs.declared.Took.the-variants as took
+use Rattle.task.specs.declared.Body.{Body}
+use Rattle.task.specs.declared.Body.the-variants as body
+use Rattle.task.specs.declared.Reached.{Reached}
+use Rattle.task.specs.declared.Reached.the-variants as reached
+use Rattle.task.specs.declared.Read.{Read}
+use Rattle.task.specs.declared.Read.the-variants as read
+use Rattle.task.specs.Reading.{LineEnd, Holds, Kept, Standing, rest, afterStack, insideOf, betweenOf, closedOf, tookAs, bodyAs, reachedAs, readAs}
+use Rattle.task.proofs.Laws.{line-goes, line-stops, no-line, text-end, no-func, some-func}
+
+pub same-kept : (w : List ℕ) → Kept w w
+same-kept w = record { size = refl; past = refl }
+
+pub both-kept : {u v w : List ℕ} → Kept u v → Kept v w → Kept u w
+both-kept a b = record { size = b .size ∙ a .size; past = b .past ∙ a .past }
+
+-- the points of the function after those of tb, with frame k: m of them are in w, and line n at byte a is next
+pub record Going (text w₀ : List ℕ) (tb : Tables) (k : ℕ) (from : Place) (w : List ℕ) (n a m : ℕ) : Type 0 where
+  pub answer : rest text from (insideOf w₀ tb k 0) ≡ readFrom n (insideOf w tb k m) (linesOf (drop a text))
+  pub kept : Kept w₀ w
+  pub holds : Holds w tb
+  pub stands : Standing text (record { n = n; a = a })
+  pub room : tb .points + m ≤ 1024
+  pub onward : from .a ≤ a
+
+pub going-first : (text w : List ℕ) (tb : Tables) (k : ℕ) (from : Place) → Standing text from → Holds w tb → Going text w tb k from w (from .n) (from .a) 0
+going-first text w tb k from s h = record {
+  answer = refl;
+  kept = same-kept w;
+  holds = h;
+  stands = s;
+  room = omega arith;
+  onward = omega arith;
+}
+
+module _ {text w₀ : List ℕ} {tb : Tables} {k : ℕ} {from : Place} {w : List ℕ} {n a m : ℕ} (g : Going text w₀ tb k from w n a m) {e : ℕ} (end : LineEnd text a e) where
+  pub going-short : length text ≤ e → bodyAs (body.Refused (Form n)) (rest text from (insideOf w₀ tb k 0)) text w₀ w (from .a) tb k
+  unfolding readEnd
+  going-short h = (g .answer ∙ no-line text a e n (insideOf w tb k m) end h (λ i. refl), g .kept)
+
+  module _ (h : e < length text) {l : Line} (i : l ≡ lineOf (take (e - a) (drop a text))) {r : Took} {w′ : List ℕ} (t : tookAs r w w′ tb k m n l) where
+    pub going-on : r ≡ took.Point → Going text w₀ tb k from w′ (n + 1) (e + 1) (m + 1)
+    going-on c =
+        let t′ = rw c at t in
+        record {
+          answer = g .answer ∙ line-goes text a e n (insideOf w tb k m) end h l i (insideOf w′ tb k (m + 1)) (t′ .0);
+          kept = both-kept (g .kept) (t′ .1);
+          holds = t′ .2;
+          stands = omega arith;
+          room = omega arith;
+          onward = omega arith;
+        }
+
+    pub going-end : r ≡ took.End → bodyAs (body.Whole (record { n = n + 1; a = e + 1 }) m) (rest text from (insideOf w₀ tb k 0)) text w₀ w′ (from .a) tb k
+    going-end c =
+        let t′ = rw c at t in
+        rw (t′ .1) (
+          g .answer ∙ line-goes text a e n (insideOf w tb k m) end h l i (closedOf w tb k m) (t′ .0),
+          g .kept,
+          g .holds,
+          omega arith,
+          omega arith,
+          g .room,
+        )
+
+    pub going-off : (q : Refusal) → r ≡ took.Refused q → bodyAs (body.Refused q) (rest text from (insideOf w₀ tb k 0)) text w₀ w′ (from .a) tb k
+    going-off q c =
+        let t′ = rw c at t in
+        rw (t′ .1) (g .answer ∙ line-stops text a e n (insideOf w tb k m) end h l i q (t′ .0), g .kept)
+
+-- the function is whole, and is put after those of tb
+pub body-put : (r : Body) (j : Judged) (text w v w′ : List ℕ) (a k m : ℕ) (at : Place) (tb : Tables) → bodyAs r j text w v a tb k → r ≡ body.Whole at m → tb .funcs < 64 → w′ ≡ putFunc v (tb .funcs) k (tb .points) m → reachedAs (reached.To at (record { stack = tb .stack; funcs = tb .funcs + 1; points = tb .points + m })) j text w w′ a
+body-put r j text w v w′ a k m at tb d c h e =
+    let b = rw c at d in
+    let f = tb .funcs in
+    let p = tb .points in
+    let l = put-func-length v f k p m h in
+    rw
+    (e, add-one f) (
+      b .0 ∙ rw (put-func-more v f k p m h (b .2 .room) (b .2 .stacked) (b .5)),
+      both-kept (b .1) (record { size = l; past = put-func-past v f k p m h }),
+      record { room = omega arith; stacked = put-func-stacked v f k p m h (b .2 .room) (b .2 .stacked); funcs = h; points = b .5 },
+      b .3,
+      b .4,
+    )
+
+-- the same function from an earlier byte on
+pub reached-from : (r : Reached) (i j : Judged) (text w w′ : List ℕ) (a b : ℕ) → j ≡ i → a < b → reachedAs r i text w w′ b → reachedAs r j text w w′ a
+reached-from (reached.To at tb) i j text w w′ a b e l h = (e ∙ h .0, h .1, h .2, h .3, omega arith)
+reached-from (reached.Refused q) i j text w w′ a b e l h = (e ∙ h .0, h .1)
+
+-- the functions of tb are in w, and what is left from the place at gives the answer j
+pub record Between (j : Judged) (text w₀ w : List ℕ) (at : Place) (tb : Tables) : Type 0 where
+  pub answer : j ≡ rest text at (betweenOf w tb)
+  pub kept : Kept w₀ w
+  pub holds : Holds w tb
+  pub stands : Standing text at
+
+pub between-first : (text w : List ℕ) (s a : ℕ) → 16384 ≤ length w → length text ≤ 32768 → 1 ≤ a → a ≤ length text → Between (afterStack text s a) text w w (record { n = 2; a = a }) (record { stack = s; funcs = 0; points = 0 })
+unfolding funcsOf
+between-first text w s a h i k l = record {
+  answer = refl;
+  kept = same-kept w;
+  holds = record { room = h; stacked = none; funcs = omega arith; points = omega arith };
+  stands = record { short = i; within = l; number = omega arith };
+}
+
+module _ {j : Judged} {text w₀ w : List ℕ} {at : Place} {tb : Tables} (b : Between j text w₀ w at tb) where
+  module _ {r : Reached} {w′ : List ℕ} (h : reachedAs r (rest text at (betweenOf w tb)) text w w′ (at .a)) where
+    pub between-on : (at′ : Place) (tb′ : Tables) → r ≡ reached.To at′ tb′ → Between j text w₀ w′ at′ tb′
+    between-on at′ tb′ e =
+        let h′ = rw e at h in
+        record { answer = b .answer ∙ h′ .0; kept = both-kept (b .kept) (h′ .1); holds = h′ .2; stands = h′ .3 }
+
+    pub between-off : (q : Refusal) → r ≡ reached.Refused q → readAs (read.Refused q) j w₀ w′
+    between-off q e = let h′ = rw e at h in (b .answer ∙ h′ .0, both-kept (b .kept) (h′ .1))
+
+  module _ (end : length text ≤ at .a) where
+    pub between-none : tb .funcs ≡ 0 → readAs (read.Refused (Form (at .n))) j w₀ w
+    between-none e = (b .answer ∙ (text-end text (at .a) (at .n) (betweenOf w tb) end ∙ no-func w (tb .stack) (tb .funcs) (at .n) e), b .kept)
+
+    pub between-task : (tb .funcs ≡ 0 → ⊥) → readAs (read.Task tb) j w₀ w
+    between-task e = (
+      b .answer ∙ (text-end text (at .a) (at .n) (betweenOf w tb) end ∙ some-func w (tb .stack) (tb .funcs) (at .n) (omega arith)),
+      b .kept,
+      b .holds,
+    )
+
+-- the same answer for a text that is read on
+pub read-from : (r : Read) (i j : Judged) (w w′ : List ℕ) → j ≡ i → readAs r i w w′ → readAs r j w w′
+read-from (read.Task tb) i j w w′ e h = (e ∙ h .0, h .1, h .2)
+read-from (read.Refused q) i j w w′ e h = (e ∙ h .0, h .1)

@@ -1,0 +1,247 @@
+// Reads a task text, line by line, into the tables of the working space, or refuses it with the line that is at fault (refusals 2 to 6).
+ghost use mathlib.Core.Path.{_≡_};
+ghost use Prim.Native.Nat.{_+_, _<_, _≤_};
+ghost use lib.ListN.{length};
+ghost use Rattle.model.specs.declared.Line.the-variants.{At};
+ghost use Rattle.model.specs.Task.{readText, offsetFits};
+ghost use Rattle.task.specs.Reading.{LineEnd, Holds, Standing, rest, afterStack, betweenOf, insideOf, tookAs, bodyAs, reachedAs, readAs};
+use line::read_line;
+use model::Line;
+use model::Point;
+use model::Refusal;
+use tables::put_func;
+use tables::put_point;
+
+// The tables of a task: the cache blocks S, how many functions, and how many points in all.
+pub struct Tables {
+    pub stack: u32,
+    pub funcs: usize,
+    pub points: usize,
+}
+
+// What a text is: a task, which the tables now hold, or a refusal.
+pub enum Read {
+    Task(Tables),
+    Refused(Refusal),
+}
+
+// Where the next line begins: its number, counted from 1, and its first byte.
+struct Place {
+    n: u32,
+    a: usize,
+}
+
+// What a line inside a function is.
+enum Took {
+    Point,
+    End,
+    Refused(Refusal),
+}
+
+// The points of a function: the place after its closing line, and how many points.
+enum Body {
+    Whole(Place, usize),
+    Refused(Refusal),
+}
+
+// A whole function: the place after it, and the tables with it.
+enum Reached {
+    To(Place, Tables),
+    Refused(Refusal),
+}
+
+// The first line feed from byte a on, or the length of the text if there is none.
+fn line_end(text: &[u8], a: usize) -> usize
+    requires { ⌜ a ≤ length (now text) ⌝ }
+    ensures { λ r. ⌜ LineEnd (now (text .entry)) a r ⌝ }
+{
+    let mut i = a;
+    while i < text.len() {
+        if text[i] == b'\n' {
+            return i;
+        }
+        i += 1;
+    }
+    i
+}
+
+// The offset of a load or store is below the frame k.
+fn offset_fits(k: u32, x: Point) -> bool
+    ensures { λ r. ⌜ r ≡ offsetFits k x ⌝ }
+{
+    match x {
+        Point::Load(o) => o < k,
+        Point::Store(o) => o < k,
+        Point::Call(_) => true,
+        Point::Ensure(_) => true,
+        Point::Goto(_) => true,
+        Point::Either(_, _) => true,
+        Point::Return => true,
+    }
+}
+
+// Point m of the function after those of tb, on line n.
+fn take_point(work: &mut [u32], tb: Tables, k: u32, m: usize, n: u32, x: Point) -> Took
+    requires { ⌜ Holds (now work) tb ⌝ }
+    requires { ⌜ tb .points + m ≤ 1024 ⌝ }
+    ensures { λ r. ⌜ tookAs r (now (work .entry)) (now (work .exit)) tb k m n (At x) ⌝ }
+{
+    if !offset_fits(k, x) {
+        return Took::Refused(Refusal::Offset(n));
+    }
+    if 256 <= m {
+        return Took::Refused(Refusal::TooMany(n));
+    }
+    let i = tb.points + m;
+    if 1024 <= i {
+        return Took::Refused(Refusal::TooMany(n));
+    }
+    put_point(work, i, x);
+    Took::Point
+}
+
+// Line n, where the function after those of tb has m points so far.
+fn take_line(work: &mut [u32], tb: Tables, k: u32, m: usize, n: u32, l: Line) -> Took
+    requires { ⌜ Holds (now work) tb ⌝ }
+    requires { ⌜ tb .points + m ≤ 1024 ⌝ }
+    ensures { λ r. ⌜ tookAs r (now (work .entry)) (now (work .exit)) tb k m n l ⌝ }
+{
+    match l {
+        Line::At(x) => take_point(work, tb, k, m, n, x),
+        Line::Close => {
+            if m == 0 {
+                Took::Refused(Refusal::Form(n))
+            } else {
+                Took::End
+            }
+        }
+        _ => Took::Refused(Refusal::Form(n)),
+    }
+}
+
+// The points of the function after those of tb, with frame k, to its closing line.
+fn read_points(text: &[u8], work: &mut [u32], tb: Tables, k: u32, at: Place) -> Body
+    requires { ⌜ Standing (now text) at ⌝ }
+    requires { ⌜ Holds (now work) tb ⌝ }
+    ensures { λ r. ⌜ bodyAs r (rest (now (text .entry)) at (insideOf (now (work .entry)) tb k 0)) (now (text .entry)) (now (work .entry)) (now (work .exit)) (at .a) tb k ⌝ }
+{
+    let mut n = at.n;
+    let mut a = at.a;
+    let mut m: usize = 0;
+    loop {
+        let b = line_end(text, a);
+        if text.len() <= b {
+            return Body::Refused(Refusal::Form(n));
+        }
+        match take_line(work, tb, k, m, n, read_line(&text[a..b])) {
+            Took::Point => {
+                n += 1;
+                a = b + 1;
+                m += 1;
+            }
+            Took::End => {
+                return Body::Whole(Place { n: n + 1, a: b + 1 }, m);
+            }
+            Took::Refused(r) => {
+                return Body::Refused(r);
+            }
+        }
+    }
+}
+
+// The function after those of tb, with frame k, from its first point on.
+fn read_body(text: &[u8], work: &mut [u32], tb: Tables, k: u32, at: Place) -> Reached
+    requires { ⌜ Standing (now text) at ⌝ }
+    requires { ⌜ Holds (now work) tb ⌝ }
+    requires { ⌜ tb .funcs < 64 ⌝ }
+    ensures { λ r. ⌜ reachedAs r (rest (now (text .entry)) at (insideOf (now (work .entry)) tb k 0)) (now (text .entry)) (now (work .entry)) (now (work .exit)) (at .a) ⌝ }
+{
+    match read_points(text, work, tb, k, at) {
+        Body::Whole(next, m) => {
+            put_func(work, tb.funcs, k, tb.points as u32, m as u32);
+            Reached::To(
+                next,
+                Tables {
+                    stack: tb.stack,
+                    funcs: tb.funcs + 1,
+                    points: tb.points + m,
+                },
+            )
+        }
+        Body::Refused(r) => Reached::Refused(r),
+    }
+}
+
+// The function after those of tb.
+fn read_func(text: &[u8], work: &mut [u32], tb: Tables, at: Place) -> Reached
+    requires { ⌜ Standing (now text) at ⌝ }
+    requires { ⌜ Holds (now work) tb ⌝ }
+    requires { ⌜ at .a < length (now text) ⌝ }
+    ensures { λ r. ⌜ reachedAs r (rest (now (text .entry)) at (betweenOf (now (work .entry)) tb)) (now (text .entry)) (now (work .entry)) (now (work .exit)) (at .a) ⌝ }
+{
+    let n = at.n;
+    let a = at.a;
+    let b = line_end(text, a);
+    if text.len() <= b {
+        return Reached::Refused(Refusal::Form(n));
+    }
+    let Line::Func(k) = read_line(&text[a..b]) else {
+        return Reached::Refused(Refusal::Form(n));
+    };
+    if tb.stack < k {
+        return Reached::Refused(Refusal::FrameSize(n));
+    }
+    if 64 <= tb.funcs {
+        return Reached::Refused(Refusal::TooMany(n));
+    }
+    read_body(text, work, tb, k, Place { n: n + 1, a: b + 1 })
+}
+
+// The functions of a text, which begin on line 2 at byte a.
+fn read_funcs(text: &[u8], work: &mut [u32], stack: u32, a: usize) -> Read
+    requires { ⌜ (16384 ≤ length (now work)) × (length (now text) ≤ 32768) × (1 ≤ a) × (a ≤ length (now text)) ⌝ }
+    ensures { λ r. ⌜ readAs r (afterStack (now (text .entry)) stack a) (now (work .entry)) (now (work .exit)) ⌝ }
+{
+    let mut at = Place { n: 2, a };
+    let mut tb = Tables {
+        stack,
+        funcs: 0,
+        points: 0,
+    };
+    while at.a < text.len() {
+        match read_func(text, work, tb, at) {
+            Reached::To(next, more) => {
+                at = next;
+                tb = more;
+            }
+            Reached::Refused(r) => {
+                return Read::Refused(r);
+            }
+        }
+    }
+    if tb.funcs == 0 {
+        return Read::Refused(Refusal::Form(at.n));
+    }
+    Read::Task(tb)
+}
+
+// A whole text: its stack line, then its functions.
+pub fn read_task(text: &[u8], work: &mut [u32]) -> Read
+    requires { ⌜ (16384 ≤ length (now work)) × (length (now text) ≤ 32768) ⌝ }
+    ensures { λ r. ⌜ readAs r (readText (now (text .entry))) (now (work .entry)) (now (work .exit)) ⌝ }
+{
+    let b = line_end(text, 0);
+    if text.len() <= b {
+        return Read::Refused(Refusal::Form(1));
+    }
+    let Line::Stack(s) = read_line(&text[0..b]) else {
+        return Read::Refused(Refusal::Form(1));
+    };
+    if s < 1 {
+        return Read::Refused(Refusal::StackSize(1));
+    }
+    if 64 < s {
+        return Read::Refused(Refusal::StackSize(1));
+    }
+    read_funcs(text, work, s, b + 1)
+}

@@ -1,0 +1,4 @@
+pub mod Points
+pub mod Rows
+pub mod Ready
+pub mod Answers
