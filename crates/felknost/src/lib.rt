@@ -7,6 +7,6 @@ ghost use Rattle.model.specs.Services.{checkNumber};
 pub extern "C" fn felknost_check(text: &[u8]) -> u32
     ensures { λ n. ⌜ n ≡ checkNumber (now (text .entry)) ⌝ }
 {
-    let mut work = [0u32; 16384];
+    let mut work = [0u32; 3264];
     codes::packed(judge::judge_text(text, &mut work))
 }

@@ -199,7 +199,7 @@ pub record Placed (p : ℕ) (w : List ℕ) (b : ℕ) (gen kill : List ℕ) (x : 
   pub in-gen : p < length gen
   pub in-kill : p < length kill
   pub in-work : b + p < 1024
-  pub work-long : 16384 ≤ length w
+  pub work-long : 3264 ≤ length w
 
 module _ (w : List ℕ) (b : ℕ) (gen kill : List ℕ) (x : Progress) where
   pub placed : Ready w b gen kill x → (p : ℕ) → p ≡ last x → Placed p w b gen kill x

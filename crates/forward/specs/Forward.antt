@@ -26,7 +26,7 @@ pub record Given (n : ℕ) (w : List ℕ) (b : ℕ) (gen kill : List ℕ) : Type
   pub some : 1 ≤ n
   pub small : n ≤ 256
   pub fits : b + n ≤ 1024
-  pub work-long : 16384 ≤ length w
+  pub work-long : 3264 ≤ length w
   pub gen-long : n ≤ length gen
   pub kill-long : n ≤ length kill
   pub inside : Inside (leads (function w b n)) n

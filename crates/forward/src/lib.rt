@@ -33,7 +33,7 @@ fn next_of(p: usize, x: Point) -> Next
 
 // Where point p of the function at base leads.
 fn next_at(work: &[u32], base: usize, p: usize) -> Next
-    requires { ⌜ (base + p < 1024) × (16384 ≤ length (now work)) ⌝ }
+    requires { ⌜ (base + p < 1024) × (3264 ≤ length (now work)) ⌝ }
     ensures { λ r. ⌜ targets r ≡ nextAt (now (work .entry)) base p ⌝ }
 {
     next_of(p, tables::point_at(work, base + p))

@@ -52,7 +52,7 @@ fn task_rows(work: &[u32], tb: Tables) -> Verdict
 
 // The verdict on a text. The tables are left in the working space, and everything past them is as it was.
 pub fn judge_text(text: &[u8], work: &mut [u32]) -> Verdict
-    requires { ⌜ 16384 ≤ length (now work) ⌝ }
+    requires { ⌜ 3264 ≤ length (now work) ⌝ }
     ensures { λ r. ⌜ (r ≡ verdictOf (judge checkRows 16384 (now (text .entry)))) × Kept (now (work .entry)) (now (work .exit)) ⌝ }
 {
     if 32768 < text.len() {

@@ -52,7 +52,7 @@ module _ (w : List ℕ) (s : Span) where
   size-in = length-points w (s .base) (s .size)
 
 -- the tables hold a task, and so the points of function f
-pub settled : {w : List ℕ} {n m : ℕ} → (16384 ≤ length w) × (n ≤ 64) × (m ≤ 1024) × Stacked w n m → Settled w n
+pub settled : {w : List ℕ} {n m : ℕ} → (3264 ≤ length w) × (n ≤ 64) × (m ≤ 1024) × Stacked w n m → Settled w n
 settled {w} {n} {m} k = record { points = m; stacked = k .3; within = k .2; few = k .1; room = k .0 }
 
 pub held : {w : List ℕ} {n : ℕ} → Settled w n → (f : ℕ) → f < n → {s : Span} → s ≡ spanAt w f → Held w s

@@ -45,7 +45,7 @@ funcIn w s = record { frame = s .frame; points = pointsOf w (s .base) (s .size) 
 -- the points of a function lie in the tables w
 pub record Held (w : List ℕ) (s : Span) : Type 0 where
   pub within : s .base + s .size ≤ 1024
-  pub room : 16384 ≤ length w
+  pub room : 3264 ≤ length w
 
 -- the tables w hold a task of n functions
 pub record Settled (w : List ℕ) (n : ℕ) : Type 0 where
@@ -53,7 +53,7 @@ pub record Settled (w : List ℕ) (n : ℕ) : Type 0 where
   pub stacked : Stacked w n points
   pub within : points ≤ 1024
   pub few : n ≤ 64
-  pub room : 16384 ≤ length w
+  pub room : 3264 ≤ length w
 
 -- point i of the tables w calls function f; function f is marked
 abbrev pub callsAt : List ℕ → ℕ → ℕ → Bool

@@ -27,7 +27,7 @@ enum Named {
 }
 
 fn span_at(work: &[u32], f: usize) -> Span
-    requires { ⌜ (f < 64) × (16384 ≤ length (now work)) ⌝ }
+    requires { ⌜ (f < 64) × (3264 ≤ length (now work)) ⌝ }
     ensures { λ r. ⌜ r ≡ spanAt (now (work .entry)) f ⌝ }
 {
     let frame = tables::frame_at(work, f);
@@ -242,7 +242,7 @@ fn func_rows(work: &[u32], funcs: usize, f: usize) -> Verdict
 
 // 7 to 10: the first point, by line, that one of them refuses.
 pub fn link_rows(work: &[u32], funcs: usize, points: usize) -> Verdict
-    requires { ⌜ (16384 ≤ length (now work)) × (funcs ≤ 64) × (points ≤ 1024) × Stacked (now work) funcs points ⌝ }
+    requires { ⌜ (3264 ≤ length (now work)) × (funcs ≤ 64) × (points ≤ 1024) × Stacked (now work) funcs points ⌝ }
     ensures { λ r. ⌜ ((stack : ℕ) → r ≡ rowVerdict (linkRows (taskOf (now (work .entry)) stack funcs))) ⌝ }
 {
     let mut f = 0;
@@ -271,7 +271,7 @@ fn mark(marks: &mut [bool], g: Named)
 
 // Marks each function that one of the task's points calls.
 fn mark_calls(work: &[u32], points: usize, marks: &mut [bool])
-    requires { ⌜ (16384 ≤ length (now work)) × (points ≤ 1024) × (64 ≤ length (now marks)) ⌝ }
+    requires { ⌜ (3264 ≤ length (now work)) × (points ≤ 1024) × (64 ≤ length (now marks)) ⌝ }
     ensures { λ r. ⌜ ((f : ℕ) → f < 64 → markOf (now (marks .exit)) f ≡ (any (callsAt (now (work .entry)) f) (upTo points) || markOf (now (marks .entry)) f)) ⌝ }
 {
     let mut i = 0;
@@ -306,7 +306,7 @@ fn first_unmarked(work: &[u32], funcs: usize, marks: &[bool]) -> Verdict
 
 // 12: the first function from 1 on that no point of the task calls.
 pub fn call_rows(work: &[u32], funcs: usize, points: usize) -> Verdict
-    requires { ⌜ (16384 ≤ length (now work)) × (funcs ≤ 64) × (points ≤ 1024) × Stacked (now work) funcs points ⌝ }
+    requires { ⌜ (3264 ≤ length (now work)) × (funcs ≤ 64) × (points ≤ 1024) × Stacked (now work) funcs points ⌝ }
     ensures { λ r. ⌜ ((stack : ℕ) → r ≡ rowVerdict (callRows (taskOf (now (work .entry)) stack funcs))) ⌝ }
 {
     let mut marks = [false; 64];

@@ -80,7 +80,7 @@ module _ (w : List ℕ) (i : ℕ) (p : Point) (h : i < 1024) where
         λ t. pointOf (e t) (f t) (g t);
   }
 
-  pub put-point-there : 16384 ≤ length w → pointAt (putPoint w i p) i ≡ p
+  pub put-point-there : 3264 ≤ length w → pointAt (putPoint w i p) i ≡ p
   put-point-there k =
       let e =
       first w i (1024 + i) (2048 + i) (kindOf p) (firstArgument p) (secondArgument p) (omega arith) (omega arith) (omega arith) in
@@ -90,7 +90,7 @@ module _ (w : List ℕ) (i : ℕ) (p : Point) (h : i < 1024) where
       (λ t. pointOf (e t) (f t) (g t)) ∙ point-back p
 
   -- the points from b on, of which m stand before i
-  pub put-point-more : 16384 ≤ length w → (b m : ℕ) → b + m ≡ i → pointsOf (putPoint w i p) b (suc m) ≡ pointsOf w b m ++ (p ∷ [])
+  pub put-point-more : 3264 ≤ length w → (b m : ℕ) → b + m ≡ i → pointsOf (putPoint w i p) b (suc m) ≡ pointsOf w b m ++ (p ∷ [])
   unfolding pointsOf
   put-point-more k b m e =
       rw (e, put-point-there k, points-agree (put-point-agree 0 (omega arith)) b m (omega arith))
@@ -119,7 +119,7 @@ module _ (w : List ℕ) (f k b m : ℕ) (h : f < 64) where
       untouched : (j : ℕ) → j ≢ 3072 + f → j ≢ 3136 + f → j ≢ 3200 + f → getD (putFunc w f k b m) j 0 ≡ getD w j 0
       untouched = apart w (3072 + f) (3136 + f) (3200 + f) k b m
 
-  module _ (room : 16384 ≤ length w) where
+  module _ (room : 3264 ≤ length w) where
     put-frame : frameAt (putFunc w f k b m) f ≡ k
     put-frame = first w (3072 + f) (3136 + f) (3200 + f) k b m (omega arith) (omega arith) (omega arith)
 

@@ -23,7 +23,7 @@ fn point_of(kind: u32, first: u32, second: u32) -> Point
 
 // Point i of the task, counted over all functions.
 pub fn point_at(work: &[u32], i: usize) -> Point
-    requires { ⌜ (i < 1024) × (16384 ≤ length (now work)) ⌝ }
+    requires { ⌜ (i < 1024) × (3264 ≤ length (now work)) ⌝ }
     ensures { λ r. ⌜ r ≡ pointAt (now (work .entry)) i ⌝ }
 {
     point_of(work[i], work[1024 + i], work[2048 + i])
@@ -72,7 +72,7 @@ fn second_argument(p: Point) -> u32
 }
 
 pub fn put_point(work: &mut [u32], i: usize, p: Point)
-    requires { ⌜ (i < 1024) × (16384 ≤ length (now work)) ⌝ }
+    requires { ⌜ (i < 1024) × (3264 ≤ length (now work)) ⌝ }
     ensures { λ r. ⌜ now (work .exit) ≡ putPoint (now (work .entry)) i p ⌝ }
 {
     work[i] = kind_of(p);
@@ -82,21 +82,21 @@ pub fn put_point(work: &mut [u32], i: usize, p: Point)
 
 // The frame of function f, the number of its first point, and how many points it has.
 pub fn frame_at(work: &[u32], f: usize) -> u32
-    requires { ⌜ (f < 64) × (16384 ≤ length (now work)) ⌝ }
+    requires { ⌜ (f < 64) × (3264 ≤ length (now work)) ⌝ }
     ensures { λ r. ⌜ r ≡ frameAt (now (work .entry)) f ⌝ }
 {
     work[3072 + f]
 }
 
 pub fn base_at(work: &[u32], f: usize) -> usize
-    requires { ⌜ (f < 64) × (16384 ≤ length (now work)) ⌝ }
+    requires { ⌜ (f < 64) × (3264 ≤ length (now work)) ⌝ }
     ensures { λ r. ⌜ r ≡ baseAt (now (work .entry)) f ⌝ }
 {
     wide(work[3136 + f])
 }
 
 pub fn size_at(work: &[u32], f: usize) -> usize
-    requires { ⌜ (f < 64) × (16384 ≤ length (now work)) ⌝ }
+    requires { ⌜ (f < 64) × (3264 ≤ length (now work)) ⌝ }
     ensures { λ r. ⌜ r ≡ sizeAt (now (work .entry)) f ⌝ }
 {
     wide(work[3200 + f])
@@ -109,7 +109,7 @@ fn wide(x: u32) -> usize
 }
 
 pub fn put_func(work: &mut [u32], f: usize, frame: u32, base: u32, size: u32)
-    requires { ⌜ (f < 64) × (16384 ≤ length (now work)) ⌝ }
+    requires { ⌜ (f < 64) × (3264 ≤ length (now work)) ⌝ }
     ensures { λ r. ⌜ now (work .exit) ≡ putFunc (now (work .entry)) f frame base size ⌝ }
 {
     work[3072 + f] = frame;

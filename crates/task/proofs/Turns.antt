@@ -113,7 +113,7 @@ pub record Between (j : Judged) (text w₀ w : List ℕ) (at : Place) (tb : Tabl
   pub holds : Holds w tb
   pub stands : Standing text at
 
-pub between-first : (text w : List ℕ) (s a : ℕ) → 16384 ≤ length w → length text ≤ 32768 → 1 ≤ a → a ≤ length text → Between (afterStack text s a) text w w (record { n = 2; a = a }) (record { stack = s; funcs = 0; points = 0 })
+pub between-first : (text w : List ℕ) (s a : ℕ) → 3264 ≤ length w → length text ≤ 32768 → 1 ≤ a → a ≤ length text → Between (afterStack text s a) text w w (record { n = 2; a = a }) (record { stack = s; funcs = 0; points = 0 })
 unfolding funcsOf
 between-first text w s a h i k l = record {
   answer = refl;

@@ -28,7 +28,7 @@ pub record LineEnd (text : List ℕ) (a e : ℕ) : Type 0 where
 
 -- w holds the tables tb
 pub record Holds (w : List ℕ) (tb : Tables) : Type 0 where
-  pub room : 16384 ≤ length w
+  pub room : 3264 ≤ length w
   pub stacked : Stacked w (tb .funcs) (tb .points)
   pub funcs : tb .funcs ≤ 64
   pub points : tb .points ≤ 1024

@@ -199,7 +199,7 @@ fn read_func(text: &[u8], work: &mut [u32], tb: Tables, at: Place) -> Reached
 
 // The functions of a text, which begin on line 2 at byte a.
 fn read_funcs(text: &[u8], work: &mut [u32], stack: u32, a: usize) -> Read
-    requires { ⌜ (16384 ≤ length (now work)) × (length (now text) ≤ 32768) × (1 ≤ a) × (a ≤ length (now text)) ⌝ }
+    requires { ⌜ (3264 ≤ length (now work)) × (length (now text) ≤ 32768) × (1 ≤ a) × (a ≤ length (now text)) ⌝ }
     ensures { λ r. ⌜ readAs r (afterStack (now (text .entry)) stack a) (now (work .entry)) (now (work .exit)) ⌝ }
 {
     let mut at = Place { n: 2, a };
@@ -227,7 +227,7 @@ fn read_funcs(text: &[u8], work: &mut [u32], stack: u32, a: usize) -> Read
 
 // A whole text: its stack line, then its functions.
 pub fn read_task(text: &[u8], work: &mut [u32]) -> Read
-    requires { ⌜ (16384 ≤ length (now work)) × (length (now text) ≤ 32768) ⌝ }
+    requires { ⌜ (3264 ≤ length (now work)) × (length (now text) ≤ 32768) ⌝ }
     ensures { λ r. ⌜ readAs r (readText (now (text .entry))) (now (work .entry)) (now (work .exit)) ⌝ }
 {
     let b = line_end(text, 0);

@@ -37,7 +37,7 @@ ready {w} {s} {n} a l k =
         }
 
 -- a function of such tables
-pub ready-at : {w : List ℕ} {n m : ℕ} → Ready w n m → 16384 ≤ length w → (f : ℕ) → f < n → FuncAt w f (baseAt w f) (sizeAt w f)
+pub ready-at : {w : List ℕ} {n m : ℕ} → Ready w n m → 3264 ≤ length w → (f : ℕ) → f < n → FuncAt w f (baseAt w f) (sizeAt w f)
 ready-at {w} r l f h =
     record {
       low = omega (arith, r .few);

@@ -99,7 +99,7 @@ pub record FuncAt (w : List ℕ) (f b n : ℕ) : Type 0 where
   pub base : b ≡ baseAt w f
   pub size : n ≡ sizeAt w f
   pub within : b + n ≤ 1024
-  pub room : 16384 ≤ length w
+  pub room : 3264 ≤ length w
   pub ready : FuncReady (funcOf w f)
 
 -- no point generates anything

@@ -38,7 +38,7 @@ fn kill_of(x: Point) -> u64
 }
 
 fn set_kills(work: &[u32], base: usize, n: usize, kills: &mut [u64])
-    requires { ⌜ (base + n ≤ 1024) × (16384 ≤ length (now work)) × (n ≤ length (now kills))
+    requires { ⌜ (base + n ≤ 1024) × (3264 ≤ length (now work)) × (n ≤ length (now kills))
         × ((p : ℕ) → p < n → T (offsetFits 64 (pointAt (now work) (base + p)))) ⌝ }
     ensures { λ r. ⌜ ((p : ℕ) → p < n → Kills (pointAt (now (work .entry)) (base + p)) (item (now (kills .exit)) p)) ⌝ }
 {
@@ -77,7 +77,7 @@ fn has_load(set: u64, x: Point) -> bool
 
 // The first load whose offset is in its set: some walk reaches it with no store of the offset before.
 fn first_unstored(work: &[u32], base: usize, n: usize, sets: &[u64]) -> Found
-    requires { ⌜ (base + n ≤ 1024) × (16384 ≤ length (now work)) × (n ≤ length (now sets))
+    requires { ⌜ (base + n ≤ 1024) × (3264 ≤ length (now work)) × (n ≤ length (now sets))
         × ((p : ℕ) → p < n → T (offsetFits 64 (pointAt (now work) (base + p)))) ⌝ }
     ensures { λ r. ⌜ Search (λ p. has (item (now (sets .entry)) p) (loaded (pointAt (now (work .entry)) (base + p))) ≡ false) n r ⌝ }
 {
@@ -174,7 +174,7 @@ fn funcs_flow(
     sets: &mut [u64],
     state: &mut [u8],
 ) -> Flow
-    requires { ⌜ (16384 ≤ length (now work)) × Ready (now work) funcs points × NoGens (now gens) × Space (now kills) (now sets) (now state) ⌝ }
+    requires { ⌜ (3264 ≤ length (now work)) × Ready (now work) funcs points × NoGens (now gens) × Space (now kills) (now sets) (now state) ⌝ }
     ensures { λ r. ⌜ ((s : ℕ) → r ≡ taskFlow (taskOf (now (work .entry)) s funcs)) ⌝ }
 {
     let mut kept = Flow::Fine;
@@ -191,7 +191,7 @@ fn funcs_flow(
 
 // Refusals 11 and 13 of the task whose funcs functions and points points stand in the tables.
 pub fn flow_rows(work: &[u32], funcs: usize, points: usize) -> Flow
-    requires { ⌜ (16384 ≤ length (now work)) × Ready (now work) funcs points ⌝ }
+    requires { ⌜ (3264 ≤ length (now work)) × Ready (now work) funcs points ⌝ }
     ensures { λ r. ⌜ ((s : ℕ) → r ≡ taskFlow (taskOf (now (work .entry)) s funcs)) ⌝ }
 {
     let gens = [0u64; 256];
