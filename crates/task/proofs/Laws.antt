@@ -83,6 +83,12 @@ module _ (text : List ℕ) (a i : ℕ) (from : a ≤ i) (before : sameLine text 
     last = λ l m. before ∙ rw (drop-of-length-le text h) (lines-end (take (i - a) (drop a text)) (simp (length-take, length-drop) (omega arith)));
   }
 
+pub same-two : (text : List ℕ) (a i : ℕ) → a ≤ i → sameLine text a i → i + 1 < length text → (getD text i 0 ≡ 10 → ⊥) → (getD text (i + 1) 0 ≡ 10 → ⊥)
+    → sameLine text a (i + 2)
+same-two text a i from before h k m =
+    let e : i + 1 + 1 ≡ i + 2 = omega arith in
+    rw e at (same-more text a (i + 1) (omega arith) (same-more text a i from before (omega arith) k) h m)
+
 malformed : (n : ℕ) (p : Progress) → readLine n p Malformed ≡ stop (Form n)
 unfolding readLine
 malformed n start = refl

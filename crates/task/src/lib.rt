@@ -50,19 +50,28 @@ enum Reached {
     Refused(Refusal),
 }
 
-// The first line feed from byte a on, or the length of the text if there is none.
+// The first line feed from byte a on, or the length of the text if there is none. Two bytes a turn.
 fn line_end(text: &[u8], a: usize) -> usize
-    requires { ⌜ a ≤ length (now text) ⌝ }
+    requires { ⌜ (a ≤ length (now text)) × (length (now text) ≤ 32768) ⌝ }
     ensures { λ r. ⌜ LineEnd (now (text .entry)) a r ⌝ }
 {
     let mut i = a;
-    while i < text.len() {
+    while i + 1 < text.len() {
         if text[i] == b'\n' {
             return i;
         }
-        i += 1;
+        if text[i + 1] == b'\n' {
+            return i + 1;
+        }
+        i += 2;
     }
-    i
+    if text.len() <= i {
+        return i;
+    }
+    if text[i] == b'\n' {
+        return i;
+    }
+    i + 1
 }
 
 // The offset of a load or store is below the frame k.
