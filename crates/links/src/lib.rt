@@ -193,21 +193,13 @@ fn end_fits(points: usize, p: usize, x: Point) -> bool
     may_end(x)
 }
 
-// The line of point p of function f, whose first point has the number base.
-fn point_line(f: usize, base: usize, p: usize) -> u32
-    requires { ⌜ (f < 64) × (base + p < 1024) ⌝ }
-    ensures { λ r. ⌜ r ≡ 2 + 2 * f + base + 1 + p ⌝ }
-{
-    (2 + 2 * f + base + 1 + p) as u32
-}
-
 // 7 to 10 at point p of function f.
 fn link_row(work: &[u32], funcs: usize, f: usize, s: Span, p: usize) -> Verdict
     requires { ⌜ Settled (now work) funcs × (f < funcs) × (s ≡ spanAt (now work) f) × Held (now work) s × (p < s .size) ⌝ }
     ensures { λ r. ⌜ ((stack : ℕ) → r ≡ rowVerdict (linkRow (taskOf (now (work .entry)) stack funcs) f p)) ⌝ }
 {
     let x = tables::point_at(work, s.base + p);
-    let line = point_line(f, s.base, p);
+    let line = tables::point_line(f, s.base, p);
     if !callee_fits(funcs, f, callee_of(x)) {
         return Verdict::Refused(Refusal::Callee(line));
     }
@@ -281,14 +273,6 @@ fn mark_calls(work: &[u32], points: usize, marks: &mut [bool])
     }
 }
 
-// The line of function f, whose first point has the number base.
-fn func_line(f: usize, base: usize) -> u32
-    requires { ⌜ (f < 64) × (base ≤ 1024) ⌝ }
-    ensures { λ r. ⌜ r ≡ 2 + 2 * f + base ⌝ }
-{
-    (2 + 2 * f + base) as u32
-}
-
 // The first function from 1 on that has no mark.
 fn first_unmarked(work: &[u32], funcs: usize, marks: &[bool]) -> Verdict
     requires { ⌜ Settled (now work) funcs × (64 ≤ length (now marks)) × ((stack f : ℕ) → f < funcs → markOf (now marks) f ≡ isCalled (taskOf (now work) stack funcs) f) ⌝ }
@@ -297,7 +281,10 @@ fn first_unmarked(work: &[u32], funcs: usize, marks: &[bool]) -> Verdict
     let mut f = 1;
     while f < funcs {
         if !marks[f] {
-            return Verdict::Refused(Refusal::Uncalled(func_line(f, tables::base_at(work, f))));
+            return Verdict::Refused(Refusal::Uncalled(tables::func_line(
+                f,
+                tables::base_at(work, f),
+            )));
         }
         f += 1;
     }

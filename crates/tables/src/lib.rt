@@ -1,7 +1,7 @@
 // The tables of a decoded task in the working space: a point has a kind and two arguments, a function a frame, its first point and its
 // number of points. Functions and points are read and written here and nowhere else.
 ghost use mathlib.Core.Path.{_≡_};
-ghost use Prim.Native.Nat.{_+_, _<_, _≤_};
+ghost use Prim.Native.Nat.{_+_, _*_, _<_, _≤_};
 ghost use lib.ListN.{length};
 ghost use Rattle.tables.specs.Tables.{pointOf, pointAt, putPoint, kindOf, firstArgument, secondArgument, frameAt, baseAt, sizeAt, putFunc};
 use model::Point;
@@ -115,4 +115,20 @@ pub fn put_func(work: &mut [u32], f: usize, frame: u32, base: u32, size: u32)
     work[3072 + f] = frame;
     work[3136 + f] = base;
     work[3200 + f] = size;
+}
+
+// The line of function f, whose first point has the number base.
+pub fn func_line(f: usize, base: usize) -> u32
+    requires { ⌜ (f < 64) × (base ≤ 1024) ⌝ }
+    ensures { λ r. ⌜ r ≡ 2 + 2 * f + base ⌝ }
+{
+    (2 + 2 * f + base) as u32
+}
+
+// The line of point p of function f, whose first point has the number base.
+pub fn point_line(f: usize, base: usize, p: usize) -> u32
+    requires { ⌜ (f < 64) × (base + p < 1024) ⌝ }
+    ensures { λ r. ⌜ r ≡ 2 + 2 * f + base + 1 + p ⌝ }
+{
+    (2 + 2 * f + base + 1 + p) as u32
 }

@@ -91,23 +91,16 @@ fn first_unstored(work: &[u32], base: usize, n: usize, sets: &[u64]) -> Found
     Found::Nothing
 }
 
-fn point_line(f: usize, base: usize, p: usize) -> u32
-    requires { ⌜ (f < 64) × (base + p < 1024) ⌝ }
-    ensures { λ r. ⌜ r ≡ 2 + 2 * f + base + 1 + p ⌝ }
-{
-    (2 + 2 * f + base + 1 + p) as u32
-}
-
 // Refusals 11 and 13 in function f, by the marks and the sets of its n points, which stand from number base on.
 fn points_flow(work: &[u32], f: usize, base: usize, n: usize, sets: &[u64], state: &[u8]) -> Flow
     requires { ⌜ FuncAt (now work) f base n × (n ≤ length (now sets)) × (n ≤ length (now state)) × Answered (now work) f (now sets) (now state) ⌝ }
     ensures { λ r. ⌜ r ≡ flowIn (now (work .entry)) f ⌝ }
 {
     if let Found::At(p) = first_unseen(state, n) {
-        return Flow::Reach(Refusal::Unreachable(point_line(f, base, p)));
+        return Flow::Reach(Refusal::Unreachable(tables::point_line(f, base, p)));
     }
     if let Found::At(p) = first_unstored(work, base, n, sets) {
-        return Flow::Load(Refusal::Uninitialised(point_line(f, base, p)));
+        return Flow::Load(Refusal::Uninitialised(tables::point_line(f, base, p)));
     }
     Flow::Fine
 }

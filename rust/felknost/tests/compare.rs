@@ -1,8 +1,5 @@
 //! The proved check against the vectors and against the second implementation on generated texts.
 
-use std::fs;
-use std::path::{Path, PathBuf};
-
 use felknost::{check, Refused};
 use generate::{Case, Rng};
 use second::WORK_MIN;
@@ -12,16 +9,6 @@ const VALID: u64 = 40_000;
 const NEAR: u64 = 60_000;
 const DAMAGED: u64 = 100_000;
 const BYTES: u64 = 20_000;
-
-fn folder(name: &str) -> PathBuf {
-    Path::new(env!("CARGO_MANIFEST_DIR"))
-        .join("../../vectors")
-        .join(name)
-}
-
-fn read(path: &Path) -> Vec<u8> {
-    fs::read(path).unwrap_or_else(|error| panic!("{}: {error}", path.display()))
-}
 
 fn wanted(text: &[u8]) -> Result<(), Refused> {
     let verdict = second::check(text, WORK_MIN);
@@ -47,34 +34,21 @@ fn compare(cases: impl Iterator<Item = Case>) -> [u64; 23] {
 
 #[test]
 fn vectors_refused() {
-    let expected = String::from_utf8(read(&folder("refused").join("expected"))).expect("text");
-    let mut count = 0;
-    for line in expected.lines() {
-        let words: Vec<&str> = line.split(' ').collect();
-        let text = read(&folder("refused").join(format!("{}.task", words[0])));
-        let refused = Refused {
-            code: words[1].parse().expect("a code"),
-            place: words[2].parse().expect("a place"),
-        };
-        assert_eq!(check(&text), Err(refused), "case {}", words[0]);
-        count += 1;
+    let cases = vectors::refused();
+    assert_eq!(cases.len(), 160);
+    for (name, text, code, place) in cases {
+        assert_eq!(check(&text), Err(Refused { code, place }), "case {name}");
     }
-    assert_eq!(count, 160);
 }
 
 #[test]
 fn vectors_accepted() {
-    let mut count = 0;
-    for name in ["report", "run"] {
-        for entry in fs::read_dir(folder(name)).expect("the folder is there") {
-            let path = entry.expect("the entry is readable").path();
-            if path.extension().is_some_and(|end| end == "task") {
-                assert_eq!(check(&read(&path)), Ok(()), "{}", path.display());
-                count += 1;
-            }
-        }
+    let mut tasks = vectors::tasks("report");
+    tasks.extend(vectors::tasks("run"));
+    assert_eq!(tasks.len(), 155);
+    for path in tasks {
+        assert_eq!(check(&vectors::read(&path)), Ok(()), "{}", path.display());
     }
-    assert_eq!(count, 155);
 }
 
 #[test]

@@ -1,34 +1,7 @@
 //! Every case of the vectors folder against this implementation.
 
-use std::fs;
-use std::path::{Path, PathBuf};
-
 use second::{check, report, run, RunResult, Verdict, WORK_MIN};
-
-fn folder(name: &str) -> PathBuf {
-    Path::new(env!("CARGO_MANIFEST_DIR"))
-        .join("../../vectors")
-        .join(name)
-}
-
-fn read(path: &Path) -> Vec<u8> {
-    fs::read(path).unwrap_or_else(|error| panic!("{}: {error}", path.display()))
-}
-
-fn read_text(path: &Path) -> String {
-    String::from_utf8(read(path)).expect("the file is text")
-}
-
-/// The task files of a folder, in order.
-fn tasks(name: &str) -> Vec<PathBuf> {
-    let entries = fs::read_dir(folder(name)).expect("the folder is there");
-    let mut paths: Vec<PathBuf> = entries
-        .map(|entry| entry.expect("the entry is readable").path())
-        .filter(|path| path.extension().is_some_and(|end| end == "task"))
-        .collect();
-    paths.sort();
-    paths
-}
+use vectors::{read, read_text, tasks};
 
 /// The numbers on the line that begins with `name`.
 fn numbers(text: &str, name: &str) -> Vec<u64> {
@@ -51,24 +24,17 @@ fn blocks(text: &str, name: &str) -> Vec<u32> {
 
 #[test]
 fn refused() {
-    let expected = read_text(&folder("refused").join("expected"));
-    let mut count = 0;
-    for line in expected.lines() {
-        let words: Vec<&str> = line.split(' ').collect();
-        let text = read(&folder("refused").join(format!("{}.task", words[0])));
-        let verdict = Verdict {
-            code: words[1].parse().expect("a code"),
-            place: words[2].parse().expect("a place"),
-        };
-        assert_eq!(check(&text, WORK_MIN), verdict, "case {}", words[0]);
+    let cases = vectors::refused();
+    assert_eq!(cases.len(), tasks("refused").len());
+    assert!(!cases.is_empty());
+    for (name, text, code, place) in cases {
+        let verdict = Verdict { code, place };
+        assert_eq!(check(&text, WORK_MIN), verdict, "case {name}");
         let mut out = [7; 64];
         let all = report(&text, WORK_MIN, &mut out);
-        assert_eq!(all, (verdict.code, verdict.place, 0), "case {}", words[0]);
+        assert_eq!(all, (code, place, 0), "case {name}");
         assert_eq!(out, [7; 64]);
-        count += 1;
     }
-    assert_eq!(count, tasks("refused").len());
-    assert!(count > 0);
 }
 
 #[test]

@@ -1,0 +1,49 @@
+//! The cases of the vectors folder, for tests.
+
+#![forbid(unsafe_code)]
+#![warn(missing_docs)]
+
+use std::fs;
+use std::path::{Path, PathBuf};
+
+/// A folder of cases: `refused`, `report` or `run`.
+pub fn folder(name: &str) -> PathBuf {
+    Path::new(env!("CARGO_MANIFEST_DIR"))
+        .join("../../vectors")
+        .join(name)
+}
+
+/// The bytes of a file. Panics with the file's name where it cannot be read.
+pub fn read(path: &Path) -> Vec<u8> {
+    fs::read(path).unwrap_or_else(|error| panic!("{}: {error}", path.display()))
+}
+
+/// The text of a file.
+pub fn read_text(path: &Path) -> String {
+    String::from_utf8(read(path)).expect("the file is text")
+}
+
+/// The task files of a folder, in order.
+pub fn tasks(name: &str) -> Vec<PathBuf> {
+    let entries = fs::read_dir(folder(name)).expect("the folder is there");
+    let mut paths: Vec<PathBuf> = entries
+        .map(|entry| entry.expect("the entry is readable").path())
+        .filter(|path| path.extension().is_some_and(|end| end == "task"))
+        .collect();
+    paths.sort();
+    paths
+}
+
+/// The refused cases: the name, the text, the code and the place.
+pub fn refused() -> Vec<(String, Vec<u8>, u32, u32)> {
+    read_text(&folder("refused").join("expected"))
+        .lines()
+        .map(|line| {
+            let words: Vec<&str> = line.split(' ').collect();
+            let text = read(&folder("refused").join(format!("{}.task", words[0])));
+            let code = words[1].parse().expect("a code");
+            let place = words[2].parse().expect("a place");
+            (words[0].to_string(), text, code, place)
+        })
+        .collect()
+}
