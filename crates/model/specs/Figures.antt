@@ -40,7 +40,7 @@ callees x = joined (λ p. theCalled (called p)) (x .points)
 unfoldable pub callFree : Func → Bool
 callFree x = someWalk x (isCall x) (returns x) 0
 
--- the longest displacement D and the shortest displacement d, to a depth of n calls
+-- D and d: the longest and the shortest displacement, how far calling f pushes the cached blocks of its callers; to a depth of n calls
 unfoldable pub longestTo : Task → ℕ → ℕ → ℕ
 longestTo t zero f = 0
 longestTo t (suc n) f = func t f .frame + largest (longestTo t n) (callees (func t f))
@@ -58,7 +58,7 @@ longest t f = longestTo t (count t) f
 unfoldable pub shortest : Task → ℕ → ℕ
 shortest t f = shortestTo t (count t) f
 
--- fill: what the ensure after a call of g may fill
+-- fill: the worst-case fill of the ensure after a call of g
 abbrev pub fillAfter : Task → ℕ → Option ℕ → ℕ
 fillAfter t k none = 0
 fillAfter t k (some g) = k - (t .stack - longest t g)
@@ -76,7 +76,7 @@ unfoldable pub after : Task → ℕ → ℕ → ℕ → ℕ
 after t f p h =
     if isEnsure (func t f) p then max h (func t f .frame) else cutBy t h (called (point (func t f) p))
 
--- high: the largest occupancy at p over all walks from point 0, entry e being the largest occupancy where f is called
+-- high: the maximum occupancy at p over all walks from point 0, e being the maximum occupancy where f is called
 unfoldable pub highFrom : Task → ℕ → ℕ → ℕ → ℕ
 highFrom t f e p =
     pred
@@ -96,7 +96,7 @@ callPoints x f = select (calls x f) (upTo (size x))
 unfoldable pub overCalls : Task → ℕ → (ℕ → ℕ → ℕ) → ℕ
 overCalls t f figure = largest (λ h. largest (figure h) (callPoints (func t h) f)) (upTo (count t))
 
--- E: the largest occupancy where f is called; 0 for function 0. To a depth of n callers, and whole
+-- E: the maximum occupancy where f is called; 0 for function 0. To a depth of n callers, and whole
 unfoldable pub entryTo : Task → ℕ → ℕ → ℕ
 entryTo t zero f = 0
 entryTo t (suc n) f = overCalls t f (λ h p. highFrom t h (entryTo t n h) p)
@@ -107,7 +107,7 @@ entry t f = entryTo t f f
 unfoldable pub high : Task → ℕ → ℕ → ℕ
 high t f p = highFrom t f (entry t f) p
 
--- spill: what entering f may spill
+-- spill: the worst-case spill of entering f
 unfoldable pub spill : Task → ℕ → ℕ
 spill t f = entry t f + func t f .frame - t .stack
 
@@ -115,7 +115,7 @@ spill t f = entry t f + func t f .frame - t .stack
 abbrev pub kept : Task → ℕ → ℕ → ℕ
 kept t f p = func t f .frame - fill t f p
 
--- chain: what the callers' first ensures may have to fill above their fill, summed along the dearest chain of calls
+-- chain: the delayed fills of the callers, what their first ensures may have to fill above their fill, along the dearest chain of calls
 unfoldable pub chainTo : Task → ℕ → ℕ → ℕ
 chainTo t zero f = 0
 chainTo t (suc n) f = overCalls t f (λ h p. chainTo t n h + kept t h (suc p))
@@ -130,7 +130,8 @@ firstEnsure x e p = someWalk x (isEnsure x) (λ q. eqb e q && isEnsure x q) p
 unfoldable pub keptNext : Task → ℕ → ℕ → ℕ
 keptNext t f p = largest (kept t f) (select (λ e. firstEnsure (func t f) e p) (upTo (size (func t f))))
 
--- the four parts of the cost of a preemption at a point, and the cost
+-- the preemption cost (cache-related preemption delay, in blocks) and its parts: save and reload at the preemption itself, later and chain the
+-- delayed fills of the running frame and of its callers
 unfoldable pub save : Task → ℕ → ℕ → ℕ
 save t f p = high t f p - dead (func t f) p
 

@@ -10,7 +10,7 @@ use Rattle.model.specs.declared.Point.the-variants.{Load, Store, Call, E
 use Rattle.model.specs.Basic.{if_then_else_, any, select, largest, upTo}
 use Rattle.model.specs.Task.{Func, size, point}
 
--- where point p, which is x, leads: over a call to the next point, as from most
+-- leads: the successors of point p, which is x, in the control-flow graph of its function. A call is stepped over
 abbrev pub leadsFrom : ℕ → Point → List ℕ
 leadsFrom p (Load o) = suc p ∷ []
 leadsFrom p (Store o) = suc p ∷ []
@@ -101,7 +101,7 @@ returns x p = isReturn (point x p)
 abbrev pub never : ℕ → Bool
 never p = false
 
--- a walk from p to q along the leads that passes no point of the kind stop before q
+-- a walk: a path from p to q in that graph, of any length, that passes no point of the kind stop before q
 pub data Walk (next : ℕ → List ℕ) (stop : ℕ → Bool) : ℕ → ℕ → Type 0 where
   here : {p : ℕ} → Walk next stop p p
   step : {p q r : ℕ} → T (not (stop p)) → List·Memᴰ q (next p) → Walk next stop q r → Walk next stop p r

@@ -2,7 +2,7 @@
 --   Lists, Firsts            laws of the list functions of the model
 --   Walks, Arrival           the computed searches are about walks of every length
 --   Reading, Accepted, Links what acceptance says of a task
---   Places                   the place of a refusal fits 16 bits
+--   Places, Decimal          the place of a refusal fits 16 bits; numbers in decimal
 --   Figures, Between, Rules  each figure, within a function, between functions, and along a lead
 pub mod Lists
 pub mod Firsts
@@ -12,6 +12,7 @@ pub mod Reading
 pub mod Accepted
 pub mod Links
 pub mod Places
+pub mod Decimal
 pub mod Figures
 pub mod Between
 pub mod Rules
