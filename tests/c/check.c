@@ -56,6 +56,7 @@ static void refusals(void)
     text_gives("no line feed", "(stack 5)\n(func 2\n  (return)\n)", 2, 4);
     text_gives("missing line", "(stack 5)\n(func 2\n", 2, 3);
     text_gives("leading zero", "(stack 05)\n(func 2\n  (return)\n)\n", 2, 1);
+    text_gives("four digits", "(stack 9999)\n", 3, 1);
     text_gives("five digits", "(stack 5)\n(func 10000\n  (return)\n)\n", 2, 2);
     text_gives("stack 0", "(stack 0)\n", 3, 1);
     text_gives("stack 65", "(stack 65)\n", 3, 1);

@@ -16,8 +16,8 @@ use Rattle.model.specs.declared.Line.the-variants.{Stack, Func, At, Malformed}
 use Rattle.words.specs.Answers.{single, pair}
 use Rattle.words.specs.declared.Single.the-variants as single-variants
 use Rattle.words.specs.declared.Pair.the-variants as pair-variants
-use Rattle.words.proofs.Laws.{starts-off, single-is, single-no, pair-are, pair-no}
-use Rattle.line.specs.Forms.{headForm, closeForm}
+use Rattle.words.proofs.Laws.{starts-off, starts-longer, single-is, single-no, pair-are, pair-no}
+use Rattle.line.specs.Forms.{ensureForm, eitherForm, eForm, headForm, closeForm}
 
 -- the line that an answer makes
 
@@ -109,10 +109,31 @@ point-other s l t c e g r =
     )
     at (point-by s 3 (omega arith))
 
--- a point line begins with a space
+-- the letter after the e
+pub e-ensure : (s : List ℕ) → getD s 4 0 ≡ 110 → ensureForm s ≡ eForm s
+unfolding twoNumbers
+e-ensure s e = rw (starts-off (bytes "  (either ") s 4 (omega arith) (omega arith))
+
+pub e-either : (s : List ℕ) → (getD s 4 0 ≡ 110 → ⊥) → eitherForm s ≡ eForm s
+unfolding oneNumber
+e-either s n = rw (starts-off (bytes "  (ensure ") s 4 (omega arith) (omega arith))
+
+-- a point line begins with two spaces and a bracket
+pub point-out : (s : List ℕ) → starts (bytes "  (") s ≡ false → Malformed ≡ pointForm s
+unfolding pointForm oneNumber twoNumbers
+point-out s e =
+    rw (
+      starts-longer (bytes "  (") (bytes "load ") s e,
+      starts-longer (bytes "  (") (bytes "store ") s e,
+      starts-longer (bytes "  (") (bytes "call ") s e,
+      starts-longer (bytes "  (") (bytes "ensure ") s e,
+      starts-longer (bytes "  (") (bytes "goto ") s e,
+      starts-longer (bytes "  (") (bytes "either ") s e,
+      starts-longer (bytes "  (") (bytes "return)") s e,
+    )
+
 point-none : (s : List ℕ) → (getD s 0 0 ≡ 32 → ⊥) → pointForm s ≡ Malformed
-unfolding only also
-point-none s n = sym (rw (ne-eqb 32 (getD s 0 0) (omega arith)) at (point-by s 0 (omega arith)))
+point-none s n = sym (point-out s (starts-off (bytes "  (") s 0 (omega arith) (omega arith)))
 
 -- the stack and func forms whose word has the byte b at the place i, or else l
 abbrev pub headBy : ℕ → ℕ → List ℕ → Line → Line
@@ -137,16 +158,16 @@ head-other s t f =
 
 -- which forms a line can have, by its length and its first byte
 
-pub line-short : (s : List ℕ) → length s < 4 → closeForm s ≡ lineOf s
+pub line-short : (s : List ℕ) → length s < 5 → closeForm s ≡ lineOf s
 unfolding lineOf only also
 line-short s h =
-    let e : getD s 3 0 ≡ 0 = List·getD-eq-default s 0 (omega arith) in
-    rw (← point-letter s 0 e) (rw e at (head-by s (closeForm s) 3 (omega arith)))
+    let e : getD s 4 0 ≡ 0 = List·getD-eq-default s 0 (omega arith) in
+    rw (← (rw e at (point-by s 4 (omega arith)))) (rw e at (head-by s (closeForm s) 4 (omega arith)))
 
 pub line-point : (s : List ℕ) → getD s 0 0 ≡ 32 → pointForm s ≡ lineOf s
 unfolding lineOf only also
 line-point s e = rw (starts-off (bytes ")") s 0 (omega arith) (omega arith)) (rw e at (head-by s (pointForm s) 0 (omega arith)))
 
-pub line-head : (s : List ℕ) → 4 ≤ length s → (getD s 0 0 ≡ 32 → ⊥) → headForm s ≡ lineOf s
+pub line-head : (s : List ℕ) → 5 ≤ length s → (getD s 0 0 ≡ 32 → ⊥) → headForm s ≡ lineOf s
 unfolding lineOf
 line-head s h n = rw (point-none s n, lt-leb (length s) 1 (omega arith), and-false (starts (bytes ")") s))

@@ -22,9 +22,12 @@ gotoForm s = orOne (oneNumber (bytes "  (goto ") (bytes ")") s) (λ p. At (Goto 
 abbrev pub eitherForm : List ℕ → Line
 eitherForm s = orTwo (twoNumbers (bytes "  (either ") (bytes " ") (bytes ")") s) (λ p q. At (Either p q)) Malformed
 
--- ensure, or else either
 abbrev pub ensureForm : List ℕ → Line
-ensureForm s = orOne (oneNumber (bytes "  (ensure ") (bytes ")") s) (λ k. At (Ensure k)) (eitherForm s)
+ensureForm s = orOne (oneNumber (bytes "  (ensure ") (bytes ")") s) (λ k. At (Ensure k)) Malformed
+
+-- ensure, or else either
+abbrev pub eForm : List ℕ → Line
+eForm s = orOne (oneNumber (bytes "  (ensure ") (bytes ")") s) (λ k. At (Ensure k)) (eitherForm s)
 
 abbrev pub returnForm : List ℕ → Line
 returnForm s = if same (bytes "  (return)") s then At Return else Malformed

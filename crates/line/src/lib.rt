@@ -7,7 +7,7 @@ ghost use mathlib.Core.Path.{_≡_};
 ghost use Prim.Native.Nat.{_≤_};
 ghost use lib.ListN.{length};
 ghost use Rattle.model.specs.Text.{pointForm, lineOf};
-ghost use Rattle.line.specs.Forms.{loadForm, storeForm, callForm, ensureForm, gotoForm, eitherForm, returnForm, stackForm, funcForm, headForm, closeForm};
+ghost use Rattle.line.specs.Forms.{loadForm, storeForm, callForm, ensureForm, eitherForm, eForm, gotoForm, returnForm, stackForm, funcForm, headForm, closeForm};
 
 fn load_line(s: &[u8]) -> Line
     ensures { λ r. ⌜ r ≡ loadForm (now (s .entry)) ⌝ }
@@ -36,12 +36,11 @@ fn call_line(s: &[u8]) -> Line
     Line::At(Point::Call(n))
 }
 
-// An ensure line, or else an either line.
 fn ensure_line(s: &[u8]) -> Line
     ensures { λ r. ⌜ r ≡ ensureForm (now (s .entry)) ⌝ }
 {
     let Single::Is(n) = words::one(b"  (ensure ", b")", s) else {
-        return either_line(s);
+        return Line::Malformed;
     };
     Line::At(Point::Ensure(n))
 }
@@ -53,6 +52,18 @@ fn either_line(s: &[u8]) -> Line
         return Line::Malformed;
     };
     Line::At(Point::Either(p, q))
+}
+
+// An ensure or an either line: the letter after the e picks the form.
+fn e_line(s: &[u8]) -> Line
+    requires { ⌜ 5 ≤ length (now s) ⌝ }
+    ensures { λ r. ⌜ r ≡ eForm (now (s .entry)) ⌝ }
+{
+    if s[4] == b'n' {
+        ensure_line(s)
+    } else {
+        either_line(s)
+    }
 }
 
 fn goto_line(s: &[u8]) -> Line
@@ -76,15 +87,18 @@ fn return_line(s: &[u8]) -> Line
 
 // A point line: the letter after the two spaces and the bracket picks the form.
 fn point_line(s: &[u8]) -> Line
-    requires { ⌜ 4 ≤ length (now s) ⌝ }
+    requires { ⌜ 5 ≤ length (now s) ⌝ }
     ensures { λ r. ⌜ r ≡ pointForm (now (s .entry)) ⌝ }
 {
+    if !words::starts(b"  (", s) {
+        return Line::Malformed;
+    }
     let b = s[3];
     match b {
         b'l' => load_line(s),
         b's' => store_line(s),
         b'c' => call_line(s),
-        b'e' => ensure_line(s),
+        b'e' => e_line(s),
         b'g' => goto_line(s),
         b'r' => return_line(s),
         _ => Line::Malformed,
@@ -111,7 +125,7 @@ fn func_line(s: &[u8]) -> Line
 
 // A stack or a func line: the letter after the bracket picks the form.
 fn head_line(s: &[u8]) -> Line
-    requires { ⌜ 4 ≤ length (now s) ⌝ }
+    requires { ⌜ 5 ≤ length (now s) ⌝ }
     ensures { λ r. ⌜ r ≡ headForm (now (s .entry)) ⌝ }
 {
     let b = s[1];
@@ -136,7 +150,7 @@ fn close_line(s: &[u8]) -> Line
 pub fn read_line(s: &[u8]) -> Line
     ensures { λ r. ⌜ r ≡ lineOf (now (s .entry)) ⌝ }
 {
-    if s.len() < 4 {
+    if s.len() < 5 {
         return close_line(s);
     }
     if s[0] == b' ' {

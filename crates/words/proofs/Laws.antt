@@ -1,26 +1,27 @@
 -- Laws of the definitions of model that a reader of words and numbers uses.
-use Prim.Native.Nat.{ℕ, zero, suc, _+_, _-_, _*_, _^_, _≤_, _<_, min}
+use Prim.Native.Nat.{ℕ, zero, suc, _+_, _-_, _*_, _%_, _^_, _≤_, _<_, min}
 use mathlib.Core.Path.{_≡_, refl, sym, _∙_}
-use mathlib.Core.Bool.{Bool, true, false, and-true, and-false}
+use mathlib.Core.Bool.{Bool, true, false, _&&_, and-true, and-false}
 use mathlib.Core.List.{List, [], _∷_, _++_}
 use mathlib.Core.Option.{Option, none, some}
 use native.Mathlib.Numerals.{add-one, unary-clauses}
 use native.Mathlib.Nat.{pow-succ', mul-assoc, mul-le-mul-right, pow-le-pow-right}
-use native.Mathlib.Decide.{decLe}
+use native.Mathlib.Decide.{decLe, ℕ-discrete}
 use native.Mathlib.Omega.{arith}
-use lib.ListN.{length, take, drop, getD, drop-of-length-le}
+use lib.ListN.{length, take, drop, getD, drop-of-length-le, length-drop}
 use lib.Seq.{drop-cons, take-suc}
 use lib.Dec.{eqb, leb}
 use borrow.Author.Tests.{eq-eqb, ne-eqb, le-leb, lt-leb}
 use borrow.Rule.Slice.PartAt.{part-to-end}
 use Rattle.model.specs.Basic.{if_then_else_}
 use Rattle.model.specs.Text.{starts, same, isDigit, digits, value, isNumber, numberOf, numberThen, oneNumber, withFirst, numbersThen, twoNumbers}
+use Rattle.words.specs.declared.Num.{Num}
 use Rattle.words.specs.declared.Num.the-variants.{Value, Nothing}
 use Rattle.words.specs.declared.Single.{Single}
 use Rattle.words.specs.declared.Single.the-variants as single-variants
 use Rattle.words.specs.declared.Pair.{Pair}
 use Rattle.words.specs.declared.Pair.the-variants as pair-variants
-use Rattle.words.specs.Answers.{numOf, single, pair}
+use Rattle.words.specs.Answers.{numOf, exact, single, pair}
 
 -- the part of s from i on, as a function that is lent `&s[i..]` sees it
 abbrev pub tail : ℕ → List ℕ → List ℕ
@@ -51,6 +52,17 @@ starts-short [] s h = absurd (omega arith)
 starts-short (a ∷ w) [] h = refl
 starts-short (a ∷ w) (b ∷ s) h = rw (starts-short w s (omega arith)) (and-false (eqb a b))
 
+-- nor does it begin with a longer word
+and-also : (t : Bool) {x y : Bool} → (x ≡ false → y ≡ false) → t && x ≡ false → t && y ≡ false
+and-also true f e = f e
+and-also false f e = refl
+
+pub starts-longer : (p w s : List ℕ) → starts p s ≡ false → starts (p ++ w) s ≡ false
+unfolding starts
+starts-longer [] w s e = let z : _≡_ {A = ℕ} 0 1 = cc in absurd (omega arith)
+starts-longer (a ∷ p) w [] e = refl
+starts-longer (a ∷ p) w (b ∷ s) e = and-also (eqb a b) (starts-longer p w s) e
+
 pub starts-fits : (w s : List ℕ) → true ≡ starts w s → length w ≤ length s
 starts-fits w s e =
     elim (decLe (length w) (length s)) [
@@ -58,11 +70,16 @@ starts-fits w s e =
       | no h ↦ let z = e ∙ starts-short w s (omega arith) in let y : _≡_ {A = ℕ} 0 1 = cc in omega arith
     ]
 
-pub starts-more :
-    (w s : List ℕ) (i : ℕ) → i < length w → i < length s → getD w i 0 ≡ getD s i 0
-    → starts (drop i w) (drop i s) ≡ starts (drop (i + 1) w) (drop (i + 1) s)
+pub starts-before :
+    (w s : List ℕ) (i j : ℕ) → i ≡ j + 1 → j < length w → j < length s → getD w j 0 ≡ getD s j 0
+    → starts (drop i w) (drop i s) ≡ starts (drop j w) (drop j s)
 unfolding starts
-starts-more w s i h k e = rw (add-one, drop-cons w i 0, drop-cons s i 0, eq-eqb _ _ e)
+starts-before w s i j n h k e = rw (n, add-one, drop-cons w j 0, drop-cons s j 0, eq-eqb (getD w j 0) (getD s j 0) e)
+
+pub starts-differ :
+    (w s : List ℕ) (i : ℕ) → i < length w → i < length s → (getD w i 0 ≡ getD s i 0 → ⊥) → starts (drop i w) (drop i s) ≡ false
+unfolding starts
+starts-differ w s i h k n = rw (drop-cons w i 0, drop-cons s i 0, ne-eqb (getD w i 0) (getD s i 0) n)
 
 pub starts-end : (w s : List ℕ) (i : ℕ) → length w ≤ i → starts (drop i w) (drop i s) ≡ true
 unfolding starts
@@ -74,28 +91,52 @@ same-long w s h = rw (lt-leb (length s) (length w) h) (sym (and-false (starts w 
 pub same-starts : (w s : List ℕ) → length s ≤ length w → starts w s ≡ same w s
 same-starts w s h = rw (le-leb (length s) (length w) h) (sym (and-true (starts w s)))
 
+-- a text of another length is not the word
+same-size : (w s : List ℕ) → (length s ≡ length w → ⊥) → same w s ≡ false
+same-size w s n =
+    elim (decLe (length s) (length w)) [
+      | yes h ↦ rw (starts-short w s (omega arith))
+      | no h ↦ rw (lt-leb (length s) (length w) (omega arith)) (and-false (starts w s))
+    ]
+
 -- digits
+
+-- the byte b as `digit` answers it: d is its value, or more than 9
+digit-not : (b d : ℕ) → (d + 48) % 2 ^ 32 ≡ b → d < 2 ^ 32 → 9 < d → isDigit b ≡ false
+digit-not b d e f h =
+    elim (decLe 48 b) [
+      | yes k ↦ rw (lt-leb b 57 (omega arith)) (and-false (leb 48 b))
+      | no k ↦ rw (lt-leb 48 b (omega arith))
+    ]
 
 pub digits-end : (s : List ℕ) (i : ℕ) → length s ≤ i → digits (drop i s) ≡ 0
 unfolding digits
 digits-end s i h = rw (drop-of-length-le s h)
 
-pub digits-low : (s : List ℕ) (i : ℕ) → i < length s → getD s i 0 < 48 → digits (drop i s) ≡ 0
-unfolding digits
-digits-low s i h k = rw (drop-cons s i 0, lt-leb 48 (getD s i 0) k)
+module _ (s : List ℕ) (i d : ℕ) (h : i < length s) (e : (d + 48) % 2 ^ 32 ≡ getD s i 0) where
+  pub digits-stop : d < 2 ^ 32 → 9 < d → digits (drop i s) ≡ 0
+  unfolding digits
+  digits-stop f k = rw (drop-cons s i 0, digit-not (getD s i 0) d e f k)
 
-pub digits-high : (s : List ℕ) (i : ℕ) → i < length s → 57 < getD s i 0 → digits (drop i s) ≡ 0
-unfolding digits
-digits-high s i h k = rw (drop-cons s i 0, le-leb 48 (getD s i 0) (omega arith), lt-leb (getD s i 0) 57 k)
-
-pub digits-more : (s : List ℕ) (i : ℕ) → i < length s → 48 ≤ getD s i 0 → getD s i 0 ≤ 57 → digits (drop i s) ≡ 1 + digits (drop (i + 1) s)
-unfolding digits
-digits-more s i h j k = rw (add-one, drop-cons s i 0, le-leb 48 (getD s i 0) j, le-leb (getD s i 0) 57 k) (omega arith)
+  pub digits-more : d ≤ 9 → digits (drop i s) ≡ 1 + digits (drop (i + 1) s)
+  unfolding digits
+  digits-more k = rw (add-one, drop-cons s i 0, le-leb 48 (getD s i 0) (omega arith), le-leb (getD s i 0) 57 (omega arith)) (omega arith)
 
 pub digits-fit : (s : List ℕ) → digits s ≤ length s
 unfolding digits
 digits-fit [] = omega arith
 digits-fit (b ∷ s) = either-way (λ (n : ℕ). n ≤ suc (length s)) (isDigit b) (omega (arith, digits-fit s)) (omega arith)
+
+-- no digit follows the digits
+after-first : (b : ℕ) (s : List ℕ) (t : Bool) → isDigit b ≡ t → digits (drop (digits s) s) ≡ 0 → digits (drop (digits (b ∷ s)) (b ∷ s)) ≡ 0
+unfolding digits
+after-first b s true e h = rw e h
+after-first b s false e h = rw (e, e)
+
+pub digits-after : (s : List ℕ) → digits (drop (digits s) s) ≡ 0
+unfolding digits
+digits-after [] = refl
+digits-after (b ∷ s) = after-first b s (isDigit b) refl (digits-after s)
 
 -- values
 
@@ -104,8 +145,14 @@ unfolding value
 value-snoc a [] d = refl
 value-snoc a (b ∷ l) d = value-snoc (a * 10 + (b - 48)) l d
 
-pub value-more : (s : List ℕ) (i : ℕ) → i < length s → value 0 (take i s) * 10 + (getD s i 0 - 48) ≡ value 0 (take (i + 1) s)
-value-more s i h = rw (add-one, take-suc s i 0) (sym (value-snoc 0 (take i s) (getD s i 0)))
+pub value-more :
+    (s : List ℕ) (i d : ℕ) → i < length s → (d + 48) % 2 ^ 32 ≡ getD s i 0 → d ≤ 9 → value 0 (take i s) * 10 + d ≡ value 0 (take (i + 1) s)
+value-more s i d h e k =
+    rw (add-one, take-suc s i 0) (omega (arith, value-snoc 0 (take i s) (getD s i 0)))
+
+pub value-first : (s : List ℕ) (d : ℕ) → 0 < length s → (d + 48) % 2 ^ 32 ≡ getD s 0 0 → d ≤ 9 → d ≡ value 0 (take 1 s)
+unfolding value
+value-first s d h e k = omega (arith, value-more s 0 d h e k)
 
 -- the first of some digits is one, and the others follow it
 digit-first : (b : ℕ) (s : List ℕ) (n : ℕ) → suc n ≤ digits (b ∷ s) → (b ≤ 57) × (n ≤ digits s)
@@ -131,30 +178,37 @@ value-below a (suc n) (b ∷ s) h =
 pub value-small : (n : ℕ) (s : List ℕ) → n ≤ digits s → n ≤ 4 → value 0 (take n s) < 10000
 value-small n s h k = omega (arith, value-below 0 n s h, pow-le-pow-right {n = 10} (omega arith) {i = n} {j = 4} k)
 
--- numbers, by the count n of digits, five standing for more
+-- a number has one to four digits
 
-module _ (s : List ℕ) (n : ℕ) (e : n ≡ min 5 (digits s)) where
-  pub num-none : n ≡ 0 → Nothing ≡ numOf s
-  unfolding numOf
-  num-none z = let d : digits s ≡ 0 = omega arith in rw d
+number-none : (s : List ℕ) → digits s ≡ 0 → isNumber s ≡ false
+number-none s d = rw d
 
-  pub num-long : 4 < n → Nothing ≡ numOf s
-  unfolding numOf
-  num-long h = rw (ne-eqb (digits s) 1 (omega arith), le-leb 2 (digits s) (omega arith), lt-leb (digits s) 4 (omega arith))
+number-long : (s : List ℕ) → 4 < digits s → isNumber s ≡ false
+number-long s h = rw (ne-eqb (digits s) 1 (omega arith), le-leb 2 (digits s) (omega arith), lt-leb (digits s) 4 h)
 
-  pub num-zero : 2 ≤ n → n ≤ 4 → getD s 0 0 ≡ 48 → Nothing ≡ numOf s
-  unfolding numOf
-  num-zero h k z = rw (ne-eqb (digits s) 1 (omega arith), le-leb 2 (digits s) (omega arith), le-leb (digits s) 4 (omega arith), z)
+-- a number of k digits
 
-  pub num-one : (v : ℕ) → v ≡ value 0 (take n s) → n ≡ 1 → Value v n ≡ numOf s
-  unfolding numOf
-  num-one v t z = let d : digits s ≡ 1 = omega arith in rw (t, z, d)
+module _ (k : ℕ) (s : List ℕ) where
+  pub exact-other : (digits s ≡ k → ⊥) → single-variants.No ≡ single (exact k s)
+  unfolding exact
+  exact-other n = rw (ne-eqb (digits s) k n, and-false (isNumber s))
 
-  pub num-many : (v : ℕ) → v ≡ value 0 (take n s) → 2 ≤ n → n ≤ 4 → (getD s 0 0 ≡ 48 → ⊥) → Value v n ≡ numOf s
-  unfolding numOf
-  num-many v t h k z =
-      let d : n ≡ digits s = omega arith in
-      rw (t, ← d, ne-eqb n 1 (omega arith), le-leb 2 n h, le-leb n 4 k, ne-eqb (getD s 0 0) 48 z)
+  pub exact-zero : 2 ≤ k → k ≤ 4 → getD s 0 0 ≡ 48 → single-variants.No ≡ single (exact k s)
+  unfolding exact
+  exact-zero h j z =
+      elim (ℕ-discrete (digits s) k) [
+        | yes d ↦ rw (d, ne-eqb k 1 (omega arith), le-leb 2 k h, le-leb k 4 j, z)
+        | no d ↦ exact-other d
+      ]
+
+  pub exact-one : k ≡ 1 → digits s ≡ k → (v : ℕ) → v ≡ value 0 (take k s) → single-variants.Is v ≡ single (exact k s)
+  unfolding exact
+  exact-one o d v t = rw (t, d, o)
+
+  pub exact-many :
+      2 ≤ k → k ≤ 4 → digits s ≡ k → (getD s 0 0 ≡ 48 → ⊥) → (v : ℕ) → v ≡ value 0 (take k s) → single-variants.Is v ≡ single (exact k s)
+  unfolding exact
+  exact-many h j d z v t = rw (t, d, ne-eqb k 1 (omega arith), le-leb 2 k h, le-leb k 4 j, ne-eqb (getD s 0 0) 48 z, eq-eqb k k refl)
 
 -- which answer a test picked
 picked : (t : Bool) (x n v k : ℕ) → (if t then Value x n else Nothing) ≡ Value v k → (t ≡ true) × (v ≡ x) × (k ≡ n)
@@ -195,27 +249,110 @@ pub pair-no : (x : Option (ℕ × ℕ)) → pair x ≡ pair-variants.No → x �
 pair-no none e = refl
 pair-no (some p) e = let z : _≡_ {A = ℕ} 0 1 = cc in absurd (omega arith)
 
+-- the number that s begins with as `exactly` reads it
+
+reading : ℕ → Option ℕ → Num
+reading n none = Nothing
+reading n (some v) = Value v n
+
+read-by : (t : Bool) (x n : ℕ) → (if t then Value x n else Nothing) ≡ reading n (if t then some x else none)
+unfolding reading
+read-by true x n = refl
+read-by false x n = refl
+
+num-by : (s : List ℕ) → numOf s ≡ reading (digits s) (exact (digits s) s)
+unfolding numOf exact
+num-by s = rw (eq-eqb (digits s) (digits s) refl, and-true (isNumber s)) (read-by (isNumber s) (numberOf s) (digits s))
+
+-- numbers, by the count n of digits, five standing for more
+
+module _ (s : List ℕ) (n : ℕ) (e : n ≡ min 5 (digits s)) where
+  pub num-none : n ≡ 0 → Nothing ≡ numOf s
+  unfolding numOf
+  num-none z = rw (number-none s (omega arith))
+
+  pub num-long : 4 < n → Nothing ≡ numOf s
+  unfolding numOf
+  num-long h = rw (number-long s (omega arith))
+
+  -- no digit follows the n digits
+  pub num-after : n ≤ 4 → digits (drop n s) ≡ 0
+  num-after h = let d : n ≡ digits s = omega arith in rw d (digits-after s)
+
+  pub num-read : n ≤ 4 → (v : ℕ) → single (exact n s) ≡ single-variants.Is v → Value v n ≡ numOf s
+  unfolding reading
+  num-read h v x = let d : n ≡ digits s = omega arith in rw (num-by s, ← d, single-is (exact n s) v x)
+
+  pub num-unread : n ≤ 4 → single (exact n s) ≡ single-variants.No → Nothing ≡ numOf s
+  unfolding reading
+  num-unread h x = let d : n ≡ digits s = omega arith in rw (num-by s, ← d, single-no (exact n s) x)
+
 -- forms
 
 -- s is a number and the word e, or not
 module _ (e s : List ℕ) where
-  pub then-none : numOf s ≡ Nothing → single-variants.No ≡ single (numberThen e s)
+  -- the digits and e are all of s
+  then-apart : (length e + digits s ≡ length s → ⊥) → numberThen e s ≡ none
   unfolding numberThen
-  then-none h = rw (num-not s h)
+  then-apart n =
+      rw (same-size e (drop (digits s) s) (rw (length-drop (digits s) s) (λ h. n (omega (arith, digits-fit s)))), and-false (isNumber s))
 
-  pub then-is : (v k : ℕ) → numOf s ≡ Value v k → true ≡ same e (tail k s) → single-variants.Is v ≡ single (numberThen e s)
+  then-short : length s ≤ length e → numberThen e s ≡ none
   unfolding numberThen
-  then-is v k h t = let i = num-is s v k h in rw (i .1, i .0, ← (rw (part-to-end s k, i .2) at t))
+  then-short h =
+      elim (decLe 1 (digits s)) [
+        | yes d ↦ then-apart (omega arith)
+        | no d ↦ rw (number-none s (omega arith))
+      ]
 
-  pub then-not : (v k : ℕ) → numOf s ≡ Value v k → false ≡ same e (tail k s) → single-variants.No ≡ single (numberThen e s)
+  then-long : length e + 4 < length s → numberThen e s ≡ none
   unfolding numberThen
-  then-not v k h t = let i = num-is s v k h in rw (i .0, ← (rw (part-to-end s k, i .2) at t))
+  then-long h =
+      elim (decLe (digits s) 4) [
+        | yes d ↦ then-apart (omega arith)
+        | no d ↦ rw (number-long s (omega arith))
+      ]
+
+  -- the word e from place k on
+  module _ (k : ℕ) (z : length e + k ≡ length s) where
+    pub then-other : false ≡ same e (tail k s) → single-variants.No ≡ single (numberThen e s)
+    unfolding numberThen
+    then-other t =
+        elim (ℕ-discrete (digits s) k) [
+          | yes d ↦ rw (← (rw (part-to-end s k, ← d) at t), and-false (isNumber s))
+          | no d ↦ rw (then-apart (omega arith))
+        ]
+
+    pub then-digit : (d : ℕ) → k < length s → (d + 48) % 2 ^ 32 ≡ getD s k 0 → d ≤ 9 → single-variants.No ≡ single (numberThen e s)
+    then-digit d h j i =
+        elim (ℕ-discrete (digits s) k) [
+          | yes n ↦ let m : digits (drop k s) ≡ 0 = rw n at (digits-after s) in absurd (omega (arith, digits-more s k d h j i))
+          | no n ↦ rw (then-apart (omega arith))
+        ]
+
+    pub then-exact : (r : Single) → true ≡ same e (tail k s) → r ≡ single (exact k s) → r ≡ single (numberThen e s)
+    unfolding numberThen exact
+    then-exact r t h =
+        elim (ℕ-discrete (digits s) k) [
+          | yes d ↦ h ∙ rw (d, ← (rw (part-to-end s k) at t), eq-eqb k k refl)
+          | no d ↦ h ∙ sym (exact-other k s d) ∙ rw (then-apart (omega arith))
+        ]
 
 -- s is the word w, a number and the word e, or not
 module _ (w e s : List ℕ) where
   pub one-is : (r : Single) → true ≡ starts w s → r ≡ single (numberThen e (tail (length w) s)) → r ≡ single (oneNumber w e s)
   unfolding oneNumber
   one-is r t h = rw (← t) (rw (part-to-end s (length w)) at h)
+
+  pub one-short : length s ≤ length w + length e → single-variants.No ≡ single (oneNumber w e s)
+  unfolding oneNumber
+  one-short h =
+      either-way (λ x. single-variants.No ≡ single x) (starts w s) (rw (then-short e (drop (length w) s) (rw (length-drop (length w) s) (omega arith)))) refl
+
+  pub one-long : length w + length e + 4 < length s → single-variants.No ≡ single (oneNumber w e s)
+  unfolding oneNumber
+  one-long h =
+      either-way (λ x. single-variants.No ≡ single x) (starts w s) (rw (then-long e (drop (length w) s) (rw (length-drop (length w) s) (omega arith)))) refl
 
   pub one-not : false ≡ starts w s → single-variants.No ≡ single (oneNumber w e s)
   unfolding oneNumber

@@ -1,7 +1,9 @@
 // The words and numbers of a line: whether a part of the text begins with a word, and the number it begins with.
 ghost use mathlib.Core.Path.{_≡_};
-ghost use Rattle.model.specs.Text.{starts, same, numberThen, oneNumber, numbersThen, twoNumbers};
-ghost use Rattle.words.specs.Answers.{numOf, single, pair, Leading};
+ghost use Prim.Native.Nat.{_+_, _%_, _^_, _<_, _≤_, min};
+ghost use lib.ListN.{length, drop};
+ghost use Rattle.model.specs.Text.{starts, same, digits, numberThen, oneNumber, numbersThen, twoNumbers};
+ghost use Rattle.words.specs.Answers.{numOf, exact, single, pair};
 
 // The number that a text begins with and how many digits it has.
 pub enum Num {
@@ -21,27 +23,22 @@ pub enum Pair {
     No,
 }
 
-// How many digits a text begins with, counted to five, and their value.
-struct Digits {
-    count: usize,
-    total: u32,
-}
-
-// s begins with the word w.
+// s begins with the word w. The loop always runs through, so that a fixed word is compared several bytes at a time.
 pub fn starts(w: &[u8], s: &[u8]) -> bool
     ensures { λ r. ⌜ r ≡ starts (now (w .entry)) (now (s .entry)) ⌝ }
 {
     if s.len() < w.len() {
         return false;
     }
-    let mut i: usize = 0;
-    while i < w.len() {
+    let mut all = true;
+    let mut i = w.len();
+    while 0 < i {
+        i -= 1;
         if w[i] != s[i] {
-            return false;
+            all = false;
         }
-        i += 1;
     }
-    true
+    all
 }
 
 // s is the word w.
@@ -54,70 +51,104 @@ pub fn same(w: &[u8], s: &[u8]) -> bool
     starts(w, s)
 }
 
-// The digits that s begins with, no further than the fifth.
-fn leading(s: &[u8]) -> Digits
-    ensures { λ r. ⌜ Leading (now (s .entry)) (r .count) (r .total) ⌝ }
+// The value of the digit b, or more than 9 if b is no digit.
+fn digit(b: u8) -> u32
+    ensures { λ r. ⌜ (r + 48) % 2 ^ 32 ≡ b ⌝ }
 {
-    let mut v: u32 = 0;
+    std::num::wrapping_sub_u32(b as u32, b'0' as u32)
+}
+
+// How many digits s begins with, five standing for more.
+fn count(s: &[u8]) -> usize
+    ensures { λ r. ⌜ r ≡ min 5 (digits (now (s .entry))) ⌝ }
+{
     let mut i: usize = 0;
-    while i < 5 {
-        if s.len() <= i {
-            return Digits { count: i, total: v };
+    while i < s.len() {
+        if 9 < digit(s[i]) {
+            return i;
         }
-        let b = s[i];
-        if b < b'0' {
-            return Digits { count: i, total: v };
+        if 3 < i {
+            return 5;
         }
-        if b'9' < b {
-            return Digits { count: i, total: v };
-        }
-        v = v * 10 + (b - b'0') as u32;
         i += 1;
     }
-    Digits { count: i, total: v }
+    i
+}
+
+// The number that s begins with, if it has k digits.
+fn exactly(k: usize, s: &[u8]) -> Single
+    requires { ⌜ (1 ≤ k) × (k ≤ 4) × (k ≤ length (now s)) × (digits (drop k (now s)) ≡ 0) ⌝ }
+    ensures { λ r. ⌜ r ≡ single (exact k (now (s .entry))) ⌝ }
+{
+    let mut v = digit(s[0]);
+    if 9 < v {
+        return Single::No;
+    }
+    if k == 1 {
+        return Single::Is(v);
+    }
+    if v == 0 {
+        return Single::No;
+    }
+    let mut i: usize = 1;
+    while i < k {
+        let d = digit(s[i]);
+        if 9 < d {
+            return Single::No;
+        }
+        v = v * 10 + d;
+        i += 1;
+    }
+    Single::Is(v)
 }
 
 // The number that s begins with: one to four digits, with no leading zero but in 0 itself.
 pub fn number(s: &[u8]) -> Num
     ensures { λ r. ⌜ r ≡ numOf (now (s .entry)) ⌝ }
 {
-    let d = leading(s);
-    let n = d.count;
-    if n == 1 {
-        return Num::Value(d.total, n);
-    }
+    let n = count(s);
     if n == 0 {
         return Num::Nothing;
     }
     if 4 < n {
         return Num::Nothing;
     }
-    if s[0] == b'0' {
+    let Single::Is(v) = exactly(n, s) else {
         return Num::Nothing;
-    }
-    Num::Value(d.total, n)
+    };
+    Num::Value(v, n)
 }
 
-// s is a number and the word e.
+// s is a number and the word e, so all its bytes but those of e are digits.
 fn number_then(e: &[u8], s: &[u8]) -> Single
+    requires { ⌜ (length (now e) < length (now s)) × (length (now s) ≤ length (now e) + 4) ⌝ }
     ensures { λ r. ⌜ r ≡ single (numberThen (now (e .entry)) (now (s .entry))) ⌝ }
 {
-    let Num::Value(v, k) = number(s) else {
+    let k = s.len() - e.len();
+    if !same(e, &s[k..]) {
         return Single::No;
-    };
-    if same(e, &s[k..]) {
-        Single::Is(v)
-    } else {
-        Single::No
     }
+    if k < s.len() {
+        if digit(s[k]) <= 9 {
+            return Single::No;
+        }
+    }
+    exactly(k, s)
 }
 
 // s is the word w, a number and the word e.
 pub fn one(w: &[u8], e: &[u8], s: &[u8]) -> Single
     ensures { λ r. ⌜ r ≡ single (oneNumber (now (w .entry)) (now (e .entry)) (now (s .entry))) ⌝ }
 {
+    let a = w.len();
+    let n = a + e.len();
+    if s.len() <= n {
+        return Single::No;
+    }
+    if n + 4 < s.len() {
+        return Single::No;
+    }
     if starts(w, s) {
-        let a = w.len();
         number_then(e, &s[a..])
     } else {
         Single::No

@@ -6,7 +6,7 @@ use Rattle.line.proofs.ensure_line.Statement.{statement}
 use Rattle.line.proofs.ensure_line.Tie as tie
 
 returns : tie.Need-returns
-returns c = c .either-line .ensures ∙ one-left _ _ _ _ _ (sym (c .before .before .before .one .ensures) ∙ c .before .enum-told .given .1)
+returns c = one-left _ _ _ _ _ (sym (c .before .before .one .ensures) ∙ c .enum-told .given .1)
 
 returns-2 : tie.Need-returns-2
 returns-2 c = one-made _ _ _ _ _ _ (sym (c .before .before .before .one .ensures) ∙ c .before .n .given .1)
@@ -20,6 +20,5 @@ ensure-line-spec =
     (λ c κs. search needs)
     (λ c. search needs)
     (λ c. search needs)
-    (λ c κs. search needs)
     returns
     returns-2)

@@ -1,39 +1,51 @@
 -- `words::number` meets its contract: one law for each way out.
+use mathlib.Core.Path.{sym, _∙_}
 use native.Mathlib.Omega.{arith}
 use borrow.Author.Needs.{needs}
-use Rattle.words.proofs.Laws.{digits-fit, num-none, num-long, num-zero, num-one, num-many}
+use Rattle.words.proofs.Laws.{digits-fit, num-none, num-long, num-after, num-read, num-unread}
 use Rattle.words.proofs.number.Statement.{statement}
 use Rattle.words.proofs.number.Tie as tie
 
-leading-requires : tie.Need-leading-requires
-leading-requires c κs = search needs
+count-requires : tie.Need-count-requires
+count-requires c κs = search needs
 
 returns : tie.Need-returns
-returns c = let d = c .before .leading .ensures in num-one _ _ (d .count) _ (d .total) (c .if1 .taken)
+returns c = num-none _ _ (c .before .count .ensures) (c .if1 .taken)
 
 returns-2 : tie.Need-returns-2
-returns-2 c = let d = c .before .before .leading .ensures in num-none _ _ (d .count) (c .if2 .taken)
+returns-2 c = num-long _ _ (c .before .before .count .ensures) (omega arith)
+
+exactly-requires : tie.Need-exactly-requires
+exactly-requires c κs =
+    let n = c .before .before .count in
+    let s = c .before .before .before .before .args .s .now in
+    (omega arith, omega arith, omega (arith, n .ensures, digits-fit s), num-after s _ (n .ensures) (omega arith))
+
+enum-known-v : tie.Need-enum-known-v
+enum-known-v c = search needs
+
+enum-told : tie.Need-enum-told
+enum-told c = search needs
 
 returns-3 : tie.Need-returns-3
-returns-3 c = let d = c .before .before .before .leading .ensures in num-long _ _ (d .count) (c .if3 .taken)
-
-shared-slice-read-if4 : tie.Need-shared-slice-read-if4
-shared-slice-read-if4 c = omega (arith, digits-fit (c .before .before .before .before .before .before .args .s .now), c .before .before .before .before .leading .ensures .count)
+returns-3 c =
+    let n = c .before .before .before .before .before .count in
+    num-unread _ _ (n .ensures) (omega arith) (sym (c .before .before .exactly .ensures) ∙ c .enum-told .given .1)
 
 returns-4 : tie.Need-returns-4
-returns-4 c = let d = c .before .before .before .before .before .leading .ensures in num-zero _ _ (d .count) (omega arith) (omega arith) (c .if4 .taken)
-
-returns-5 : tie.Need-returns-5
-returns-5 c = let d = c .before .before .before .before .before .leading .ensures in num-many _ _ (d .count) _ (d .total) (omega arith) (omega arith) (c .if4 .left)
+returns-4 c =
+    let n = c .before .before .before .before .before .before .count in
+    num-read _ _ (n .ensures) (omega arith) _ (sym (c .before .before .before .exactly .ensures) ∙ c .before .v .given .1)
 
 pub number-spec : {M : Type 1} → statement M
 number-spec =
     tie.close
     (tie.spec
-    leading-requires
+    count-requires
     returns
     returns-2
+    exactly-requires
+    enum-known-v
+    enum-told
     returns-3
-    shared-slice-read-if4
-    returns-4
-    returns-5)
+    returns-4)
