@@ -36,6 +36,7 @@ fn texts() -> Vec<(&'static str, Vec<u8>)> {
         ("256 points, branches", branches(false)),
         ("256 points, backward chain", branches(true)),
         ("32,768 bytes", longest()),
+        ("one line of 20,938 bytes", long_line()),
     ]
 }
 
@@ -158,8 +159,16 @@ fn branches(backward: bool) -> Vec<u8> {
     text
 }
 
-/// As many bytes as a text may have: 1,024 points, and then lines that are refused at the end.
+/// As many bytes as a text may have. It is refused at the point after 1,024.
 fn longest() -> Vec<u8> {
+    let mut text = straight(12);
+    text.truncate(32_767);
+    text.push(b'\n');
+    text
+}
+
+/// The same length: 1,024 points and then one line of no form, which has to be passed over to find its end.
+fn long_line() -> Vec<u8> {
     let mut text = straight(4);
     text.truncate(text.len() - 2);
     text.resize(32_767, b' ');
