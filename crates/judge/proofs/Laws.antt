@@ -21,6 +21,7 @@ use Rattle.task.specs.declared.Read.{Read}
 use Rattle.task.specs.declared.Read.the-variants as read
 use Rattle.task.specs.Reading.{Holds, Kept, readAs}
 use Rattle.links.specs.Links.{rowVerdict, linkRows, callRows}
+use Rattle.links.proofs.Search.{verdict-none, verdict-some}
 use Rattle.walks.specs.declared.Flow.the-variants.{Reach, Load, Fine}
 use Rattle.walks.specs.Flow.{flowOf, taskFlow}
 use Rattle.theory.proofs.Reading.{read-shaped}
@@ -60,22 +61,14 @@ module _ (t : Task) where
 -- 7 to 10 before the others
 pub link-first : (t : Task) (r : Refusal) → rowVerdict (linkRows t) ≡ Refused r → Refused r ≡ rowVerdict (taskRows t)
 unfolding taskRows
-link-first t r = go (linkRows t)
-  where
-    go : (a : Option Refusal) → rowVerdict a ≡ Refused r → Refused r ≡ rowVerdict (a orElse walkRows t)
-    go none e = cc
-    go (some q) e = sym e
-
-accepted-none : (a : Option Refusal) → rowVerdict a ≡ Accepted → a ≡ none
-accepted-none none e = refl
-accepted-none (some q) e = cc
+link-first t r e = rw (verdict-some (linkRows t) e)
 
 pub link-fine : (t : Task) → rowVerdict (linkRows t) ≡ Accepted → rowVerdict (walkRows t) ≡ rowVerdict (taskRows t)
 unfolding taskRows
-link-fine t e = rw (accepted-none (linkRows t) e)
+link-fine t e = rw (verdict-none (linkRows t) e)
 
 pub linked : (t : Task) → rowVerdict (linkRows t) ≡ Accepted → Linked t
-linked t e = links-none t .0 (accepted-none (linkRows t) e)
+linked t e = links-none t .0 (verdict-none (linkRows t) e)
 
 -- what reading gives
 pub read-task : {r : Read} {j : Judged} {w w′ : List ℕ} {tb : Tables} → readAs r j w w′ → r ≡ read.Task tb
