@@ -8,7 +8,7 @@ use lib.ListN.{length, set, length-set}
 use lib.Seq.{getD-set-same, getD-set-other}
 use Rattle.model.specs.Walk.{leads}
 use Rattle.forward.specs.Forward.{item, function, Inside, Given}
-use Rattle.forward.specs.Worklist.{targets, nextAt, union, transfer, Progress, progress, listed, last, taken, Raised, Propagated, Visited, Visits, sum, waiting, Listed, Fits, FitsAll, Ready}
+use Rattle.forward.specs.Worklist.{targets, nextAt, union, transfer, Progress, progress, listed, last, taken, Ended, Ends, Raised, Propagated, Visited, Visits, sum, waiting, Listed, Fits, FitsAll, Ready}
 use Rattle.forward.specs.declared.Next.{Next}
 use Rattle.forward.specs.declared.Next.the-variants.{To, Fork}
 use Rattle.forward.proofs.Laws.{sum-but, sum-le, sum-short, waiting-le, waiting-two, waiting-other, union-ge, leads-there}
@@ -142,6 +142,49 @@ module _ (next : Next) (x : Progress) (r : FitsAll (targets next) x) where
       (listed-raised (r .n) q m x y (r .list) (r .inside q (rw e (List·Memᴰ·head refl))) a)
       (r .inside p (rw e (List·Memᴰ·tail (List·Memᴰ·head refl))))
 
+-- the set that point q then has
+raised-set : (q m : ℕ) (x y : Progress) → q < length (x .sets) → Raised q m x y → item (y .sets) q ≡ union (item (x .sets) q) m
+raised-set q m x y h (Raised.rests s e) = sym e
+raised-set q m x y h (Raised.grows s b) = here (x .sets) q (union (item (x .sets) q) m) h
+raised-set q m x y h (Raised.found s b) = here (x .sets) q (union (item (x .sets) q) m) h
+raised-set q m x y h (Raised.again s t e b) = here (x .sets) q (union (item (x .sets) q) m) h
+
+-- a list that has grown ends with the point that came
+raised-last : (n q m : ℕ) (x y : Progress) → Listed n x → q < n → Raised q m x y → x .count < y .count → q ≡ item (y .todo) (y .count - 1)
+raised-last n q m x y l h (Raised.rests s e) d = absurd (omega arith)
+raised-last n q m x y l h (Raised.grows s b) d = absurd (omega arith)
+raised-last n q m x y l h (Raised.found s b) d = sym (new n x q m l h (λ e. omega arith) (x .count + 1 - 1) (omega arith))
+raised-last n q m x y l h (Raised.again s t e b) d = sym (new n x q m l h t (x .count + 1 - 1) (omega arith))
+
+-- the end of a list, and after a set has come
+pub listed-ended : (n : ℕ) (x : Progress) → Listed n x → Ended (x .sets) (x .todo) (x .count)
+listed-ended n x l =
+    (count-le n x l, λ h. omega (arith, l .within (x .count - 1) (omega arith), l .sets-long))
+
+raised-ends : (n q m v : ℕ) (x y : Progress) → Listed n x → q < n → v ≡ union (item (x .sets) q) m → Raised q m x y → Ended (y .sets) (y .todo) (y .count) × (x .count < y .count → Ends (y .sets) (y .todo) (y .count) (record { point = q; set = v }))
+raised-ends n q m v x y l h e a = (
+  listed-ended n y (listed-raised n q m x y l h a),
+  λ d k. (raised-last n q m x y l h a d, e ∙ sym (raised-set q m x y (omega (arith, l .sets-long)) a)),
+)
+
+module _ (next : Next) (x : Progress) (r : FitsAll (targets next) x) where
+  pub ends-to : (q m v : ℕ) (y : Progress) → next ≡ To q → v ≡ union (item (x .sets) q) m → Raised q m x y → Ended (y .sets) (y .todo) (y .count) × (x .count < y .count → Ends (y .sets) (y .todo) (y .count) (record { point = q; set = v }))
+  ends-to q m v y e f a = raised-ends (r .n) q m v x y (r .list) (r .inside q (rw e (List·Memᴰ·head refl))) f a
+
+  pub ends-fork : (q p m v : ℕ) (y z : Progress) → next ≡ Fork q p → Raised q m x y → v ≡ union (item (y .sets) p) m → Raised p m y z → Ended (z .sets) (z .todo) (z .count) × (y .count < z .count → Ends (z .sets) (z .todo) (z .count) (record { point = p; set = v }))
+  ends-fork q p m v y z e a f b =
+      raised-ends
+      (r .n)
+      p
+      m
+      v
+      y
+      z
+      (listed-raised (r .n) q m x y (r .list) (r .inside q (rw e (List·Memᴰ·head refl))) a)
+      (r .inside p (rw e (List·Memᴰ·tail (List·Memᴰ·head refl))))
+      f
+      b
+
 -- the last point of the list is taken
 module _ (n : ℕ) (x : Progress) (l : Listed n x) (h : 0 < x .count) where
   pub last-within : last x < n
@@ -226,8 +269,8 @@ module _ (w : List ℕ) (b : ℕ) (gen kill : List ℕ) (x : Progress) where
         list = rw e (listed-taken (r .n) x (r .list) (r .some));
       }
 
-  pub visited : (p m : ℕ) (l : List ℕ) (y : Progress) → p ≡ last x → m ≡ transfer (item (x .sets) p) (item kill p) (item gen p) → l ≡ nextAt w b p → Propagated m l (progress (x .sets) (set (x .state) p 1) (x .todo) (x .count - 1)) y → Visited (nextAt w b) gen kill x y
-  visited p m l y e f d s = rw (f, d, e) at s
+  pub visited : (p v m : ℕ) (l : List ℕ) (y : Progress) → p ≡ last x → v ≡ item (x .sets) p → m ≡ transfer v (item kill p) (item gen p) → l ≡ nextAt w b p → Propagated m l (progress (x .sets) (set (x .state) p 1) (x .todo) (x .count - 1)) y → Visited (nextAt w b) gen kill x y
+  visited p v m l y e g f d s = rw (f, g, d, e) at s
 
 -- ---- the cost
 

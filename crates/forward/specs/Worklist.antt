@@ -7,6 +7,7 @@ use lib.Bits.{bitAnd, bitOr}
 use Rattle.model.specs.Walk.{leadsFrom}
 use Rattle.tables.specs.Tables.{pointAt}
 use Rattle.forward.specs.Forward.{item, Given}
+use Rattle.forward.specs.declared.Last.{Last}
 use Rattle.forward.specs.declared.Next.{Next}
 use Rattle.forward.specs.declared.Next.the-variants.{Nowhere, To, Fork}
 
@@ -57,6 +58,13 @@ last x = item (x .todo) (x .count - 1)
 
 abbrev pub taken : Progress → Progress
 taken x = progress (x .sets) (set (x .state) (last x) 1) (x .todo) (x .count - 1)
+
+-- the first count entries of the list l are there, and the set of the last of them; at is that point and its set
+abbrev pub Ended : List ℕ → List ℕ → ℕ → Type 0
+Ended sets l count = (count ≤ length l) × (0 < count → item l (count - 1) < length sets)
+
+abbrev pub Ends : List ℕ → List ℕ → ℕ → Last → Type 0
+Ends sets l count at = 0 < count → (at .point ≡ item l (count - 1)) × (at .set ≡ item sets (at .point))
 
 -- the set m has come to point q: it brings nothing new; q grows and is in the list; q is seen for the first time; q grows and goes into the
 -- list again

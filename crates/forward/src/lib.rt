@@ -6,7 +6,7 @@ ghost use Rattle.model.specs.Task.{Func};
 ghost use Rattle.model.specs.Walk.{leadsFrom, leads};
 ghost use Rattle.tables.specs.Tables.{pointsOf};
 ghost use Rattle.forward.specs.Forward.{item, function, Given, Solved};
-ghost use Rattle.forward.specs.Worklist.{targets, nextAt, union, transfer, progress, cleared, listed, Raised, Propagated, Visited, Visits, Listed, Fits, FitsAll, Ready};
+ghost use Rattle.forward.specs.Worklist.{targets, nextAt, union, transfer, progress, cleared, listed, Ended, Ends, Raised, Propagated, Visited, Visits, Listed, Fits, FitsAll, Ready};
 use model::Point;
 
 // Where a point leads.
@@ -14,6 +14,18 @@ enum Next {
     Nowhere,
     To(usize),
     Fork(usize, usize),
+}
+
+// The last point of the list, and its set.
+struct Last {
+    point: usize,
+    set: u64,
+}
+
+// The length of the list, and its last point where it has one.
+struct End {
+    count: usize,
+    last: Last,
 }
 
 fn next_of(p: usize, x: Point) -> Next
@@ -74,6 +86,32 @@ fn wide(x: u8) -> usize
     x as usize
 }
 
+// The last point of the list, where it has one.
+fn last_of(sets: &[u64], todo: &[u8], count: usize) -> Last
+    requires { ⌜ Ended (now sets) (now todo) count ⌝ }
+    ensures { λ r. ⌜ Ends (now (sets .entry)) (now (todo .entry)) count r ⌝ }
+{
+    if count == 0 {
+        return Last { point: 0, set: 0 };
+    }
+    let p = take_at(todo, count - 1);
+    Last {
+        point: p,
+        set: sets[p],
+    }
+}
+
+// The same after a step: it is at, with no load, where the list has grown.
+fn last_after(sets: &[u64], todo: &[u8], before: usize, count: usize, at: Last) -> Last
+    requires { ⌜ Ended (now sets) (now todo) count × (before < count → Ends (now sets) (now todo) count at) ⌝ }
+    ensures { λ r. ⌜ Ends (now (sets .entry)) (now (todo .entry)) count r ⌝ }
+{
+    if before < count {
+        return at;
+    }
+    last_of(sets, todo, count)
+}
+
 // Point q gets the set m and goes into the list.
 fn add_to_list(
     sets: &mut [u64],
@@ -129,17 +167,33 @@ fn propagate(
     state: &mut [u8],
     todo: &mut [u8],
     count: usize,
-) -> usize
+) -> End
     requires { ⌜ FitsAll (targets next) (progress (now sets) (now state) (now todo) count) ⌝ }
     ensures { λ r. ⌜ Propagated m (targets next) (progress (now (sets .entry)) (now (state .entry)) (now (todo .entry)) count)
-        (progress (now (sets .exit)) (now (state .exit)) (now (todo .exit)) r) ⌝ }
+        (progress (now (sets .exit)) (now (state .exit)) (now (todo .exit)) (r .count))
+        × Ends (now (sets .exit)) (now (todo .exit)) (r .count) (r .last) ⌝ }
 {
     match next {
-        Next::Nowhere => count,
-        Next::To(q) => raise(sets, state, todo, count, q, m),
-        Next::Fork(q, r) => {
+        Next::Nowhere => End {
+            count,
+            last: last_of(sets, todo, count),
+        },
+        Next::To(q) => {
+            let set = union_of(sets[q], m);
             let more = raise(sets, state, todo, count, q, m);
-            raise(sets, state, todo, more, r, m)
+            End {
+                count: more,
+                last: last_after(sets, todo, count, more, Last { point: q, set }),
+            }
+        }
+        Next::Fork(q, r) => {
+            let some = raise(sets, state, todo, count, q, m);
+            let set = union_of(sets[r], m);
+            let more = raise(sets, state, todo, some, r, m);
+            End {
+                count: more,
+                last: last_after(sets, todo, some, more, Last { point: r, set }),
+            }
         }
     }
 }
@@ -154,16 +208,19 @@ fn visit(
     state: &mut [u8],
     todo: &mut [u8],
     count: usize,
-) -> usize
-    requires { ⌜ Ready (now work) base (now gens) (now kills) (progress (now sets) (now state) (now todo) count) ⌝ }
+    at: Last,
+) -> End
+    requires { ⌜ Ready (now work) base (now gens) (now kills) (progress (now sets) (now state) (now todo) count)
+        × Ends (now sets) (now todo) count at ⌝ }
     ensures { λ r. ⌜ Visited (nextAt (now (work .entry)) base) (now (gens .entry)) (now (kills .entry))
         (progress (now (sets .entry)) (now (state .entry)) (now (todo .entry)) count)
-        (progress (now (sets .exit)) (now (state .exit)) (now (todo .exit)) r) ⌝ }
+        (progress (now (sets .exit)) (now (state .exit)) (now (todo .exit)) (r .count))
+        × Ends (now (sets .exit)) (now (todo .exit)) (r .count) (r .last) ⌝ }
 {
     let left = count - 1;
-    let p = take_at(todo, left);
+    let p = at.point;
     state[p] = 1;
-    let m = transfer_of(sets[p], kills[p], gens[p]);
+    let m = transfer_of(at.set, kills[p], gens[p]);
     propagate(next_at(work, base, p), m, sets, state, todo, left)
 }
 
@@ -185,8 +242,11 @@ fn drain(
         (progress (now (sets .exit)) (now (state .exit)) (now (todo .exit)) 0) ⌝ }
 {
     let mut count = first;
+    let mut at = last_of(sets, todo, first);
     while count > 0 {
-        count = visit(work, base, gens, kills, sets, state, todo, count);
+        let end = visit(work, base, gens, kills, sets, state, todo, count, at);
+        count = end.count;
+        at = end.last;
     }
 }
 
