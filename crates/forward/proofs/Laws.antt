@@ -2,18 +2,20 @@
 use Prim.Native.Nat.{ℕ, zero, suc, _+_, _-_, _^_, _≤_, _<_, min, max}
 use native.Mathlib.Omega.{arith}
 use native.Mathlib.Decide.{ℕ-discrete}
+use native.Mathlib.Numerals.{add-one}
 use mathlib.Core.Path.{_≡_, refl, ap, sym, _∙_}
-use mathlib.Core.List.{List, List·Memᴰ}
+use mathlib.Core.Bool.{true, true≢false}
+use mathlib.Core.List.{List, [], _∷_, List·Memᴰ}
 use lib.ListN.{length, getD, set, drop, replicate, length-append, length-drop, length-replicate, List·getD-append, getD-replicate}
 use lib.Bits.{bitAnd, bitOr}
 use borrow.Author.Fill.{fill-none, fill-more}
 use Rattle.bits.specs.Bits.{bit}
 use Rattle.bits.proofs.Laws.{bit-or, bit-and, bit-not-word, or-ge}
 use Rattle.model.specs.declared.Point.{Point}
-use Rattle.model.specs.declared.Point.the-variants.{Return}
+use Rattle.model.specs.declared.Point.the-variants.{Load, Store, Call, Ensure, Goto, Either, Return}
 use Rattle.model.specs.Task.{Func}
 use Rattle.model.specs.Walk.{leadsFrom, leads}
-use Rattle.tables.specs.Tables.{pointsOf}
+use Rattle.tables.specs.Tables.{isAccess, pointsOf}
 use Rattle.tables.proofs.Laws.{point-there}
 use Rattle.forward.specs.Forward.{item, function, Inside}
 use Rattle.forward.specs.Worklist.{nextAt, union, transfer, Progress, progress, listed, Raised, Propagated, targets, cleared, sum, waiting}
@@ -36,6 +38,16 @@ raised-grows q m u x e b s = rw e (Raised.grows s (rw e at b))
 
 pub raised-rests : (q m u : ℕ) (x : Progress) → u ≡ union (item (x .sets) q) m → (item (x .state) q ≡ 0 → ⊥) → u ≡ item (x .sets) q → Raised q m x x
 raised-rests q m u x e s d = Raised.rests s (sym e ∙ d)
+
+-- a load or a store leads to the next point
+pub access-leads : (p : ℕ) (x : Point) → true ≡ isAccess x → (p + 1) ∷ [] ≡ leadsFrom p x
+access-leads p (Load o) e = ap (λ (q : ℕ). q ∷ []) (add-one p)
+access-leads p (Store o) e = ap (λ (q : ℕ). q ∷ []) (add-one p)
+access-leads p (Call f) e = absurd (true≢false e)
+access-leads p (Ensure k) e = absurd (true≢false e)
+access-leads p (Goto q) e = absurd (true≢false e)
+access-leads p (Either q r) e = absurd (true≢false e)
+access-leads p Return e = absurd (true≢false e)
 
 -- the set m comes to the points that are next
 module _ (m : ℕ) (next : Next) where

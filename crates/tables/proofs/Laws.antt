@@ -5,15 +5,18 @@ use native.Mathlib.Omega.{arith}
 use native.Mathlib.Decide.{decLt}
 use native.Mathlib.Numerals.{add-one}
 use mathlib.Core.Path.{_≡_, refl, ap, sym, _∙_}
+use mathlib.Core.Bool.{Bool, true, false}
 use mathlib.Core.List.{List, [], _∷_, _++_}
 use lib.ListN.{length, getD, set, take, length-append, length-set}
 use lib.ListN.{List·getD-append}
+use lib.Dec.{ltb, eqb}
+use borrow.Author.Tests.{ne-eqb, le-ltb}
 use lib.Seq.{getD-set-same, getD-set-other, getD-at, take-append-le, take-all}
 use Rattle.model.specs.declared.Point.{Point}
 use Rattle.model.specs.declared.Point.the-variants.{Load, Store, Call, Ensure, Goto, Either, Return}
-use Rattle.model.specs.Basic.{sumOf}
+use Rattle.model.specs.Basic.{if_then_else_, sumOf}
 use Rattle.model.specs.Task.{Func, Task, size, count, func, point, empty, inAll, funcLine}
-use Rattle.tables.specs.Tables.{pointOf, kindOf, firstArgument, secondArgument, pointAt, putPoint, frameAt, baseAt, sizeAt, putFunc, pointsOf, funcOf, funcsOf, taskOf, Stacked, none, more}
+use Rattle.tables.specs.Tables.{pointOf, kindOf, isAccess, firstArgument, secondArgument, pointAt, putPoint, frameAt, baseAt, sizeAt, putFunc, pointsOf, funcOf, funcsOf, taskOf, Stacked, none, more}
 
 -- a point survives being written as numbers
 pub point-back : (p : Point) → pointOf (kindOf p) (firstArgument p) (secondArgument p) ≡ p
@@ -24,6 +27,27 @@ point-back (Ensure k) = refl
 point-back (Goto p) = refl
 point-back (Either p q) = refl
 point-back Return = refl
+
+-- a load and a store have the kinds below 2
+pub access-kind : (k a b : ℕ) → ltb k 2 ≡ isAccess (pointOf k a b)
+access-kind k a b =
+    elim (decLt k 2) [
+      | yes h ↦ elim (decLt k 1) [ yes l ↦ let e : k ≡ 0 = omega arith in rw e | no l ↦ let e : k ≡ 1 = omega arith in rw e ]
+      | no h ↦
+          let zero-not : k ≡ 0 → ⊥ = λ e. omega arith in
+          let one-not : k ≡ 1 → ⊥ = λ e. omega arith in
+          le-ltb k 2 (omega arith) ∙ simp (ne-eqb k 0 zero-not, ne-eqb k 1 one-not) (other k a b)
+    ]
+  where
+    other : (k a b : ℕ) → false ≡ isAccess (if eqb k 2 then Call a else if eqb k 3 then Ensure a else if eqb k 4 then Goto a else if eqb k 5 then Either a b else Return)
+    other k a b = by-four (eqb k 2) (eqb k 3) (eqb k 4) (eqb k 5)
+      where
+        by-four : (c d e f : Bool) → false ≡ isAccess (if c then Call a else if d then Ensure a else if e then Goto a else if f then Either a b else Return)
+        by-four true d e f = refl
+        by-four false true e f = refl
+        by-four false false true f = refl
+        by-four false false false true = refl
+        by-four false false false false = refl
 
 -- the points of a function, counted and one by one
 pub length-points : (w : List ℕ) (b n : ℕ) → length (pointsOf w b n) ≡ n

@@ -52,6 +52,16 @@ secondArgument (Goto p) = 0
 secondArgument (Either p q) = q
 secondArgument Return = 0
 
+-- a load or a store
+abbrev pub isAccess : Point → Bool
+isAccess (Load o) = true
+isAccess (Store o) = true
+isAccess (Call f) = false
+isAccess (Ensure k) = false
+isAccess (Goto p) = false
+isAccess (Either p q) = false
+isAccess Return = false
+
 -- point i of the tables w, and w with another point there
 abbrev pub pointAt : List ℕ → ℕ → Point
 pointAt w i = pointOf (getD w i 0) (getD w (1024 + i) 0) (getD w (2048 + i) 0)

@@ -3,7 +3,7 @@
 ghost use mathlib.Core.Path.{_≡_};
 ghost use Prim.Native.Nat.{_+_, _*_, _<_, _≤_};
 ghost use lib.ListN.{length};
-ghost use Rattle.tables.specs.Tables.{pointOf, pointAt, putPoint, kindOf, firstArgument, secondArgument, frameAt, baseAt, sizeAt, putFunc};
+ghost use Rattle.tables.specs.Tables.{pointOf, isAccess, pointAt, putPoint, kindOf, firstArgument, secondArgument, frameAt, baseAt, sizeAt, putFunc};
 use model::Point;
 
 // The point that a kind and two arguments stand for.
@@ -27,6 +27,14 @@ pub fn point_at(work: &[u32], i: usize) -> Point
     ensures { λ r. ⌜ r ≡ pointAt (now (work .entry)) i ⌝ }
 {
     point_of(work[i], work[1024 + i], work[2048 + i])
+}
+
+// Point i is a load or a store: the two lowest kinds, so that one comparison tells.
+pub fn access_at(work: &[u32], i: usize) -> bool
+    requires { ⌜ (i < 1024) × (3264 ≤ length (now work)) ⌝ }
+    ensures { λ r. ⌜ r ≡ isAccess (pointAt (now (work .entry)) i) ⌝ }
+{
+    work[i] < 2
 }
 
 fn kind_of(p: Point) -> u32
