@@ -5,7 +5,8 @@ use native.Mathlib.Decide.{ℕ-discrete}
 use native.Mathlib.Numerals.{add-one}
 use mathlib.Core.Path.{_≡_, refl, ap, sym, _∙_}
 use mathlib.Core.Bool.{true, true≢false}
-use mathlib.Core.List.{List, [], _∷_, List·Memᴰ}
+use mathlib.Core.List.{List, [], _∷_, List·Memᴰ, List·Memᴰ·head, List·Memᴰ·tail, List·Memᴰ·cases-cons}
+use mathlib.Core.Logic.{_↔_, ⊎-elim}
 use lib.ListN.{length, getD, set, drop, replicate, length-append, length-drop, length-replicate, List·getD-append, getD-replicate}
 use lib.Bits.{bitAnd, bitOr}
 use borrow.Author.Fill.{fill-none, fill-more}
@@ -18,7 +19,7 @@ use Rattle.model.specs.Walk.{leadsFrom, leads}
 use Rattle.tables.specs.Tables.{isAccess, pointsOf}
 use Rattle.tables.proofs.Laws.{point-there}
 use Rattle.forward.specs.Forward.{item, function, Inside}
-use Rattle.forward.specs.Worklist.{nextAt, union, transfer, Progress, progress, listed, Raised, Propagated, targets, cleared, sum, waiting}
+use Rattle.forward.specs.Worklist.{turned, order, nextAt, union, transfer, Progress, progress, listed, Raised, Propagated, targets, cleared, sum, waiting}
 use Rattle.forward.specs.declared.Next.{Next}
 use Rattle.forward.specs.declared.Next.the-variants.{Nowhere, To, Fork}
 
@@ -40,7 +41,8 @@ pub raised-rests : (q m u : ℕ) (x : Progress) → u ≡ union (item (x .sets) 
 raised-rests q m u x e s d = Raised.rests s (sym e ∙ d)
 
 -- a load or a store leads to the next point
-pub access-leads : (p : ℕ) (x : Point) → true ≡ isAccess x → (p + 1) ∷ [] ≡ leadsFrom p x
+pub access-leads : (p : ℕ) (x : Point) → true ≡ isAccess x → (p + 1) ∷ [] ≡ turned (leadsFrom p x)
+unfolding turned
 access-leads p (Load o) e = ap (λ (q : ℕ). q ∷ []) (add-one p)
 access-leads p (Store o) e = ap (λ (q : ℕ). q ∷ []) (add-one p)
 access-leads p (Call f) e = absurd (true≢false e)
@@ -157,10 +159,26 @@ unfolding cleared
 item-cleared n p l h =
     List·getD-append (replicate n 0) (drop n l) 0 p (rw (length-replicate {A = ℕ} n 0) h) ∙ getD-replicate n p 0 0 h
 
--- where the points of a function lead
-pub leads-there : (w : List ℕ) (b n p : ℕ) → p < n → leads (function w b n) p ≡ nextAt w b p
-unfolding leads nextAt
-leads-there w b n p h = ap (λ (x : Point). leadsFrom p x) (point-there w b n p h)
+-- where the points of a function lead, in the order of the visits
+pub order-there : (w : List ℕ) (b n p : ℕ) → p < n → order (function w b n) p ≡ nextAt w b p
+unfolding leads order nextAt
+order-there w b n p h = ap (λ (x : Point). turned (leadsFrom p x)) (point-there w b n p h)
+
+swapped : {q r a : ℕ} {l : List ℕ} → List·Memᴰ a (q ∷ r ∷ l) → List·Memᴰ a (r ∷ q ∷ l)
+swapped m = ⊎-elim (λ e. List·Memᴰ·tail (List·Memᴰ·head e)) (λ k. ⊎-elim (λ e. List·Memᴰ·head e) (λ j. List·Memᴰ·tail (List·Memᴰ·tail j)) (List·Memᴰ·cases-cons k)) (List·Memᴰ·cases-cons m)
+
+turned-mem : (l : List ℕ) {a : ℕ} → List·Memᴰ a l ↔ List·Memᴰ a (turned l)
+unfolding turned
+turned-mem [] = (λ m. m, λ m. m)
+turned-mem (q ∷ []) = (λ m. m, λ m. m)
+turned-mem (q ∷ r ∷ l) = (swapped, swapped)
+
+pub order-mem : (x : Func) (p : ℕ) {a : ℕ} → List·Memᴰ a (leads x p) ↔ List·Memᴰ a (order x p)
+unfolding order
+order-mem x p = turned-mem (leads x p)
+
+pub order-inside : (x : Func) (n : ℕ) → Inside (leads x) n → Inside (order x) n
+order-inside x n i p q h m = i p q h (order-mem x p .1 m)
 
 pub leads-same : (x y : Func) → x .points ≡ y .points → leads x ≡ leads y
 unfolding leads

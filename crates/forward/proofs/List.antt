@@ -6,12 +6,11 @@ use mathlib.Core.Path.{_≡_, refl, ap, sym, _∙_, subst}
 use mathlib.Core.List.{List, List·Memᴰ, List·Memᴰ·head, List·Memᴰ·tail}
 use lib.ListN.{length, set, length-set}
 use lib.Seq.{getD-set-same, getD-set-other}
-use Rattle.model.specs.Walk.{leads}
 use Rattle.forward.specs.Forward.{item, function, Inside, Given}
-use Rattle.forward.specs.Worklist.{targets, nextAt, union, transfer, Progress, progress, listed, last, taken, Ended, Ends, Raised, Propagated, Visited, Visits, sum, waiting, Listed, Fits, FitsAll, Ready}
+use Rattle.forward.specs.Worklist.{order, targets, nextAt, union, transfer, Progress, progress, listed, last, taken, Ended, Ends, Raised, Propagated, Visited, Visits, sum, waiting, Listed, Fits, FitsAll, Ready}
 use Rattle.forward.specs.declared.Next.{Next}
 use Rattle.forward.specs.declared.Next.the-variants.{To, Fork}
-use Rattle.forward.proofs.Laws.{sum-but, sum-le, sum-short, waiting-le, waiting-two, waiting-other, union-ge, leads-there}
+use Rattle.forward.proofs.Laws.{sum-but, sum-le, sum-short, waiting-le, waiting-two, waiting-other, union-ge, order-there, order-inside}
 
 -- a table after a store: at the place, and elsewhere
 pub here : (l : List ℕ) (q v : ℕ) → q < length l → item (set l q v) q ≡ v
@@ -265,7 +264,7 @@ module _ (w : List ℕ) (b : ℕ) (gen kill : List ℕ) (x : Progress) where
       record {
         n = r .n;
         small = r .given .small;
-        inside = λ q m. r .given .inside p q k (rw (leads-there w b (r .n) p k, ← d) m);
+        inside = λ q m. order-inside (function w b (r .n)) (r .n) (r .given .inside) p q k (rw (order-there w b (r .n) p k, ← d) m);
         list = rw e (listed-taken (r .n) x (r .list) (r .some));
       }
 
@@ -406,7 +405,7 @@ cost-visited next gen kill n x y i l h v =
 pub record Draining (w : List ℕ) (b n : ℕ) (gen kill : List ℕ) (x y : Progress) : Type 0 where
   pub given : Given n w b gen kill
   pub list : Listed n y
-  pub visits : Visits (leads (function w b n)) gen kill x y
+  pub visits : Visits (order (function w b n)) gen kill x y
   pub same-sets : length (y .sets) ≡ length (x .sets)
   pub same-state : length (y .state) ≡ length (x .state)
   pub same-todo : length (y .todo) ≡ length (x .todo)
@@ -415,10 +414,10 @@ pub draining-none : (w : List ℕ) (b n : ℕ) (gen kill : List ℕ) (x : Progre
 draining-none w b n gen kill x g l =
     record { given = g; list = l; visits = Visits.none; same-sets = refl; same-state = refl; same-todo = refl }
 
-pub drained : (w : List ℕ) (b n : ℕ) (gen kill : List ℕ) (x y : Progress) → Draining w b n gen kill x y → y .count ≡ 0 → Visits (leads (function w b n)) gen kill x (progress (y .sets) (y .state) (y .todo) 0)
+pub drained : (w : List ℕ) (b n : ℕ) (gen kill : List ℕ) (x y : Progress) → Draining w b n gen kill x y → y .count ≡ 0 → Visits (order (function w b n)) gen kill x (progress (y .sets) (y .state) (y .todo) 0)
 drained w b n gen kill x y s e =
     subst
-    (λ (c : ℕ). Visits (leads (function w b n)) gen kill x (progress (y .sets) (y .state) (y .todo) c))
+    (λ (c : ℕ). Visits (order (function w b n)) gen kill x (progress (y .sets) (y .state) (y .todo) c))
     e
     (s .visits)
 
@@ -427,20 +426,20 @@ module _ (w : List ℕ) (b n : ℕ) (gen kill : List ℕ) (x y : Progress) (s : 
   draining-ready = record { n = n; given = s .given; list = s .list; some = h }
 
   module _ (z : Progress) (v : Visited (nextAt w b) gen kill y z) where
-    visited-leads : Visited (leads (function w b n)) gen kill y z
-    visited-leads = rw (leads-there w b n (last y) (last-within n y (s .list) h)) v
+    visited-order : Visited (order (function w b n)) gen kill y z
+    visited-order = rw (order-there w b n (last y) (last-within n y (s .list) h)) v
 
     pub draining-less : cost n z < cost n y
     draining-less =
-        cost-visited (leads (function w b n)) gen kill n y z (s .given .inside) (s .list) h visited-leads
+        cost-visited (order (function w b n)) gen kill n y z (order-inside (function w b n) n (s .given .inside)) (s .list) h visited-order
 
     pub draining-more : length (z .sets) ≡ length (y .sets) → length (z .state) ≡ length (y .state) → length (z .todo) ≡ length (y .todo) → Draining w b n gen kill x z
     draining-more i j k =
         record {
           given = s .given;
           list =
-              listed-visited (leads (function w b n)) gen kill n y z (s .given .inside) (s .list) h visited-leads;
-          visits = Visits.more (s .visits) h visited-leads;
+              listed-visited (order (function w b n)) gen kill n y z (order-inside (function w b n) n (s .given .inside)) (s .list) h visited-order;
+          visits = Visits.more (s .visits) h visited-order;
           same-sets = i ∙ s .same-sets;
           same-state = j ∙ s .same-state;
           same-todo = k ∙ s .same-todo;

@@ -8,10 +8,11 @@ use mathlib.Core.Logic.{⊎-elim}
 use lib.ListN.{length}
 use Rattle.bits.specs.Bits.{bit}
 use Rattle.bits.proofs.Laws.{bit-le, bit-zero}
-use Rattle.model.specs.Walk.{Walk, never}
+use Rattle.model.specs.Task.{Func}
+use Rattle.model.specs.Walk.{Walk, never, leads}
 use Rattle.forward.specs.Forward.{item, Inside, Carried, Solved}
-use Rattle.forward.specs.Worklist.{union, transfer, Progress, progress, listed, last, taken, Raised, Propagated, Visited, Visits, cleared, waiting, Listed}
-use Rattle.forward.proofs.Laws.{sum-at, sum-zero, waiting-two, waiting-other, bit-union, bit-transfer, length-cleared, item-cleared}
+use Rattle.forward.specs.Worklist.{order, union, transfer, Progress, progress, listed, last, taken, Raised, Propagated, Visited, Visits, cleared, waiting, Listed}
+use Rattle.forward.proofs.Laws.{sum-at, sum-zero, waiting-two, waiting-other, bit-union, bit-transfer, length-cleared, item-cleared, order-mem}
 use Rattle.forward.proofs.List.{here, else, listed-put, listed-raised, last-within, last-waits, listed-taken, listed-visited}
 
 -- ---- what comes to a point
@@ -465,3 +466,25 @@ module _ (n entry : ℕ) (s t s′ t′ l : List ℕ) (x : Progress) (some : 1 �
   pub start-solved : (next : ℕ → List ℕ) (gen kill : List ℕ) (y : Progress) → Inside next n → ((a : ℕ) → item kill a < 2 ^ 64) → Visits next gen kill x y → y .count ≡ 0 → Solved next n entry gen kill (y .sets) (y .state)
   start-solved next gen kill y inside small v z =
       solved n entry (progress s′ t′ l 0) blank some next gen kill y inside small (rw g at v) z
+
+-- the order of the visits does not matter: walks and what they carry go by where points lead
+module _ {f g : ℕ → List ℕ} (same : (p a : ℕ) → List·Memᴰ a (f p) → List·Memᴰ a (g p)) where
+  walk-as : {a b : ℕ} → Walk f never a b → Walk g never a b
+  walk-as Walk.here = Walk.here
+  walk-as (Walk.step {p = p} {q = q} t k w) = Walk.step t (same p q k) (walk-as w)
+
+  carried-as : {entry j p : ℕ} {gen kill : ℕ → ℕ} → Carried f entry gen kill j p → Carried g entry gen kill j p
+  carried-as (Carried.enter e) = Carried.enter e
+  carried-as (Carried.given {p = p} {q = q} w e k) = Carried.given (walk-as w) e (same p q k)
+  carried-as (Carried.kept {p = p} {q = q} c e k) = Carried.kept (carried-as c) e (same p q k)
+
+pub solved-order : (x : Func) (n entry : ℕ) (gen kill sets state : List ℕ) → Solved (order x) n entry gen kill sets state → Solved (leads x) n entry gen kill sets state
+solved-order x n entry gen kill sets state s =
+    let back : (p a : ℕ) → List·Memᴰ a (order x p) → List·Memᴰ a (leads x p) = λ p a m. order-mem x p .1 m in
+    let there : (p a : ℕ) → List·Memᴰ a (leads x p) → List·Memᴰ a (order x p) = λ p a m. order-mem x p .0 m in
+    record {
+      reached = λ p h k. walk-as back (s .reached p h k);
+      marked = λ p h w. s .marked p h (walk-as there w);
+      carried = λ p j h i e. carried-as back (s .carried p j h i e);
+      held = λ p j h i c. s .held p j h i (carried-as there c);
+    }

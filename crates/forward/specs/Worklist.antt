@@ -4,7 +4,8 @@ use mathlib.Core.Path.{_≡_}
 use mathlib.Core.List.{List, [], _∷_, _++_, List·Memᴰ}
 use lib.ListN.{length, drop, set, replicate}
 use lib.Bits.{bitAnd, bitOr}
-use Rattle.model.specs.Walk.{leadsFrom}
+use Rattle.model.specs.Task.{Func}
+use Rattle.model.specs.Walk.{leadsFrom, leads}
 use Rattle.tables.specs.Tables.{pointAt}
 use Rattle.forward.specs.Forward.{item, Given}
 use Rattle.forward.specs.declared.Last.{Last}
@@ -17,9 +18,18 @@ targets Nowhere = []
 targets (To q) = q ∷ []
 targets (Fork q r) = q ∷ r ∷ []
 
--- where point p of the function at b leads
+-- the order in which a set comes to the points where a point leads: the first of two comes last, and is visited next
+unfoldable pub turned : List ℕ → List ℕ
+turned [] = []
+turned (q ∷ []) = q ∷ []
+turned (q ∷ r ∷ l) = r ∷ q ∷ l
+
+unfoldable pub order : Func → ℕ → List ℕ
+order x p = turned (leads x p)
+
+-- the same for point p of the function at b
 unfoldable pub nextAt : List ℕ → ℕ → ℕ → List ℕ
-nextAt w b p = leadsFrom p (pointAt w (b + p))
+nextAt w b p = turned (leadsFrom p (pointAt w (b + p)))
 
 -- the bits of both sets; what leaves a point with this set
 unfoldable pub union : ℕ → ℕ → ℕ

@@ -6,10 +6,10 @@ ghost use Rattle.model.specs.Task.{Func};
 ghost use Rattle.model.specs.Walk.{leadsFrom, leads};
 ghost use Rattle.tables.specs.Tables.{pointsOf};
 ghost use Rattle.forward.specs.Forward.{item, function, Given, Solved};
-ghost use Rattle.forward.specs.Worklist.{targets, nextAt, union, transfer, progress, cleared, listed, Ended, Ends, Raised, Propagated, Visited, Visits, Listed, Fits, FitsAll, Ready};
+ghost use Rattle.forward.specs.Worklist.{targets, turned, order, nextAt, union, transfer, progress, cleared, listed, Ended, Ends, Raised, Propagated, Visited, Visits, Listed, Fits, FitsAll, Ready};
 use model::Point;
 
-// Where a point leads.
+// Where a point leads, in the order in which a set comes there.
 enum Next {
     Nowhere,
     To(usize),
@@ -30,7 +30,7 @@ struct End {
 
 fn next_of(p: usize, x: Point) -> Next
     requires { ⌜ p < 1024 ⌝ }
-    ensures { λ r. ⌜ targets r ≡ leadsFrom p x ⌝ }
+    ensures { λ r. ⌜ targets r ≡ turned (leadsFrom p x) ⌝ }
 {
     match x {
         Point::Load(_) => Next::To(p + 1),
@@ -38,7 +38,7 @@ fn next_of(p: usize, x: Point) -> Next
         Point::Call(_) => Next::To(p + 1),
         Point::Ensure(_) => Next::To(p + 1),
         Point::Goto(q) => Next::To(q as usize),
-        Point::Either(q, r) => Next::Fork(q as usize, r as usize),
+        Point::Either(q, r) => Next::Fork(r as usize, q as usize),
         Point::Return => Next::Nowhere,
     }
 }
@@ -241,7 +241,7 @@ fn drain(
     first: usize,
 )
     requires { ⌜ Given n (now work) base (now gens) (now kills) × Listed n (progress (now sets) (now state) (now todo) first) ⌝ }
-    ensures { λ r. ⌜ Visits (leads (function (now (work .entry)) base n)) (now (gens .entry)) (now (kills .entry))
+    ensures { λ r. ⌜ Visits (order (function (now (work .entry)) base n)) (now (gens .entry)) (now (kills .entry))
         (progress (now (sets .entry)) (now (state .entry)) (now (todo .entry)) first)
         (progress (now (sets .exit)) (now (state .exit)) (now (todo .exit)) 0) ⌝ }
 {

@@ -1,4 +1,5 @@
 -- Laws of the rows: the points of a function in the tables, the tests at a point, the row of a point, and the calls of a task.
+-- The numbers 7 to 10 and 12 are those of the refusals.
 use Prim.Native.Nat.{ℕ, suc, _+_, _-_, _*_, _≤_, _<_}
 use native.Mathlib.Nat.{sub-zero}
 use native.Mathlib.Omega.{arith}
@@ -21,7 +22,7 @@ use Rattle.model.specs.Basic.{unless, _orElse_, firstOf, any, countFrom, upTo}
 use Rattle.model.specs.Task.{Func, Task, size, count, func, point, funcLine}
 use Rattle.model.specs.Walk.{called, ensured, present, is, calls, isCall, isEnsure}
 use Rattle.model.specs.Refusal.{calleeFits, ensureFits, paired, targetFits, targetsFit, mayEnd, endFits, isCalled, linkRow, callRow, firstPoint}
-use Rattle.tables.specs.Tables.{pointAt, baseAt, sizeAt, pointsOf, funcOf, taskOf, Stacked, none, more}
+use Rattle.tables.specs.Tables.{isAccess, pointAt, baseAt, sizeAt, pointsOf, funcOf, taskOf, Stacked, none, more}
 use Rattle.tables.proofs.Laws.{length-points, point-there, length-funcs, func-is, size-is, stacked-within, line-is}
 use Rattle.links.specs.declared.Named.{Named}
 use Rattle.links.specs.declared.Named.the-variants.{Number}
@@ -29,7 +30,7 @@ use Rattle.links.specs.declared.Span.{Span}
 use Rattle.links.specs.Links.{rowVerdict, optionOf, funcRow, linkRows, callRows, spanAt, funcIn, Held, Settled, callsAt, markOf}
 use Rattle.links.proofs.Search.{count-more, count-end, Rest, any-add, any-last, any-same, any-shift}
 
--- a test of which the code asks the contrary
+-- the code branches on `not b`, where the definitions have b
 pub failed : (b : Bool) → not b ≡ true → false ≡ b
 failed b h = sym (not-true b h)
 
@@ -145,12 +146,17 @@ rowOf callee pairing target last line =
     orElse unless target (Target line)
     orElse unless last (LastPoint line)
 
+-- the function that lies in the span of f is function f of the task
+pub func-in : (w : List ℕ) (stack n f : ℕ) → f < n → {s : Span} → s ≡ spanAt w f → funcIn w s ≡ func (taskOf w stack n) f
+unfolding funcIn
+func-in w stack n f h e = ap (funcIn w) e ∙ sym (func-is w stack n f h)
+
 -- the row, from what the code finds: the point y, its line l, the function o that it calls, and the four tests
 module _ {w : List ℕ} {n m : ℕ} (k : Stacked w n m) (f : ℕ) (h : f < n) (s : Span) (e : s ≡ spanAt w f) (p : ℕ) (i : p < s .size) (stack : ℕ) where
   pub row-is : {y : Point} → y ≡ pointAt w (s .base + p) → {l : ℕ} → l ≡ 2 + 2 * f + s .base + 1 + p → {o : Option ℕ} → o ≡ called y
       → {a b c d : Bool} → a ≡ calleeFits (taskOf w stack n) f o → b ≡ paired (funcIn w s) p → c ≡ targetsFit (funcIn w s) y → d ≡ endFits (funcIn w s) p
       → rowVerdict (rowOf a b c d l) ≡ rowVerdict (linkRow (taskOf w stack n) f p)
-  unfolding linkRow funcIn
+  unfolding linkRow
   row-is {y} u v o a b c d =
       λ j. rowVerdict
       (rowOf
@@ -161,7 +167,7 @@ module _ {w : List ℕ} {n m : ℕ} (k : Stacked w n m) (f : ℕ) (h : f < n) (s
       ((v ∙ line) j))
     where
       same : funcIn w s ≡ func (taskOf w stack n) f
-      same = ap (funcIn w) e ∙ sym (func-is w stack n f h)
+      same = func-in w stack n f h e
 
       there : y ≡ point (func (taskOf w stack n) f) p
       there = u ∙ (sym (point-in w s p i) ∙ ap (λ (x : Func). point x p) same)
@@ -170,6 +176,49 @@ module _ {w : List ℕ} {n m : ℕ} (k : Stacked w n m) (f : ℕ) (h : f < n) (s
       line =
           ap (λ (x : Span). 2 + 2 * f + x .base + 1 + p) e
           ∙ ap (λ (b : ℕ). b + 1 + p) (sym (line-is stack k f h))
+
+-- before the last point a load or a store passes 7 to 10: it calls nothing, is no ensure, has no target, and does not end the function
+access-passes : (t : Task) (f p : ℕ) → isAccess (point (func t f) p) ≡ true → p + 1 < size (func t f) → Accepted ≡ rowVerdict (linkRow t f p)
+unfolding linkRow
+access-passes t f p a h = go (point (func t f) p) a
+  where
+    rowAt : Point → Option Refusal
+    rowAt y =
+        rowOf
+        (calleeFits t f (called y))
+        ((not (present (called y)) || isEnsure (func t f) (suc p)) && ensureFits (func t f) p (ensured y))
+        (targetsFit (func t f) y)
+        (ltb (suc p) (size (func t f)) || mayEnd y)
+        (funcLine t f + 1 + p)
+
+    go : (y : Point) → isAccess y ≡ true → Accepted ≡ rowVerdict (rowAt y)
+    go (Load o) a = rw (lt-ltb (suc p) (size (func t f)) (omega arith))
+    go (Store o) a = rw (lt-ltb (suc p) (size (func t f)) (omega arith))
+    go (Call g) a = absurd (true≢false (sym a))
+    go (Ensure k) a = absurd (true≢false (sym a))
+    go (Goto q) a = absurd (true≢false (sym a))
+    go (Either q r) a = absurd (true≢false (sym a))
+    go Return a = absurd (true≢false (sym a))
+
+-- the same in the tables, where the code finds by b that point p is a load or a store
+pub row-access : (w : List ℕ) (n f : ℕ) → f < n → (s : Span) → s ≡ spanAt w f → (p stack : ℕ) → {b : Bool} → b ≡ isAccess (pointAt w (s .base + p))
+    → not b ≡ false → p + 1 < s .size → Accepted ≡ rowVerdict (linkRow (taskOf w stack n) f p)
+row-access w n f h s e p stack {b} d a i =
+    access-passes
+    (taskOf w stack n)
+    f
+    p
+    (sym (ap isAccess there) ∙ (sym d ∙ not-false b a))
+    (rw (← size-there) i)
+  where
+    same : funcIn w s ≡ func (taskOf w stack n) f
+    same = func-in w stack n f h e
+
+    there : pointAt w (s .base + p) ≡ point (func (taskOf w stack n) f) p
+    there = sym (point-in w s p (omega arith)) ∙ ap (λ (x : Func). point x p) same
+
+    size-there : s .size ≡ size (func (taskOf w stack n) f)
+    size-there = sym (size-in w s) ∙ ap size same
 
 -- the searches for the first row, at their start
 module _ (w : List ℕ) (stack n : ℕ) where
@@ -233,7 +282,7 @@ module _ (l : List Bool) (f : ℕ) {o : Named} {g : ℕ} (d : o ≡ Number g) wh
   pub mark-kept : f < g → markOf l f ≡ (is f (optionOf o) || markOf l f)
   mark-kept h = rw (d, ne-eqb f g (λ e. omega arith))
 
--- one turn of the marking, where c is the mark of f before it and d after it, and its end
+-- one step of the marking, where c is the mark of f before it and d after it, and its end
 module _ (w : List ℕ) (f i n : ℕ) (c : Bool) where
   pub mark-on : (d : Bool) {x : Point} → x ≡ pointAt w i → {o : Option ℕ} → o ≡ called x → d ≡ (is f o || c) → i < n
       → (any (callsAt w f) (countFrom (i + 1) (n - (i + 1))) || d) ≡ (any (callsAt w f) (countFrom i (n - i)) || c)
@@ -251,7 +300,7 @@ module _ (w : List ℕ) (f i n : ℕ) (c : Bool) where
   unfolding any
   mark-end h = rw (count-end i n h)
 
--- a mark that was made where none was before
+-- where no function was marked before, f is marked if it is called
 pub marked-is : {w : List ℕ} {n m : ℕ} → Stacked w n m → (stack f : ℕ) → f < 64 → {c : Bool}
     → c ≡ (any (callsAt w f) (upTo m) || markOf (replicate 64 false) f) → c ≡ isCalled (taskOf w stack n) f
 marked-is {w} {n} {m} k stack f h e =

@@ -35,7 +35,12 @@ pub verdict-some : (o : Option Refusal) {r : Refusal} → rowVerdict o ≡ Refus
 verdict-some none d = let z : _≡_ {A = ℕ} 0 1 = cc in absurd (omega arith)
 verdict-some (some q) d = cc
 
--- one step of such a search, where number i has the verdict v, and its end
+-- a row with no other after it decides alone
+or-none : (o : Option Refusal) → (o orElse none) ≡ o
+or-none none = refl
+or-none (some r) = refl
+
+-- one step of such a search, where number i has the verdict v; its last step, where the number q that was judged is i; and its end
 module _ (row : ℕ → Option Refusal) (i n : ℕ) {whole : Option Refusal} (l : Rest whole row i n) where
   pub search-on : {v : Verdict} → v ≡ rowVerdict (row i) → v ≡ Accepted → i < n → Rest whole row (i + 1) n
   unfolding firstOf
@@ -55,6 +60,13 @@ module _ (row : ℕ → Option Refusal) (i n : ℕ) {whole : Option Refusal} (l 
       (ap
       (λ (o : Option Refusal). rowVerdict (o orElse firstOf row (countFrom (i + 1) (n - (i + 1)))))
       (sym (verdict-some (row i) (sym e ∙ a))))
+
+  pub search-last : {v : Verdict} (q : ℕ) → v ≡ rowVerdict (row q) → q ≡ i → i + 1 ≡ n → v ≡ rowVerdict whole
+  unfolding firstOf
+  search-last q e d h =
+      rw
+      (l, count-more i n (omega arith), count-end (i + 1) n (omega arith))
+      (e ∙ (ap (λ (j : ℕ). rowVerdict (row j)) d ∙ ap rowVerdict (sym (or-none (row i)))))
 
   pub search-end : n ≤ i → Accepted ≡ rowVerdict whole
   unfolding firstOf
@@ -76,7 +88,7 @@ any-last q n =
     ap (λ (k : ℕ). any q (upTo k)) (sym (add-one n))
     ∙ (any-add q 0 n 1 ∙ ap (λ (b : Bool). any q (upTo n) || b) (or-false (q (0 + n)) ∙ ap q (zero-add n)))
 
--- the same test otherwise said, and a test of numbers that are b further on
+-- two tests that agree on the range, and a test of numbers that are b further on
 pub any-same : (q r : ℕ → Bool) (i n : ℕ) → ((j : ℕ) → i ≤ j → j < i + n → q j ≡ r j) → any q (countFrom i n) ≡ any r (countFrom i n)
 unfolding any countFrom
 any-same q r i zero h = refl

@@ -1,7 +1,7 @@
 // Judges a read task in the tables: refusals 7 to 10, by line and then by number, and refusal 12.
 ghost use mathlib.Core.Path.{_≡_};
 ghost use mathlib.Core.Bool.{_||_};
-ghost use Prim.Native.Nat.{ℕ, _+_, _*_, _<_, _≤_};
+ghost use Prim.Native.Nat.{ℕ, _+_, _<_, _≤_};
 ghost use lib.ListN.{length};
 ghost use Rattle.model.specs.Basic.{any, upTo};
 ghost use Rattle.model.specs.Task.{Func, Task, size, count, point};
@@ -215,21 +215,27 @@ fn link_row(work: &[u32], funcs: usize, f: usize, s: Span, p: usize) -> Verdict
     Verdict::Accepted
 }
 
-// 7 to 10 at the points of function f.
+// 7 to 10 at the points of function f. Before the last point none of them can refuse a load or a store.
 fn func_rows(work: &[u32], funcs: usize, f: usize) -> Verdict
     requires { ⌜ Settled (now work) funcs × (f < funcs) ⌝ }
     ensures { λ r. ⌜ ((stack : ℕ) → r ≡ rowVerdict (funcRow (taskOf (now (work .entry)) stack funcs) f)) ⌝ }
 {
     let s = span_at(work, f);
+    if s.size == 0 {
+        return Verdict::Accepted;
+    }
+    let last = s.size - 1;
     let mut p = 0;
-    while p < s.size {
-        let v = link_row(work, funcs, f, s, p);
-        if let Verdict::Refused(r) = v {
-            return Verdict::Refused(r);
+    while p < last {
+        if !tables::access_at(work, s.base + p) {
+            let v = link_row(work, funcs, f, s, p);
+            if let Verdict::Refused(r) = v {
+                return Verdict::Refused(r);
+            }
         }
         p += 1;
     }
-    Verdict::Accepted
+    link_row(work, funcs, f, s, last)
 }
 
 // 7 to 10: the first point, by line, that one of them refuses.

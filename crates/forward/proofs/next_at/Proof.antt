@@ -5,7 +5,7 @@ use borrow.Author.Needs.{needs}
 use Rattle.model.specs.declared.Point.{Point}
 use Rattle.model.specs.Walk.{leadsFrom}
 use Rattle.tables.specs.Tables.{pointAt}
-use Rattle.forward.specs.Worklist.{nextAt}
+use Rattle.forward.specs.Worklist.{turned, nextAt}
 use Rattle.forward.proofs.Laws.{access-leads}
 use Rattle.forward.proofs.next_at.Statement.{statement}
 use Rattle.forward.proofs.next_at.Tie as tie
@@ -35,7 +35,7 @@ returns-2 : tie.Need-returns-2
 unfolding nextAt
 returns-2 c =
     c .next-of .ensures
-    ∙ ap (λ (x : Point). leadsFrom (c .before .before .before .before .before .args .p) x) (c .before .point-at .ensures)
+    ∙ ap (λ (x : Point). turned (leadsFrom (c .before .before .before .before .before .args .p) x)) (c .before .point-at .ensures)
 
 pub next-at-spec : {M : Type 1} → statement M
 next-at-spec =

@@ -1,10 +1,12 @@
 -- Each arm of the match is one case of the definition.
 use native.Mathlib.Numerals.{add-one}
 use borrow.Author.Needs.{needs}
+use Rattle.forward.specs.Worklist.{turned}
 use Rattle.forward.proofs.next_of.Statement.{statement}
 use Rattle.forward.proofs.next_of.Tie as tie
 
 pub next-of-spec : {M : Type 1} → statement M
+unfolding turned
 next-of-spec =
     tie.close
     (tie.spec

@@ -2,7 +2,10 @@
 use native.Mathlib.Omega.{arith}
 use mathlib.Core.Path.{refl}
 use borrow.Author.Needs.{needs}
-use Rattle.forward.proofs.Theory.{start-listed, start-solved}
+use denote.Ref.{now}
+use Rattle.forward.specs.Forward.{function}
+use Rattle.forward.proofs.Theory.{start-listed, start-solved, solved-order}
+use Rattle.forward.proofs.Laws.{order-inside}
 use Rattle.forward.proofs.solve.Statement.{statement}
 use Rattle.forward.proofs.solve.Tie as tie
 
@@ -30,8 +33,17 @@ drain-requires c κs =
 
 returns : tie.Need-returns
 returns c =
+    let a = c .before .before .before .before .before .before .before .before .before .before .before .before .before .before .before .before .before .before .before .before .before .before .before .before .before .before .before .before .before .before .before .before .before .before .args in
     let p = c .before .before .before .before .before .before .before .before .before .before .before .before .before .before .before .before .before .before .before .before .before .before .before .before .before .before .before .before .before .before .before .before .before .before .pre in
-    start-solved
+    solved-order
+    (function (now (a .work)) (a .base) (a .n))
+    _
+    _
+    _
+    _
+    _
+    _
+    (start-solved
     _
     _
     _
@@ -51,10 +63,10 @@ returns c =
     _
     _
     _
-    (p .0 .inside)
+    (order-inside _ _ (p .0 .inside))
     (λ a. (c .before .before .before .before .before .before .before .before .before .before .before .before .before .before .before .before .before .before .before .before .before .before .before .before .before .before .before .before .before .before .before .shared-slice-known3 .given a) .fits)
     (c .before .before .before .before .before .before .drain .ensures)
-    refl
+    refl)
 
 pub solve-spec : {M : Type 1} → statement M
 solve-spec =

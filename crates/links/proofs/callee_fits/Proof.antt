@@ -1,4 +1,4 @@
--- No call, a call that goes no further on, and a call that does.
+-- Where there is no call nothing is asked. A call that does not go to a later function does not fit; else the function must exist.
 use native.Mathlib.Omega.{arith}
 use borrow.Author.Needs.{needs}
 use Rattle.links.proofs.Laws.{callee-low, callee-high}

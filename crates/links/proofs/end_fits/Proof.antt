@@ -1,4 +1,4 @@
--- Two ways out: there is a next point, or this is the last one.
+-- Where there is a next point nothing is asked; at the last point its kind decides.
 use borrow.Author.Needs.{needs}
 use Rattle.links.proofs.Laws.{end-before, end-last}
 use Rattle.links.proofs.end_fits.Statement.{statement}

@@ -1,4 +1,4 @@
--- No ensure; an ensure that is first, that follows no call, and that follows one.
+-- Where there is no ensure nothing is asked. An ensure that is first or follows no call does not fit; after a call the frame decides.
 use native.Mathlib.Omega.{arith}
 use borrow.Author.Needs.{needs}
 use Rattle.links.proofs.Laws.{ensure-first, ensure-alone, ensure-after}

@@ -1,4 +1,4 @@
--- Each return is the row with the tests that led there; what a later test says plays no role.
+-- Each return is the row with the tests made so far: a row takes the first refusal, so the tests after it do not matter.
 use Prim.Native.Nat.{ℕ}
 use mathlib.Core.Path.{_≡_, refl, sym, _∙_}
 use mathlib.Core.Bool.{Bool}

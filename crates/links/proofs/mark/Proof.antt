@@ -1,4 +1,4 @@
--- A call of a function below 64 is marked, another is not.
+-- The contract is about marks below 64, so a call of a function from 64 on changes none of them.
 use native.Mathlib.Omega.{arith}
 use borrow.Author.Needs.{needs}
 use Rattle.links.proofs.Laws.{mark-set, mark-kept}

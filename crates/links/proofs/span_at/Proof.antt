@@ -1,4 +1,4 @@
--- The three numbers, one by one.
+-- Each field is what its reader in the tables answers.
 use borrow.Author.Needs.{needs}
 use Rattle.links.proofs.span_at.Statement.{statement}
 use Rattle.links.proofs.span_at.Tie as tie

@@ -1,4 +1,4 @@
--- A target past the end, and one inside.
+-- A target past the end is no point of the function; one inside fits where it is no ensure.
 use borrow.Author.Needs.{needs}
 use Rattle.links.proofs.Laws.{target-past, target-in}
 use Rattle.links.proofs.target_fits.Statement.{statement}
