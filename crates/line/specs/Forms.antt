@@ -1,46 +1,57 @@
--- Each form of a line by itself: the line where the text has that form, else malformed.
+-- Each form of a line inside a function that a text can begin with, with the bytes that the line takes.
 use Prim.Native.Nat.{ℕ}
 use mathlib.Core.List.{List}
+use mathlib.Core.Option.{Option, none, some}
 use Rattle.model.specs.Basic.{if_then_else_}
-use Rattle.model.specs.Text.{bytes, same, oneNumber, twoNumbers, orOne, orTwo}
+use Rattle.model.specs.Text.{bytes, starts}
+use Rattle.model.specs.declared.Point.{Point}
 use Rattle.model.specs.declared.Point.the-variants.{Load, Store, Call, Ensure, Goto, Either, Return}
-use Rattle.model.specs.declared.Line.{Line}
-use Rattle.model.specs.declared.Line.the-variants.{Stack, Func, At, Close, Malformed}
+use Rattle.words.specs.Answers.{Front, Two, oneFront, twoFront}
+use Rattle.line.specs.declared.Inside.{Inside}
+use Rattle.line.specs.declared.Inside.the-variants as inside
 
-abbrev pub loadForm : List ℕ → Line
-loadForm s = orOne (oneNumber (bytes "  (load ") (bytes ")") s) (λ o. At (Load o)) Malformed
+abbrev pub onePoint : Front → (ℕ → Point) → Inside → Inside
+onePoint (some n) f r = inside.Point (f (n .0)) (n .1)
+onePoint none f r = r
 
-abbrev pub storeForm : List ℕ → Line
-storeForm s = orOne (oneNumber (bytes "  (store ") (bytes ")") s) (λ o. At (Store o)) Malformed
+abbrev pub twoPoint : Option Two → (ℕ → ℕ → Point) → Inside → Inside
+twoPoint (some n) f r = inside.Point (f (n .first) (n .second)) (n .bytes)
+twoPoint none f r = r
 
-abbrev pub callForm : List ℕ → Line
-callForm s = orOne (oneNumber (bytes "  (call ") (bytes ")") s) (λ f. At (Call f)) Malformed
+abbrev pub loadFront : List ℕ → Inside
+loadFront s = onePoint (oneFront (bytes "  (load ") (bytes ")\n") s) Load inside.Other
 
-abbrev pub gotoForm : List ℕ → Line
-gotoForm s = orOne (oneNumber (bytes "  (goto ") (bytes ")") s) (λ p. At (Goto p)) Malformed
+abbrev pub storeFront : List ℕ → Inside
+storeFront s = onePoint (oneFront (bytes "  (store ") (bytes ")\n") s) Store inside.Other
 
-abbrev pub eitherForm : List ℕ → Line
-eitherForm s = orTwo (twoNumbers (bytes "  (either ") (bytes " ") (bytes ")") s) (λ p q. At (Either p q)) Malformed
+abbrev pub callFront : List ℕ → Inside
+callFront s = onePoint (oneFront (bytes "  (call ") (bytes ")\n") s) Call inside.Other
 
-abbrev pub ensureForm : List ℕ → Line
-ensureForm s = orOne (oneNumber (bytes "  (ensure ") (bytes ")") s) (λ k. At (Ensure k)) Malformed
+abbrev pub ensureFront : List ℕ → Inside
+ensureFront s = onePoint (oneFront (bytes "  (ensure ") (bytes ")\n") s) Ensure inside.Other
+
+abbrev pub gotoFront : List ℕ → Inside
+gotoFront s = onePoint (oneFront (bytes "  (goto ") (bytes ")\n") s) Goto inside.Other
+
+abbrev pub eitherFront : List ℕ → Inside
+eitherFront s = twoPoint (twoFront (bytes "  (either ") (bytes " ") (bytes ")\n") s) Either inside.Other
+
+abbrev pub returnFront : List ℕ → Inside
+returnFront s = if starts (bytes "  (return)\n") s then inside.Point Return 11 else inside.Other
 
 -- ensure, or else either
-abbrev pub eForm : List ℕ → Line
-eForm s = orOne (oneNumber (bytes "  (ensure ") (bytes ")") s) (λ k. At (Ensure k)) (eitherForm s)
+abbrev pub eFront : List ℕ → Inside
+eFront s = onePoint (oneFront (bytes "  (ensure ") (bytes ")\n") s) Ensure (eitherFront s)
 
-abbrev pub returnForm : List ℕ → Line
-returnForm s = if same (bytes "  (return)") s then At Return else Malformed
+-- a point line: the first of the forms, in the order of model
+unfoldable pub pointFront : List ℕ → Inside
+pointFront s =
+    onePoint (oneFront (bytes "  (load ") (bytes ")\n") s) Load
+    (onePoint (oneFront (bytes "  (store ") (bytes ")\n") s) Store
+    (onePoint (oneFront (bytes "  (call ") (bytes ")\n") s) Call
+    (onePoint (oneFront (bytes "  (ensure ") (bytes ")\n") s) Ensure
+    (onePoint (oneFront (bytes "  (goto ") (bytes ")\n") s) Goto
+    (twoPoint (twoFront (bytes "  (either ") (bytes " ") (bytes ")\n") s) Either (returnFront s))))))
 
-abbrev pub stackForm : List ℕ → Line
-stackForm s = orOne (oneNumber (bytes "(stack ") (bytes ")") s) Stack Malformed
-
-abbrev pub funcForm : List ℕ → Line
-funcForm s = orOne (oneNumber (bytes "(func ") (bytes "") s) Func Malformed
-
--- stack, or else func
-abbrev pub headForm : List ℕ → Line
-headForm s = orOne (oneNumber (bytes "(stack ") (bytes ")") s) Stack (funcForm s)
-
-abbrev pub closeForm : List ℕ → Line
-closeForm s = if same (bytes ")") s then Close else Malformed
+abbrev pub closeFront : List ℕ → Inside
+closeFront s = if starts (bytes ")\n") s then inside.Close else inside.Other

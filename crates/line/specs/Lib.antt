@@ -1,2 +1,3 @@
--- The forms of a line, one by one.
+-- What the first line of a text is, and the forms of a line inside a function.
+pub mod Lines
 pub mod Forms

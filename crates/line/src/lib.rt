@@ -1,97 +1,103 @@
-// One line of a task text, without its line feed, read by its form. A byte of the line picks the form that is tried.
-use model::Line;
+// The first line of a text, read by its form to its line feed. A byte of the line picks the form that is tried.
 use model::Point;
+use words::Num;
 use words::Pair;
-use words::Single;
 ghost use mathlib.Core.Path.{_≡_};
 ghost use Prim.Native.Nat.{_≤_};
 ghost use lib.ListN.{length};
-ghost use Rattle.model.specs.Text.{pointForm, lineOf};
-ghost use Rattle.line.specs.Forms.{loadForm, storeForm, callForm, ensureForm, eitherForm, eForm, gotoForm, returnForm, stackForm, funcForm, headForm, closeForm};
+ghost use Rattle.line.specs.Lines.{stackAs, funcAs, insideAs};
+ghost use Rattle.line.specs.Forms.{loadFront, storeFront, callFront, ensureFront, eitherFront, eFront, gotoFront, returnFront, pointFront, closeFront};
 
-fn load_line(s: &[u8]) -> Line
-    ensures { λ r. ⌜ r ≡ loadForm (now (s .entry)) ⌝ }
-{
-    let Single::Is(n) = words::one(b"  (load ", b")", s) else {
-        return Line::Malformed;
-    };
-    Line::At(Point::Load(n))
+// What a line inside a function is: a point, and how many bytes the line takes; the closing line, which takes two; or none of these.
+pub enum Inside {
+    Point(Point, usize),
+    Close,
+    Other,
 }
 
-fn store_line(s: &[u8]) -> Line
-    ensures { λ r. ⌜ r ≡ storeForm (now (s .entry)) ⌝ }
+fn load_line(s: &[u8]) -> Inside
+    ensures { λ r. ⌜ r ≡ loadFront (now (s .entry)) ⌝ }
 {
-    let Single::Is(n) = words::one(b"  (store ", b")", s) else {
-        return Line::Malformed;
+    let Num::Value(n, k) = words::one(b"  (load ", b")\n", s) else {
+        return Inside::Other;
     };
-    Line::At(Point::Store(n))
+    Inside::Point(Point::Load(n), k)
 }
 
-fn call_line(s: &[u8]) -> Line
-    ensures { λ r. ⌜ r ≡ callForm (now (s .entry)) ⌝ }
+fn store_line(s: &[u8]) -> Inside
+    ensures { λ r. ⌜ r ≡ storeFront (now (s .entry)) ⌝ }
 {
-    let Single::Is(n) = words::one(b"  (call ", b")", s) else {
-        return Line::Malformed;
+    let Num::Value(n, k) = words::one(b"  (store ", b")\n", s) else {
+        return Inside::Other;
     };
-    Line::At(Point::Call(n))
+    Inside::Point(Point::Store(n), k)
 }
 
-fn ensure_line(s: &[u8]) -> Line
-    ensures { λ r. ⌜ r ≡ ensureForm (now (s .entry)) ⌝ }
+fn call_line(s: &[u8]) -> Inside
+    ensures { λ r. ⌜ r ≡ callFront (now (s .entry)) ⌝ }
 {
-    let Single::Is(n) = words::one(b"  (ensure ", b")", s) else {
-        return Line::Malformed;
+    let Num::Value(n, k) = words::one(b"  (call ", b")\n", s) else {
+        return Inside::Other;
     };
-    Line::At(Point::Ensure(n))
+    Inside::Point(Point::Call(n), k)
 }
 
-fn either_line(s: &[u8]) -> Line
-    ensures { λ r. ⌜ r ≡ eitherForm (now (s .entry)) ⌝ }
+fn ensure_line(s: &[u8]) -> Inside
+    ensures { λ r. ⌜ r ≡ ensureFront (now (s .entry)) ⌝ }
 {
-    let Pair::Are(p, q) = words::two(b"  (either ", b" ", b")", s) else {
-        return Line::Malformed;
+    let Num::Value(n, k) = words::one(b"  (ensure ", b")\n", s) else {
+        return Inside::Other;
     };
-    Line::At(Point::Either(p, q))
+    Inside::Point(Point::Ensure(n), k)
+}
+
+fn either_line(s: &[u8]) -> Inside
+    ensures { λ r. ⌜ r ≡ eitherFront (now (s .entry)) ⌝ }
+{
+    let Pair::Are(p, q, k) = words::two(b"  (either ", b" ", b")\n", s) else {
+        return Inside::Other;
+    };
+    Inside::Point(Point::Either(p, q), k)
 }
 
 // An ensure or an either line: the letter after the e picks the form.
-fn e_line(s: &[u8]) -> Line
+fn e_line(s: &[u8]) -> Inside
     requires { ⌜ 5 ≤ length (now s) ⌝ }
-    ensures { λ r. ⌜ r ≡ eForm (now (s .entry)) ⌝ }
+    ensures { λ r. ⌜ r ≡ eFront (now (s .entry)) ⌝ }
 {
-    if s[4] == b'n' {
-        ensure_line(s)
-    } else {
-        either_line(s)
+    let b = s[4];
+    match b {
+        b'n' => ensure_line(s),
+        b'i' => either_line(s),
+        _ => Inside::Other,
     }
 }
 
-fn goto_line(s: &[u8]) -> Line
-    ensures { λ r. ⌜ r ≡ gotoForm (now (s .entry)) ⌝ }
+fn goto_line(s: &[u8]) -> Inside
+    ensures { λ r. ⌜ r ≡ gotoFront (now (s .entry)) ⌝ }
 {
-    let Single::Is(n) = words::one(b"  (goto ", b")", s) else {
-        return Line::Malformed;
+    let Num::Value(n, k) = words::one(b"  (goto ", b")\n", s) else {
+        return Inside::Other;
     };
-    Line::At(Point::Goto(n))
+    Inside::Point(Point::Goto(n), k)
 }
 
-fn return_line(s: &[u8]) -> Line
-    ensures { λ r. ⌜ r ≡ returnForm (now (s .entry)) ⌝ }
+fn return_line(s: &[u8]) -> Inside
+    ensures { λ r. ⌜ r ≡ returnFront (now (s .entry)) ⌝ }
 {
-    if words::same(b"  (return)", s) {
-        Line::At(Point::Return)
+    if words::starts(b"  (return)\n", s) {
+        Inside::Point(Point::Return, 11)
     } else {
-        Line::Malformed
+        Inside::Other
     }
 }
 
-// A point line: the letter after the two spaces and the bracket picks the form.
-fn point_line(s: &[u8]) -> Line
-    requires { ⌜ 5 ≤ length (now s) ⌝ }
-    ensures { λ r. ⌜ r ≡ pointForm (now (s .entry)) ⌝ }
+// A point line, which has 11 bytes at least: the letter after the two spaces and the bracket picks the form.
+fn point_line(s: &[u8]) -> Inside
+    ensures { λ r. ⌜ r ≡ pointFront (now (s .entry)) ⌝ }
 {
-    if !words::starts(b"  (", s) {
-        return Line::Malformed;
+    if s.len() < 11 {
+        return Inside::Other;
     }
     let b = s[3];
     match b {
@@ -101,61 +107,41 @@ fn point_line(s: &[u8]) -> Line
         b'e' => e_line(s),
         b'g' => goto_line(s),
         b'r' => return_line(s),
-        _ => Line::Malformed,
+        _ => Inside::Other,
     }
 }
 
-fn stack_line(s: &[u8]) -> Line
-    ensures { λ r. ⌜ r ≡ stackForm (now (s .entry)) ⌝ }
+fn close_line(s: &[u8]) -> Inside
+    ensures { λ r. ⌜ r ≡ closeFront (now (s .entry)) ⌝ }
 {
-    let Single::Is(n) = words::one(b"(stack ", b")", s) else {
-        return Line::Malformed;
-    };
-    Line::Stack(n)
-}
-
-fn func_line(s: &[u8]) -> Line
-    ensures { λ r. ⌜ r ≡ funcForm (now (s .entry)) ⌝ }
-{
-    let Single::Is(n) = words::one(b"(func ", b"", s) else {
-        return Line::Malformed;
-    };
-    Line::Func(n)
-}
-
-// A stack or a func line: the letter after the bracket picks the form.
-fn head_line(s: &[u8]) -> Line
-    requires { ⌜ 5 ≤ length (now s) ⌝ }
-    ensures { λ r. ⌜ r ≡ headForm (now (s .entry)) ⌝ }
-{
-    let b = s[1];
-    match b {
-        b's' => stack_line(s),
-        b'f' => func_line(s),
-        _ => Line::Malformed,
-    }
-}
-
-fn close_line(s: &[u8]) -> Line
-    ensures { λ r. ⌜ r ≡ closeForm (now (s .entry)) ⌝ }
-{
-    if words::same(b")", s) {
-        Line::Close
+    if words::starts(b")\n", s) {
+        Inside::Close
     } else {
-        Line::Malformed
+        Inside::Other
     }
 }
 
-// The line that s is.
-pub fn read_line(s: &[u8]) -> Line
-    ensures { λ r. ⌜ r ≡ lineOf (now (s .entry)) ⌝ }
+// The line inside a function that s begins with.
+pub fn inside_line(s: &[u8]) -> Inside
+    ensures { λ r. ⌜ insideAs r (now (s .entry)) ⌝ }
 {
-    if s.len() < 5 {
-        return close_line(s);
+    let l = point_line(s);
+    if let Inside::Point(x, k) = l {
+        return Inside::Point(x, k);
     }
-    if s[0] == b' ' {
-        point_line(s)
-    } else {
-        head_line(s)
-    }
+    close_line(s)
+}
+
+// The stack line that s begins with: the cache blocks, and how many bytes the line takes.
+pub fn stack_line(s: &[u8]) -> Num
+    ensures { λ r. ⌜ stackAs r (now (s .entry)) ⌝ }
+{
+    words::one(b"(stack ", b")\n", s)
+}
+
+// The func line that s begins with: the frame, and how many bytes the line takes.
+pub fn func_line(s: &[u8]) -> Num
+    ensures { λ r. ⌜ funcAs r (now (s .entry)) ⌝ }
+{
+    words::one(b"(func ", b"\n", s)
 }

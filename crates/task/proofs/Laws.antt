@@ -1,117 +1,75 @@
 -- Laws of reading: how a text goes into lines, and what each line does to the progress.
-use Prim.Native.Nat.{ℕ, suc, _+_, _-_, _≤_, _<_}
-use native.Mathlib.Nat.{sub-self}
+use Prim.Native.Nat.{ℕ, _+_, _-_, _≤_, _<_, min}
 use native.Mathlib.Omega.{arith}
 use native.Mathlib.Decide.{decLt}
 use native.Mathlib.Numerals.{add-one}
-use mathlib.Core.Path.{_≡_, refl, ap, _∙_}
-use mathlib.Core.Bool.{true, false}
+use mathlib.Core.Path.{_≡_, refl, _∙_}
+use mathlib.Core.Bool.{Bool, true, false}
 use mathlib.Core.List.{List, [], _∷_, _++_}
-use lib.ListN.{length, take, drop, getD, drop-of-length-le, length-take, length-drop}
+use lib.ListN.{length, take, drop, drop-of-length-le, length-drop}
 use lib.Dec.{eqb}
-use lib.Seq.{drop-cons, take-suc, getD-drop}
-use types.Run.{OneOf, miss}
-use denote.Enum.Declared.{tagOf}
-use borrow.Author.Tests.{lt-ltb, le-ltb, le-leb, lt-leb, eq-eqb, ne-eqb}
+use lib.Seq.{drop-drop}
+use borrow.Rule.Slice.PartAt.{part-to-end}
+use borrow.Author.Tests.{lt-ltb, le-ltb, le-leb, lt-leb}
 use Rattle.model.specs.declared.Point.{Point}
 use Rattle.model.specs.declared.Line.{Line}
 use Rattle.model.specs.declared.Line.the-variants.{Stack, Func, At, Close, Malformed}
 use Rattle.model.specs.declared.Refusal.{Refusal}
 use Rattle.model.specs.declared.Refusal.the-variants.{Form, StackSize, FrameSize, Offset, TooMany}
-use Rattle.model.proofs.Line.{the-type}
 use Rattle.model.specs.Basic.{if_then_else_}
-use Rattle.model.specs.Text.{lineOf, linesFrom, linesOf}
+use Rattle.model.specs.Text.{linesFrom, linesOf}
 use Rattle.model.specs.Task.{Func as Function}
-use Rattle.model.specs.Task.{Task, Progress, start, between, inside, refused, task, stop, goes, withPoint, offsetFits, readLine, readEnd, readFrom}
+use Rattle.model.specs.Task.{Task, Progress, start, between, inside, refused, task, stop, goes, withPoint, offsetFits, readLine, readEnd, readFrom, readText}
 use Rattle.tables.specs.Tables.{putPoint, pointsOf, funcsOf, taskOf}
 use Rattle.tables.proofs.Laws.{length-points, length-funcs, sum-funcs}
 use Rattle.tables.proofs.Writes.{funcs-agree, stacked-agree, put-point-agree, put-point-more, put-point-past, put-point-length}
+use Rattle.words.specs.declared.Num.{Num}
+use Rattle.words.specs.declared.Num.the-variants.{Nothing}
+use Rattle.line.specs.Lines.{First, isStack, isFunc, isInside, firstIs, stackAs, funcAs}
 use Rattle.task.specs.declared.Tables.{Tables}
 use Rattle.task.specs.declared.Took.the-variants as took
-use Rattle.task.specs.Reading.{LineEnd, Holds, partOf, insideOf, betweenOf, closedOf, tookAs}
+use Rattle.task.specs.Reading.{Holds, afterStack, partOf, insideOf, betweenOf, closedOf, tookAs}
 
--- one byte more
-lines-byte : (l : List ℕ) (b : ℕ) (s : List ℕ) → linesFrom l (b ∷ s) ≡ if eqb b 10 then lineOf l ∷ linesFrom [] s else linesFrom (l ++ (b ∷ [])) s
+-- a text that is not at its end has a line
+if-some : (t : Bool) (x y : List Line) → 0 < length x → 0 < length y → 0 < length (if t then x else y)
+if-some true x y h i = h
+if-some false x y h i = i
+
+lines-some : (l s : List ℕ) → 0 < length l + length s → 0 < length (linesFrom l s)
 unfolding linesFrom
-lines-byte [] b s = refl
-lines-byte (a ∷ l) b s = refl
+lines-some [] [] h = absurd (omega arith)
+lines-some (a ∷ l) [] h = omega arith
+lines-some [] (b ∷ s) h = if-some (eqb b 10) _ _ (omega arith) (lines-some (b ∷ []) s (omega arith))
+lines-some (a ∷ l) (b ∷ s) h =
+    if-some (eqb b 10) _ _ (omega arith) (lines-some (a ∷ l ++ (b ∷ [])) s (omega arith))
 
-lines-end : (l : List ℕ) → 0 < length l → linesFrom l [] ≡ Malformed ∷ []
-unfolding linesFrom
-lines-end [] h = absurd (omega arith)
-lines-end (a ∷ l) h = refl
+some-line : (text : List ℕ) (a : ℕ) → a < length text → 0 < length (linesOf (drop a text))
+some-line text a h = lines-some [] (drop a text) (rw (length-drop a text) (omega arith))
 
--- no line feed from byte a to byte i
-pub sameLine : List ℕ → ℕ → ℕ → Type 0
-sameLine text a i = linesOf (drop a text) ≡ linesFrom (take (i - a) (drop a text)) (drop i text)
+-- the line at byte a of the text is l, and takes k bytes with its line feed
+pub record Next (text : List ℕ) (a : ℕ) (l : Line) (k : ℕ) : Type 0 where
+  pub some : 1 ≤ k
+  pub within : a + k ≤ length text
+  pub lines : linesOf (drop a text) ≡ l ∷ linesOf (drop (a + k) text)
 
-pub same-here : (text : List ℕ) (a : ℕ) → sameLine text a a
-unfolding sameLine
-same-here text a = rw (sub-self a)
-
-module _ (text : List ℕ) (a i : ℕ) (from : a ≤ i) (before : sameLine text a i) where
-  next-byte : i < length text → linesFrom (take (i - a) (drop a text)) (drop i text) ≡ linesFrom (take (i - a) (drop a text)) (getD text i 0 ∷ drop (suc i) text)
-  next-byte h = ap (linesFrom (take (i - a) (drop a text))) (drop-cons text i 0 h)
-
-  longer : i < length text → take (suc i - a) (drop a text) ≡ take (i - a) (drop a text) ++ (getD text i 0 ∷ [])
-  longer h =
-      let e : suc i - a ≡ suc (i - a) = omega arith in
-      let f : a + (i - a) ≡ i = omega arith in
-      let g : i - a < length (drop a text) = rw (length-drop a text) (omega arith) in
-      rw e (take-suc (drop a text) (i - a) 0 g ∙ rw (getD-drop a text (i - a) 0, f))
-
-  pub same-more : i < length text → (getD text i 0 ≡ 10 → ⊥) → sameLine text a (i + 1)
-  unfolding sameLine
-  same-more h k =
-      before ∙ (next-byte h ∙ (lines-byte _ _ _ ∙ rw (ne-eqb (getD text i 0) 10 k, add-one i, longer h)))
-
-  pub line-feed : i < length text → getD text i 0 ≡ 10 → LineEnd text a i
-  unfolding sameLine
-  line-feed h k = record {
-    from = from;
-    within = omega arith;
-    line = λ l. before ∙ (next-byte h ∙ (lines-byte _ _ _ ∙ rw (eq-eqb (getD text i 0) 10 k, add-one i)));
-    last = λ l m. absurd (omega arith);
-  }
-
-  pub line-last : length text ≤ i → i ≤ length text → LineEnd text a i
-  unfolding sameLine
-  line-last h k = record {
-    from = from;
-    within = k;
-    line = λ l. absurd (omega arith);
-    last = λ l m. before ∙ rw (drop-of-length-le text h) (lines-end (take (i - a) (drop a text)) (simp (length-take, length-drop) (omega arith)));
-  }
-
-pub same-two : (text : List ℕ) (a i : ℕ) → a ≤ i → sameLine text a i → i + 1 < length text → (getD text i 0 ≡ 10 → ⊥) → (getD text (i + 1) 0 ≡ 10 → ⊥)
-    → sameLine text a (i + 2)
-same-two text a i from before h k m =
-    let e : i + 1 + 1 ≡ i + 2 = omega arith in
-    rw e at (same-more text a (i + 1) (omega arith) (same-more text a i from before (omega arith) k) h m)
-
-malformed : (n : ℕ) (p : Progress) → readLine n p Malformed ≡ stop (Form n)
-unfolding readLine
-malformed n start = refl
-malformed n (between t) = refl
-malformed n (inside t x) = refl
+pub next-line : (text : List ℕ) (a : ℕ) (l : Line) (k : ℕ) → a ≤ length text → First (take (length text - a) (drop a text)) l k → Next text a l k
+next-line text a l k h first =
+    let i : k ≤ length text - a = rw (part-to-end text a, length-drop a text) at (first .within) in
+    record {
+      some = first .some;
+      within = omega arith;
+      lines = rw (← drop-drop k a text) (rw (part-to-end text a) at (first .lines));
+    }
 
 -- a line of the text, read on from the progress p
-module _ (text : List ℕ) (a e n : ℕ) (p : Progress) (end : LineEnd text a e) where
-  pub line-goes : e < length text → (l : Line) → l ≡ lineOf (take (e - a) (drop a text)) → (p′ : Progress) → readLine n p l ≡ goes p′ → readFrom n p (linesOf (drop a text)) ≡ readFrom (n + 1) p′ (linesOf (drop (e + 1) text))
+module _ {text : List ℕ} {a : ℕ} {l : Line} {k : ℕ} (next : Next text a l k) (n : ℕ) (p : Progress) where
+  pub line-goes : (p′ : Progress) → readLine n p l ≡ goes p′ → readFrom n p (linesOf (drop a text)) ≡ readFrom (n + 1) p′ (linesOf (drop (a + k) text))
   unfolding readFrom
-  line-goes h l i p′ k = rw (end .line h, ← i, k, add-one n)
+  line-goes p′ h = rw (next .lines, h, add-one n)
 
-  pub line-stops : e < length text → (l : Line) → l ≡ lineOf (take (e - a) (drop a text)) → (q : Refusal) → readLine n p l ≡ stop q → readFrom n p (linesOf (drop a text)) ≡ refused q
+  pub line-stops : (q : Refusal) → readLine n p l ≡ stop q → readFrom n p (linesOf (drop a text)) ≡ refused q
   unfolding readFrom
-  line-stops h l i q k = rw (end .line h, ← i, k)
-
-  pub no-line : length text ≤ e → (length text ≤ a → readEnd n p ≡ refused (Form n)) → readFrom n p (linesOf (drop a text)) ≡ refused (Form n)
-  unfolding readFrom linesFrom
-  no-line h k =
-      elim (decLt a (length text)) [
-        | yes i ↦ rw (end .last h i, malformed n p)
-        | no i ↦ rw (drop-of-length-le text {i = a} (omega arith)) (k (omega arith))
-      ]
+  line-stops q h = rw (next .lines, h)
 
 -- a point line, after the functions of tb and m points
 module _ (w : List ℕ) (tb : Tables) (k m n : ℕ) (x : Point) (holds : Holds w tb) where
@@ -119,16 +77,15 @@ module _ (w : List ℕ) (tb : Tables) (k m n : ℕ) (x : Point) (holds : Holds w
   unfolding readLine
   point-offset h = rw h
 
-  pub point-many : offsetFits k x ≡ true → 256 ≤ m → readLine n (insideOf w tb k m) (At x) ≡ stop (TooMany n)
+  pub point-many : offsetFits k x ≡ true → min 256 (1024 - tb .points) ≤ m → readLine n (insideOf w tb k m) (At x) ≡ stop (TooMany n)
   unfolding readLine
-  point-many h i = rw (h, length-points w (tb .points) m, le-leb 256 m i)
+  point-many h i =
+      elim (decLt m 256) [
+        | yes j ↦ rw (h, length-points w (tb .points) m, lt-leb 256 m j, sum-funcs (holds .stacked), le-leb 1024 (tb .points + m) (omega arith))
+        | no j ↦ rw (h, length-points w (tb .points) m, le-leb 256 m (omega arith))
+      ]
 
-  pub point-full : offsetFits k x ≡ true → m < 256 → 1024 ≤ tb .points + m → readLine n (insideOf w tb k m) (At x) ≡ stop (TooMany n)
-  unfolding readLine
-  point-full h i j =
-      rw (h, length-points w (tb .points) m, lt-leb 256 m i, sum-funcs (holds .stacked), le-leb 1024 (tb .points + m) j)
-
-  pub point-goes : offsetFits k x ≡ true → m < 256 → tb .points + m < 1024 → readLine n (insideOf w tb k m) (At x) ≡ goes (inside (taskOf w (tb .stack) (tb .funcs)) (withPoint (partOf w tb k m) x))
+  point-goes : offsetFits k x ≡ true → m < 256 → tb .points + m < 1024 → readLine n (insideOf w tb k m) (At x) ≡ goes (inside (taskOf w (tb .stack) (tb .funcs)) (withPoint (partOf w tb k m) x))
   unfolding readLine
   point-goes h i j =
       rw (h, length-points w (tb .points) m, lt-leb 256 m i, sum-funcs (holds .stacked), lt-leb 1024 (tb .points + m) j)
@@ -160,32 +117,38 @@ pub close-goes : (w : List ℕ) (tb : Tables) (k m n : ℕ) → 1 ≤ m → read
 unfolding readLine
 close-goes w tb k m n h = rw (length-points w (tb .points) m, le-leb 1 m h)
 
--- a line of another form than the progress allows
-pub not-inside : (n : ℕ) (t : Task) (x : Function) (l : Line) → OneOf (0 ∷ 1 ∷ 4 ∷ []) (tagOf the-type l) → readLine n (inside t x) l ≡ stop (Form n)
-unfolding readLine
-not-inside n t x (Stack s) h = refl
-not-inside n t x (Func k) h = refl
-not-inside n t x (At p) h = absurd (miss (0 ∷ 1 ∷ 4 ∷ []) 2 tt h)
-not-inside n t x Close h = absurd (miss (0 ∷ 1 ∷ 4 ∷ []) 3 tt h)
-not-inside n t x Malformed h = refl
+-- no line, or a line of another form than the progress allows
+pub not-inside : (n : ℕ) (t : Task) (x : Function) (ls : List Line) → firstIs isInside ls ≡ false → readFrom n (inside t x) ls ≡ refused (Form n)
+unfolding readFrom readLine readEnd
+not-inside n t x [] h = refl
+not-inside n t x (Stack s ∷ ls) h = refl
+not-inside n t x (Func k ∷ ls) h = refl
+not-inside n t x (At p ∷ ls) h = cc
+not-inside n t x (Close ∷ ls) h = cc
+not-inside n t x (Malformed ∷ ls) h = refl
 
-pub not-func : (n : ℕ) (t : Task) (l : Line) → OneOf (0 ∷ 2 ∷ 3 ∷ 4 ∷ []) (tagOf the-type l) → readLine n (between t) l ≡ stop (Form n)
-unfolding readLine
-not-func n t (Stack s) h = refl
-not-func n t (Func k) h = absurd (miss (0 ∷ 2 ∷ 3 ∷ 4 ∷ []) 1 tt h)
-not-func n t (At p) h = refl
-not-func n t Close h = refl
-not-func n t Malformed h = refl
+not-func : (n : ℕ) (t : Task) (ls : List Line) → 0 < length ls → firstIs isFunc ls ≡ false → readFrom n (between t) ls ≡ refused (Form n)
+unfolding readFrom readLine
+not-func n t [] i h = absurd (omega arith)
+not-func n t (Stack s ∷ ls) i h = refl
+not-func n t (Func k ∷ ls) i h = cc
+not-func n t (At p ∷ ls) i h = refl
+not-func n t (Close ∷ ls) i h = refl
+not-func n t (Malformed ∷ ls) i h = refl
 
-pub not-stack : (n : ℕ) (l : Line) → OneOf (1 ∷ 2 ∷ 3 ∷ 4 ∷ []) (tagOf the-type l) → readLine n start l ≡ stop (Form n)
-unfolding readLine
-not-stack n (Stack s) h = absurd (miss (1 ∷ 2 ∷ 3 ∷ 4 ∷ []) 0 tt h)
-not-stack n (Func k) h = refl
-not-stack n (At p) h = refl
-not-stack n Close h = refl
-not-stack n Malformed h = refl
+not-stack : (n : ℕ) (ls : List Line) → firstIs isStack ls ≡ false → readFrom n start ls ≡ refused (Form n)
+unfolding readFrom readLine readEnd
+not-stack n [] h = refl
+not-stack n (Stack s ∷ ls) h = cc
+not-stack n (Func k ∷ ls) h = refl
+not-stack n (At p ∷ ls) h = refl
+not-stack n (Close ∷ ls) h = refl
+not-stack n (Malformed ∷ ls) h = refl
 
 -- the line that opens a function
+pub func-none : (text : List ℕ) (a n : ℕ) (t : Task) (r : Num) → funcAs r (take (length text - a) (drop a text)) → r ≡ Nothing → a < length text → readFrom n (between t) (linesOf (drop a text)) ≡ refused (Form n)
+func-none text a n t r i e h = not-func n t (linesOf (drop a text)) (some-line text a h) (rw (part-to-end text a) at (rw e at i))
+
 pub func-large : (w : List ℕ) (s f k n : ℕ) → s < k → readLine n (between (taskOf w s f)) (Func k) ≡ stop (FrameSize n)
 unfolding readLine
 func-large w s f k n h = rw (lt-ltb s k h)
@@ -199,6 +162,9 @@ unfolding readLine pointsOf
 func-goes w tb k n h i = rw (le-ltb (tb .stack) k h, length-funcs w (tb .funcs), lt-leb 64 (tb .funcs) i)
 
 -- the stack line
+pub stack-none : (text : List ℕ) (r : Num) → stackAs r (take (length text - 0) (drop 0 text)) → r ≡ Nothing → readText text ≡ refused (Form 1)
+stack-none text r i e = not-stack 1 (linesOf text) (rw (part-to-end text 0) at (rw e at i))
+
 pub stack-zero : (s n : ℕ) → s < 1 → readLine n start (Stack s) ≡ stop (StackSize n)
 unfolding readLine
 stack-zero s n h = rw (lt-leb 1 s h)
@@ -207,9 +173,14 @@ pub stack-large : (s n : ℕ) → 64 < s → readLine n start (Stack s) ≡ stop
 unfolding readLine
 stack-large s n h = rw (le-leb 1 s (omega arith), lt-leb s 64 h)
 
-pub stack-goes : (s n : ℕ) → 1 ≤ s → s ≤ 64 → readLine n start (Stack s) ≡ goes (between (record { stack = s; funcs = [] }))
+stack-goes : (s n : ℕ) → 1 ≤ s → s ≤ 64 → readLine n start (Stack s) ≡ goes (between (record { stack = s; funcs = [] }))
 unfolding readLine
 stack-goes s n h i = rw (le-leb 1 s h, le-leb s 64 i)
+
+pub stack-on : (text : List ℕ) (s c : ℕ) → Next text 0 (Stack s) c → 1 ≤ s → s ≤ 64 → readText text ≡ afterStack text s c
+stack-on text s c next h i =
+    let e : 0 + c ≡ c = omega arith in
+    rw e at (line-goes next 1 start _ (stack-goes s 1 h i))
 
 -- the end of the text
 pub text-end : (text : List ℕ) (a n : ℕ) (p : Progress) → length text ≤ a → readFrom n p (linesOf (drop a text)) ≡ readEnd n p

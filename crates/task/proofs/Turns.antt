@@ -5,13 +5,18 @@ use native.Mathlib.Numerals.{add-one}
 use mathlib.Core.Path.{_≡_, refl, _∙_}
 use mathlib.Core.List.{List}
 use lib.ListN.{length, take, drop}
-use Rattle.model.specs.declared.Line.{Line}
+use borrow.Rule.Slice.PartAt.{part-to-end}
+use Rattle.model.specs.declared.Point.{Point}
+use Rattle.model.specs.declared.Line.the-variants.{At, Close}
 use Rattle.model.specs.declared.Refusal.{Refusal}
 use Rattle.model.specs.declared.Refusal.the-variants.{Form}
-use Rattle.model.specs.Text.{lineOf, linesOf}
-use Rattle.model.specs.Task.{Task, Judged, readEnd, readFrom}
+use Rattle.model.specs.Text.{linesOf}
+use Rattle.model.specs.Task.{Task, Judged, readFrom}
 use Rattle.tables.specs.Tables.{funcsOf, putFunc, none}
 use Rattle.tables.proofs.Writes.{put-func-stacked, put-func-more, put-func-past, put-func-length}
+use Rattle.line.specs.declared.Inside.{Inside}
+use Rattle.line.specs.declared.Inside.the-variants as inside
+use Rattle.line.specs.Lines.{insideAs}
 use Rattle.task.specs.declared.Tables.{Tables}
 use Rattle.task.specs.declared.Place.{Place}
 use Rattle.task.specs.declared.Took.{Took}
@@ -22,8 +27,8 @@ use Rattle.task.specs.declared.Reached.{Reached}
 use Rattle.task.specs.declared.Reached.the-variants as reached
 use Rattle.task.specs.declared.Read.{Read}
 use Rattle.task.specs.declared.Read.the-variants as read
-use Rattle.task.specs.Reading.{LineEnd, Holds, Kept, Standing, rest, afterStack, insideOf, betweenOf, closedOf, tookAs, bodyAs, reachedAs, readAs}
-use Rattle.task.proofs.Laws.{line-goes, line-stops, no-line, text-end, no-func, some-func}
+use Rattle.task.specs.Reading.{Holds, Kept, Standing, rest, afterStack, insideOf, betweenOf, closedOf, tookAs, bodyAs, reachedAs, readAs}
+use Rattle.task.proofs.Laws.{Next, next-line, line-goes, line-stops, close-empty, close-goes, not-inside, text-end, no-func, some-func}
 
 pub same-kept : (w : List ℕ) → Kept w w
 same-kept w = record { size = refl; past = refl }
@@ -31,59 +36,70 @@ same-kept w = record { size = refl; past = refl }
 pub both-kept : {u v w : List ℕ} → Kept u v → Kept v w → Kept u w
 both-kept a b = record { size = b .size ∙ a .size; past = b .past ∙ a .past }
 
--- the points of the function after those of tb, with frame k: m of them are in w, and line n at byte a is next
-pub record Going (text w₀ : List ℕ) (tb : Tables) (k : ℕ) (from : Place) (w : List ℕ) (n a m : ℕ) : Type 0 where
-  pub answer : rest text from (insideOf w₀ tb k 0) ≡ readFrom n (insideOf w tb k m) (linesOf (drop a text))
+-- the points of the function after those of tb, with frame k: m of them are in w, and the line at byte a is next
+pub record Going (text w₀ : List ℕ) (tb : Tables) (k : ℕ) (from : Place) (w : List ℕ) (a m : ℕ) : Type 0 where
+  pub answer : rest text from (insideOf w₀ tb k 0) ≡ readFrom (from .n + m) (insideOf w tb k m) (linesOf (drop a text))
   pub kept : Kept w₀ w
   pub holds : Holds w tb
-  pub stands : Standing text (record { n = n; a = a })
+  pub stands : Standing text (record { n = from .n + m; a = a })
   pub room : tb .points + m ≤ 1024
   pub onward : from .a ≤ a
 
-pub going-first : (text w : List ℕ) (tb : Tables) (k : ℕ) (from : Place) → Standing text from → Holds w tb → Going text w tb k from w (from .n) (from .a) 0
-going-first text w tb k from s h = record {
-  answer = refl;
-  kept = same-kept w;
-  holds = h;
-  stands = s;
-  room = omega arith;
-  onward = omega arith;
-}
+pub going-first : (text w : List ℕ) (tb : Tables) (k : ℕ) (from : Place) → Standing text from → Holds w tb → Going text w tb k from w (from .a) 0
+going-first text w tb k from s h =
+    let e : from .n + 0 ≡ from .n = omega arith in
+    record {
+      answer = rw e;
+      kept = same-kept w;
+      holds = h;
+      stands = omega arith;
+      room = omega arith;
+      onward = omega arith;
+    }
 
-module _ {text w₀ : List ℕ} {tb : Tables} {k : ℕ} {from : Place} {w : List ℕ} {n a m : ℕ} (g : Going text w₀ tb k from w n a m) {e : ℕ} (end : LineEnd text a e) where
-  pub going-short : length text ≤ e → bodyAs (body.Refused (Form n)) (rest text from (insideOf w₀ tb k 0)) text w₀ w (from .a) tb k
-  unfolding readEnd
-  going-short h = (g .answer ∙ no-line text a e n (insideOf w tb k m) end h (λ i. refl), g .kept)
+module _ {text w₀ : List ℕ} {tb : Tables} {k : ℕ} {from : Place} {w : List ℕ} {a m : ℕ} (g : Going text w₀ tb k from w a m) {r : Inside} (i : insideAs r (take (length text - a) (drop a text))) where
+  pub going-next : {x : Point} {c : ℕ} → r ≡ inside.Point x c → Next text a (At x) c
+  going-next {x = x} {c = c} e = next-line text a (At x) c (g .stands .within) (rw e at i)
 
-  module _ (h : e < length text) {l : Line} (i : l ≡ lineOf (take (e - a) (drop a text))) {r : Took} {w′ : List ℕ} (t : tookAs r w w′ tb k m n l) where
-    pub going-on : r ≡ took.Point → Going text w₀ tb k from w′ (n + 1) (e + 1) (m + 1)
-    going-on c =
-        let t′ = rw c at t in
+  module _ {x : Point} {c : ℕ} (e : r ≡ inside.Point x c) {t : Took} {w′ : List ℕ} (h : tookAs t w w′ tb k m (from .n + m) (At x)) where
+    pub going-on : t ≡ took.Point → Going text w₀ tb k from w′ (a + c) (m + 1)
+    going-on d =
+        let l = going-next e in
+        let h′ = rw d at h in
+        let j : from .n + (m + 1) ≡ from .n + m + 1 = omega arith in
         record {
-          answer = g .answer ∙ line-goes text a e n (insideOf w tb k m) end h l i (insideOf w′ tb k (m + 1)) (t′ .0);
-          kept = both-kept (g .kept) (t′ .1);
-          holds = t′ .2;
+          answer = rw j (g .answer ∙ line-goes l (from .n + m) (insideOf w tb k m) (insideOf w′ tb k (m + 1)) (h′ .0));
+          kept = both-kept (g .kept) (h′ .1);
+          holds = h′ .2;
           stands = omega arith;
           room = omega arith;
           onward = omega arith;
         }
 
-    pub going-end : r ≡ took.End → bodyAs (body.Whole (record { n = n + 1; a = e + 1 }) m) (rest text from (insideOf w₀ tb k 0)) text w₀ w′ (from .a) tb k
-    going-end c =
-        let t′ = rw c at t in
-        rw (t′ .1) (
-          g .answer ∙ line-goes text a e n (insideOf w tb k m) end h l i (closedOf w tb k m) (t′ .0),
-          g .kept,
-          g .holds,
-          omega arith,
-          omega arith,
-          g .room,
-        )
+    pub going-off : (q : Refusal) → t ≡ took.Refused q → bodyAs (body.Refused q) (rest text from (insideOf w₀ tb k 0)) text w₀ w′ (from .a) tb k
+    going-off q d =
+        let h′ = rw d at h in
+        rw (h′ .1) (g .answer ∙ line-stops (going-next e) (from .n + m) (insideOf w tb k m) q (h′ .0), g .kept)
 
-    pub going-off : (q : Refusal) → r ≡ took.Refused q → bodyAs (body.Refused q) (rest text from (insideOf w₀ tb k 0)) text w₀ w′ (from .a) tb k
-    going-off q c =
-        let t′ = rw c at t in
-        rw (t′ .1) (g .answer ∙ line-stops text a e n (insideOf w tb k m) end h l i q (t′ .0), g .kept)
+  going-close : r ≡ inside.Close → Next text a Close 2
+  going-close e = next-line text a Close 2 (g .stands .within) (rw e at i)
+
+  pub going-empty : r ≡ inside.Close → m ≡ 0 → bodyAs (body.Refused (Form (from .n + m))) (rest text from (insideOf w₀ tb k 0)) text w₀ w (from .a) tb k
+  going-empty e h = (g .answer ∙ line-stops (going-close e) (from .n + m) (insideOf w tb k m) _ (close-empty w tb k m (from .n + m) h), g .kept)
+
+  pub going-end : r ≡ inside.Close → 1 ≤ m → bodyAs (body.Whole (record { n = from .n + m + 1; a = a + 2 }) m) (rest text from (insideOf w₀ tb k 0)) text w₀ w (from .a) tb k
+  going-end e h =
+      let l = going-close e in (
+        g .answer ∙ line-goes l (from .n + m) (insideOf w tb k m) (closedOf w tb k m) (close-goes w tb k m (from .n + m) h),
+        g .kept,
+        g .holds,
+        omega arith,
+        omega arith,
+        g .room,
+      )
+
+  pub going-other : r ≡ inside.Other → bodyAs (body.Refused (Form (from .n + m))) (rest text from (insideOf w₀ tb k 0)) text w₀ w (from .a) tb k
+  going-other e = (g .answer ∙ not-inside (from .n + m) _ _ (linesOf (drop a text)) (rw (part-to-end text a) at (rw e at i)), g .kept)
 
 -- the function is whole, and is put after those of tb
 pub body-put : (r : Body) (j : Judged) (text w v w′ : List ℕ) (a k m : ℕ) (at : Place) (tb : Tables) → bodyAs r j text w v a tb k → r ≡ body.Whole at m → tb .funcs < 64 → w′ ≡ putFunc v (tb .funcs) k (tb .points) m → reachedAs (reached.To at (record { stack = tb .stack; funcs = tb .funcs + 1; points = tb .points + m })) j text w w′ a

@@ -1,11 +1,10 @@
 -- What the functions of the reader say: the answer for the whole text is the answer for what is left of it.
-use Prim.Native.Nat.{ℕ, _+_, _-_, _≤_, _<_}
+use Prim.Native.Nat.{ℕ, _+_, _≤_, _<_}
 use mathlib.Core.Path.{_≡_}
-use mathlib.Core.List.{List, [], _∷_}
-use lib.ListN.{length, take, drop}
+use mathlib.Core.List.{List, []}
+use lib.ListN.{length, drop}
 use Rattle.model.specs.declared.Line.{Line}
-use Rattle.model.specs.declared.Line.the-variants.{Malformed}
-use Rattle.model.specs.Text.{lineOf, linesOf}
+use Rattle.model.specs.Text.{linesOf}
 use Rattle.model.specs.Task.{Func, Progress, between, inside, Judged, refused, task, stop, goes, withFunc, readLine, readFrom}
 use Rattle.tables.specs.Tables.{pointsOf, taskOf, Stacked}
 use Rattle.task.specs.declared.Tables.{Tables}
@@ -18,13 +17,6 @@ use Rattle.task.specs.declared.Reached.{Reached}
 use Rattle.task.specs.declared.Reached.the-variants as reached
 use Rattle.task.specs.declared.Read.{Read}
 use Rattle.task.specs.declared.Read.the-variants as read
-
--- the line from byte a on ends at e: at its line feed, or at the end of a text that has none there
-pub record LineEnd (text : List ℕ) (a e : ℕ) : Type 0 where
-  pub from : a ≤ e
-  pub within : e ≤ length text
-  pub line : e < length text → linesOf (drop a text) ≡ lineOf (take (e - a) (drop a text)) ∷ linesOf (drop (e + 1) text)
-  pub last : length text ≤ e → a < length text → linesOf (drop a text) ≡ Malformed ∷ []
 
 -- w holds the tables tb
 pub record Holds (w : List ℕ) (tb : Tables) : Type 0 where
@@ -65,14 +57,13 @@ insideOf w tb k m = inside (taskOf w (tb .stack) (tb .funcs)) (partOf w tb k m)
 abbrev pub closedOf : List ℕ → Tables → ℕ → ℕ → Progress
 closedOf w tb k m = between (withFunc (taskOf w (tb .stack) (tb .funcs)) (partOf w tb k m))
 
--- a line inside a function
+-- a point line inside a function
 abbrev pub tookAs : Took → List ℕ → List ℕ → Tables → ℕ → ℕ → ℕ → Line → Type 0
 tookAs took.Point w w′ tb k m n l =
     (readLine n (insideOf w tb k m) l ≡ goes (insideOf w′ tb k (m + 1)))
     × Kept w w′
     × Holds w′ tb
     × (tb .points + m < 1024)
-tookAs took.End w w′ tb k m n l = (readLine n (insideOf w tb k m) l ≡ goes (closedOf w tb k m)) × (w′ ≡ w)
 tookAs (took.Refused q) w w′ tb k m n l = (readLine n (insideOf w tb k m) l ≡ stop q) × (w′ ≡ w)
 
 -- the points of a function from byte a on, j being the answer for the text from there

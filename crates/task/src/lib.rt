@@ -1,16 +1,16 @@
 // Reads a task text, line by line, into the tables of the working space, or refuses it with the line that is at fault (refusals 2 to 6).
 ghost use mathlib.Core.Path.{_≡_};
-ghost use Prim.Native.Nat.{_+_, _<_, _≤_};
+ghost use Prim.Native.Nat.{_+_, _-_, _<_, _≤_, min};
 ghost use lib.ListN.{length};
 ghost use Rattle.model.specs.declared.Line.the-variants.{At};
 ghost use Rattle.model.specs.Task.{readText, offsetFits};
-ghost use Rattle.task.specs.Reading.{LineEnd, Holds, Standing, rest, afterStack, betweenOf, insideOf, tookAs, bodyAs, reachedAs, readAs};
-use line::read_line;
-use model::Line;
+ghost use Rattle.task.specs.Reading.{Holds, Standing, rest, afterStack, betweenOf, insideOf, tookAs, bodyAs, reachedAs, readAs};
+use line::Inside;
 use model::Point;
 use model::Refusal;
 use tables::put_func;
 use tables::put_point;
+use words::Num;
 
 // The tables of a task: the cache blocks S, how many functions, and how many points in all.
 pub struct Tables {
@@ -31,10 +31,9 @@ struct Place {
     a: usize,
 }
 
-// What a line inside a function is.
+// Whether a point was taken.
 enum Took {
     Point,
-    End,
     Refused(Refusal),
 }
 
@@ -48,30 +47,6 @@ enum Body {
 enum Reached {
     To(Place, Tables),
     Refused(Refusal),
-}
-
-// The first line feed from byte a on, or the length of the text if there is none. Two bytes a turn.
-fn line_end(text: &[u8], a: usize) -> usize
-    requires { ⌜ (a ≤ length (now text)) × (length (now text) ≤ 32768) ⌝ }
-    ensures { λ r. ⌜ LineEnd (now (text .entry)) a r ⌝ }
-{
-    let mut i = a;
-    while i + 1 < text.len() {
-        if text[i] == b'\n' {
-            return i;
-        }
-        if text[i + 1] == b'\n' {
-            return i + 1;
-        }
-        i += 2;
-    }
-    if text.len() <= i {
-        return i;
-    }
-    if text[i] == b'\n' {
-        return i;
-    }
-    i + 1
 }
 
 // The offset of a load or store is below the frame k.
@@ -89,43 +64,31 @@ fn offset_fits(k: u32, x: Point) -> bool
     }
 }
 
-// Point m of the function after those of tb, on line n.
-fn take_point(work: &mut [u32], tb: Tables, k: u32, m: usize, n: u32, x: Point) -> Took
+// How many points a function may have after those of other functions.
+fn most_points(points: usize) -> usize
+    requires { ⌜ points ≤ 1024 ⌝ }
+    ensures { λ r. ⌜ r ≡ min 256 (1024 - points) ⌝ }
+{
+    if points < 768 {
+        return 256;
+    }
+    1024 - points
+}
+
+// Point m of the function after those of tb, on line n, where the function may have most points.
+fn take_point(work: &mut [u32], tb: Tables, k: u32, most: usize, m: usize, n: u32, x: Point) -> Took
     requires { ⌜ Holds (now work) tb ⌝ }
-    requires { ⌜ tb .points + m ≤ 1024 ⌝ }
+    requires { ⌜ most ≡ min 256 (1024 - tb .points) ⌝ }
     ensures { λ r. ⌜ tookAs r (now (work .entry)) (now (work .exit)) tb k m n (At x) ⌝ }
 {
     if !offset_fits(k, x) {
         return Took::Refused(Refusal::Offset(n));
     }
-    if 256 <= m {
+    if most <= m {
         return Took::Refused(Refusal::TooMany(n));
     }
-    let i = tb.points + m;
-    if 1024 <= i {
-        return Took::Refused(Refusal::TooMany(n));
-    }
-    put_point(work, i, x);
+    put_point(work, tb.points + m, x);
     Took::Point
-}
-
-// Line n, where the function after those of tb has m points so far.
-fn take_line(work: &mut [u32], tb: Tables, k: u32, m: usize, n: u32, l: Line) -> Took
-    requires { ⌜ Holds (now work) tb ⌝ }
-    requires { ⌜ tb .points + m ≤ 1024 ⌝ }
-    ensures { λ r. ⌜ tookAs r (now (work .entry)) (now (work .exit)) tb k m n l ⌝ }
-{
-    match l {
-        Line::At(x) => take_point(work, tb, k, m, n, x),
-        Line::Close => {
-            if m == 0 {
-                Took::Refused(Refusal::Form(n))
-            } else {
-                Took::End
-            }
-        }
-        _ => Took::Refused(Refusal::Form(n)),
-    }
 }
 
 // The points of the function after those of tb, with frame k, to its closing line.
@@ -134,25 +97,28 @@ fn read_points(text: &[u8], work: &mut [u32], tb: Tables, k: u32, at: Place) -> 
     requires { ⌜ Holds (now work) tb ⌝ }
     ensures { λ r. ⌜ bodyAs r (rest (now (text .entry)) at (insideOf (now (work .entry)) tb k 0)) (now (text .entry)) (now (work .entry)) (now (work .exit)) (at .a) tb k ⌝ }
 {
-    let mut n = at.n;
+    let most = most_points(tb.points);
+    let b = text.len();
     let mut a = at.a;
     let mut m: usize = 0;
     loop {
-        let b = line_end(text, a);
-        if text.len() <= b {
-            return Body::Refused(Refusal::Form(n));
-        }
-        match take_line(work, tb, k, m, n, read_line(&text[a..b])) {
-            Took::Point => {
-                n += 1;
-                a = b + 1;
+        let n = at.n + m as u32;
+        match line::inside_line(&text[a..b]) {
+            Inside::Point(x, c) => {
+                if let Took::Refused(r) = take_point(work, tb, k, most, m, n, x) {
+                    return Body::Refused(r);
+                }
+                a += c;
                 m += 1;
             }
-            Took::End => {
-                return Body::Whole(Place { n: n + 1, a: b + 1 }, m);
+            Inside::Close => {
+                if m == 0 {
+                    return Body::Refused(Refusal::Form(n));
+                }
+                return Body::Whole(Place { n: n + 1, a: a + 2 }, m);
             }
-            Took::Refused(r) => {
-                return Body::Refused(r);
+            Inside::Other => {
+                return Body::Refused(Refusal::Form(n));
             }
         }
     }
@@ -190,11 +156,8 @@ fn read_func(text: &[u8], work: &mut [u32], tb: Tables, at: Place) -> Reached
 {
     let n = at.n;
     let a = at.a;
-    let b = line_end(text, a);
-    if text.len() <= b {
-        return Reached::Refused(Refusal::Form(n));
-    }
-    let Line::Func(k) = read_line(&text[a..b]) else {
+    let b = text.len();
+    let Num::Value(k, c) = line::func_line(&text[a..b]) else {
         return Reached::Refused(Refusal::Form(n));
     };
     if tb.stack < k {
@@ -203,7 +166,7 @@ fn read_func(text: &[u8], work: &mut [u32], tb: Tables, at: Place) -> Reached
     if 64 <= tb.funcs {
         return Reached::Refused(Refusal::TooMany(n));
     }
-    read_body(text, work, tb, k, Place { n: n + 1, a: b + 1 })
+    read_body(text, work, tb, k, Place { n: n + 1, a: a + c })
 }
 
 // The functions of a text, which begin on line 2 at byte a.
@@ -239,11 +202,8 @@ pub fn read_task(text: &[u8], work: &mut [u32]) -> Read
     requires { ⌜ (3264 ≤ length (now work)) × (length (now text) ≤ 32768) ⌝ }
     ensures { λ r. ⌜ readAs r (readText (now (text .entry))) (now (work .entry)) (now (work .exit)) ⌝ }
 {
-    let b = line_end(text, 0);
-    if text.len() <= b {
-        return Read::Refused(Refusal::Form(1));
-    }
-    let Line::Stack(s) = read_line(&text[0..b]) else {
+    let b = text.len();
+    let Num::Value(s, c) = line::stack_line(&text[0..b]) else {
         return Read::Refused(Refusal::Form(1));
     };
     if s < 1 {
@@ -252,5 +212,5 @@ pub fn read_task(text: &[u8], work: &mut [u32]) -> Read
     if 64 < s {
         return Read::Refused(Refusal::StackSize(1));
     }
-    read_funcs(text, work, s, b + 1)
+    read_funcs(text, work, s, c)
 }

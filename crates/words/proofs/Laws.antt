@@ -1,7 +1,7 @@
 -- Laws of the definitions of model that a reader of words and numbers uses.
 use Prim.Native.Nat.{ℕ, zero, suc, _+_, _-_, _*_, _%_, _^_, _≤_, _<_, min}
 use mathlib.Core.Path.{_≡_, refl, sym, _∙_}
-use mathlib.Core.Bool.{Bool, true, false, _&&_, and-true, and-false}
+use mathlib.Core.Bool.{Bool, true, false, _&&_, and-false}
 use mathlib.Core.List.{List, [], _∷_, _++_}
 use mathlib.Core.Option.{Option, none, some}
 use native.Mathlib.Numerals.{add-one, unary-clauses}
@@ -14,27 +14,19 @@ use lib.Dec.{eqb, leb}
 use borrow.Author.Tests.{eq-eqb, ne-eqb, le-leb, lt-leb}
 use borrow.Rule.Slice.PartAt.{part-to-end}
 use Rattle.model.specs.Basic.{if_then_else_}
-use Rattle.model.specs.Text.{starts, same, isDigit, digits, value, isNumber, numberOf, numberThen, oneNumber, withFirst, numbersThen, twoNumbers}
-use Rattle.words.specs.declared.Num.{Num}
+use Rattle.model.specs.Text.{starts, isDigit, digits, value, isNumber, numberOf}
 use Rattle.words.specs.declared.Num.the-variants.{Value, Nothing}
-use Rattle.words.specs.declared.Single.{Single}
-use Rattle.words.specs.declared.Single.the-variants as single-variants
-use Rattle.words.specs.declared.Pair.{Pair}
-use Rattle.words.specs.declared.Pair.the-variants as pair-variants
-use Rattle.words.specs.Answers.{numOf, exact, single, pair}
+use Rattle.words.specs.declared.Pair.the-variants.{Are, No}
+use Rattle.words.specs.Answers.{Front, numberFront, oneFront, later, Two, withSecond, thenNumber, twoFront, num, pair, limit, taken, taking}
 
 -- the part of s from i on, as a function that is lent `&s[i..]` sees it
 abbrev pub tail : ℕ → List ℕ → List ℕ
 tail i s = take (length s - i) (drop i s)
 
 -- what holds of both answers of a test holds of the one it picks
-either-way : {A : Type 0} (P : A → Type 0) (t : Bool) {x y : A} → P x → P y → P (if t then x else y)
+pub either-way : {A : Type 0} (P : A → Type 0) (t : Bool) {x y : A} → P x → P y → P (if t then x else y)
 either-way P true h k = h
 either-way P false h k = k
-
-first-inside : (t : Bool) (v : ℕ) (x : Option ℕ) → (if t then withFirst v x else none) ≡ withFirst v (if t then x else none)
-first-inside true v x = refl
-first-inside false v x = refl
 
 -- words
 
@@ -85,20 +77,6 @@ pub starts-end : (w s : List ℕ) (i : ℕ) → length w ≤ i → starts (drop 
 unfolding starts
 starts-end w s i h = rw (drop-of-length-le w h)
 
-pub same-long : (w s : List ℕ) → length w < length s → false ≡ same w s
-same-long w s h = rw (lt-leb (length s) (length w) h) (sym (and-false (starts w s)))
-
-pub same-starts : (w s : List ℕ) → length s ≤ length w → starts w s ≡ same w s
-same-starts w s h = rw (le-leb (length s) (length w) h) (sym (and-true (starts w s)))
-
--- a text of another length is not the word
-same-size : (w s : List ℕ) → (length s ≡ length w → ⊥) → same w s ≡ false
-same-size w s n =
-    elim (decLe (length s) (length w)) [
-      | yes h ↦ rw (starts-short w s (omega arith))
-      | no h ↦ rw (lt-leb (length s) (length w) (omega arith)) (and-false (starts w s))
-    ]
-
 -- digits
 
 -- the byte b as `digit` answers it: d is its value, or more than 9
@@ -109,9 +87,10 @@ digit-not b d e f h =
       | no k ↦ rw (lt-leb 48 b (omega arith))
     ]
 
-pub digits-end : (s : List ℕ) (i : ℕ) → length s ≤ i → digits (drop i s) ≡ 0
+pub digits-none : (s : List ℕ) → length s < 1 → digits s ≡ 0
 unfolding digits
-digits-end s i h = rw (drop-of-length-le s h)
+digits-none [] h = refl
+digits-none (b ∷ s) h = absurd (omega arith)
 
 module _ (s : List ℕ) (i d : ℕ) (h : i < length s) (e : (d + 48) % 2 ^ 32 ≡ getD s i 0) where
   pub digits-stop : d < 2 ^ 32 → 9 < d → digits (drop i s) ≡ 0
@@ -127,16 +106,38 @@ unfolding digits
 digits-fit [] = omega arith
 digits-fit (b ∷ s) = either-way (λ (n : ℕ). n ≤ suc (length s)) (isDigit b) (omega (arith, digits-fit s)) (omega arith)
 
--- no digit follows the digits
-after-first : (b : ℕ) (s : List ℕ) (t : Bool) → isDigit b ≡ t → digits (drop (digits s) s) ≡ 0 → digits (drop (digits (b ∷ s)) (b ∷ s)) ≡ 0
+-- the first of some digits is one, and the others follow it
+digit-first : (b : ℕ) (s : List ℕ) (n : ℕ) → suc n ≤ digits (b ∷ s) → (48 ≤ b) × (b ≤ 57) × (digits (b ∷ s) ≡ suc (digits s))
 unfolding digits
-after-first b s true e h = rw e h
-after-first b s false e h = rw (e, e)
+digit-first b s n h =
+    elim (decLe 48 b) [
+      | yes j ↦ elim (decLe b 57) [
+        | yes k ↦ (j, k, rw (le-leb 48 b j, le-leb b 57 k))
+        | no k ↦ let z = rw (lt-leb b 57 (omega arith), and-false (leb 48 b)) at h in absurd (omega arith)
+      ]
+      | no j ↦ let z = rw (lt-leb 48 b (omega arith)) at h in absurd (omega arith)
+    ]
 
-pub digits-after : (s : List ℕ) → digits (drop (digits s) s) ≡ 0
+-- the digits after the first n of them
+digits-split : (n : ℕ) (s : List ℕ) → n ≤ digits s → digits s ≡ n + digits (drop n s)
+digits-split zero s h = omega arith
+digits-split (suc n) [] h = absurd (omega (arith, digits-none [] (omega arith)))
+digits-split (suc n) (b ∷ s) h = let d = digit-first b s n h in omega (arith, d, digits-split n s (omega arith))
+
+-- a text that begins with a word begins with a digit only if the word does
+no-digit : (t : Bool) (m n : ℕ) → (if t then suc m else 0) ≡ 0 → (if t then suc n else 0) ≡ 0
+no-digit true m n h = absurd (omega arith)
+no-digit false m n h = refl
+
+starts-digits : (e s : List ℕ) → 1 ≤ length e → digits e ≡ 0 → true ≡ starts e s → digits s ≡ 0
 unfolding digits
-digits-after [] = refl
-digits-after (b ∷ s) = after-first b s (isDigit b) refl (digits-after s)
+starts-digits [] s h d t = absurd (omega arith)
+starts-digits (a ∷ e) [] h d t = refl
+starts-digits (a ∷ e) (b ∷ s) h d t =
+    elim (ℕ-discrete a b) [
+      | yes q ↦ no-digit (isDigit b) (digits e) (digits s) (rw q at d)
+      | no q ↦ let z = t ∙ starts-off (a ∷ e) (b ∷ s) 0 (omega arith) q in let y : _≡_ {A = ℕ} 0 1 = cc in absurd (omega arith)
+    ]
 
 -- values
 
@@ -154,23 +155,14 @@ pub value-first : (s : List ℕ) (d : ℕ) → 0 < length s → (d + 48) % 2 ^ 3
 unfolding value
 value-first s d h e k = omega (arith, value-more s 0 d h e k)
 
--- the first of some digits is one, and the others follow it
-digit-first : (b : ℕ) (s : List ℕ) (n : ℕ) → suc n ≤ digits (b ∷ s) → (b ≤ 57) × (n ≤ digits s)
-unfolding digits
-digit-first b s n h =
-    elim (decLe b 57) [
-      | yes k ↦ (k, either-way (λ (m : ℕ). suc n ≤ m → n ≤ digits s) (isDigit b) (λ j. omega arith) (λ j. omega arith) h)
-      | no k ↦ let z = rw (lt-leb b 57 (omega arith), and-false (leb 48 b)) at h in absurd (omega arith)
-    ]
-
 -- n digits after the value a
 value-below : (a n : ℕ) (s : List ℕ) → n ≤ digits s → value a (take n s) < (a + 1) * 10 ^ n
-unfolding value digits
+unfolding value
 value-below a zero s h = simp unary-clauses (omega arith)
-value-below a (suc n) [] h = absurd (omega arith)
+value-below a (suc n) [] h = absurd (omega (arith, digits-none [] (omega arith)))
 value-below a (suc n) (b ∷ s) h =
     let d = digit-first b s n h in
-    let below = value-below (a * 10 + (b - 48)) n s (d .1) in
+    let below = value-below (a * 10 + (b - 48)) n s (omega arith) in
     let least : a * 10 + (b - 48) + 1 ≤ (a + 1) * 10 = omega arith in
     rw (pow-succ' 10 n, ← mul-assoc (a + 1) 10 (10 ^ n)) (omega (arith, below, mul-le-mul-right (10 ^ n) least))
 
@@ -178,212 +170,247 @@ value-below a (suc n) (b ∷ s) h =
 pub value-small : (n : ℕ) (s : List ℕ) → n ≤ digits s → n ≤ 4 → value 0 (take n s) < 10000
 value-small n s h k = omega (arith, value-below 0 n s h, pow-le-pow-right {n = 10} (omega arith) {i = n} {j = 4} k)
 
--- a number has one to four digits
+-- the digits that are taken as a number
+
+pub limit-zero : (v : ℕ) → v ≡ 0 → limit v ≡ 1
+unfolding limit
+limit-zero v e = rw e
+
+pub limit-other : (v : ℕ) → (v ≡ 0 → ⊥) → limit v ≡ 4
+unfolding limit
+limit-other v n = rw (ne-eqb v 0 n)
+
+pub limit-most : (v : ℕ) → (1 ≤ limit v) × (limit v ≤ 4)
+limit-most v =
+    elim (ℕ-discrete v 0) [
+      | yes z ↦ omega (arith, limit-zero v z)
+      | no z ↦ omega (arith, limit-other v z)
+    ]
+
+pub taking-none : (k : ℕ) (s : List ℕ) → k ≡ 0 → Nothing ≡ taking k s
+unfolding taking
+taking-none k s z = rw z
+
+taking-some : (k : ℕ) (s : List ℕ) → 1 ≤ k → taking k s ≡ Value (value 0 (take k s)) k
+unfolding taking
+taking-some k s h = rw (ne-eqb k 0 (omega arith))
+
+taking-is : (k : ℕ) (s : List ℕ) (v n : ℕ) → taking k s ≡ Value v n → (1 ≤ n) × (n ≡ k) × (v ≡ value 0 (take n s))
+taking-is k s v n e =
+    elim (decLe 1 k) [
+      | yes h ↦ let z = sym e ∙ taking-some k s h in let a : n ≡ k = cc in (omega arith, a, rw a (cc))
+      | no h ↦ let z = taking-none k s (omega arith) ∙ e in let y : _≡_ {A = ℕ} 0 1 = cc in absurd (omega arith)
+    ]
+
+taking-not : (k : ℕ) (s : List ℕ) → taking k s ≡ Nothing → k ≡ 0
+taking-not k s e =
+    elim (decLe 1 k) [
+      | yes h ↦ let z = sym e ∙ taking-some k s h in let y : _≡_ {A = ℕ} 0 1 = cc in absurd (omega arith)
+      | no h ↦ omega arith
+    ]
+
+pub taken-none : (s : List ℕ) → digits s ≡ 0 → taken s ≡ 0
+unfolding taken
+taken-none s d = omega arith
+
+-- s begins with the digit d
+pub taken-is :
+    (s : List ℕ) (d : ℕ) → (d + 48) % 2 ^ 32 ≡ getD s 0 0 → d ≤ 9 → (v i : ℕ) → 1 ≤ i → i ≡ min (digits s) (limit d) → v ≡ value 0 (take i s)
+    → Value v i ≡ taking (taken s) s
+unfolding taken
+taken-is s d e k v i h j t =
+    let f : getD s 0 0 - 48 ≡ d = omega arith in
+    rw (f, ← j, taking-some i s h, t)
+
+pub taken-fits : (s : List ℕ) (v k : ℕ) → taking (taken s) s ≡ Value v k → (k ≤ 4) × (k ≤ length s)
+unfolding taken
+taken-fits s v k h = omega (arith, taking-is (taken s) s v k h, limit-most (getD s 0 0 - 48), digits-fit s)
+
+-- the digits of a number
+
+first-digit : (s : List ℕ) → 1 ≤ digits s → 48 ≤ getD s 0 0
+first-digit [] h = absurd (omega (arith, digits-none [] (omega arith)))
+first-digit (b ∷ s) h = digit-first b s 0 h .0
 
 number-none : (s : List ℕ) → digits s ≡ 0 → isNumber s ≡ false
 number-none s d = rw d
 
-number-long : (s : List ℕ) → 4 < digits s → isNumber s ≡ false
-number-long s h = rw (ne-eqb (digits s) 1 (omega arith), le-leb 2 (digits s) (omega arith), lt-leb (digits s) 4 h)
-
--- a number of k digits
-
-module _ (k : ℕ) (s : List ℕ) where
-  pub exact-other : (digits s ≡ k → ⊥) → single-variants.No ≡ single (exact k s)
-  unfolding exact
-  exact-other n = rw (ne-eqb (digits s) k n, and-false (isNumber s))
-
-  pub exact-zero : 2 ≤ k → k ≤ 4 → getD s 0 0 ≡ 48 → single-variants.No ≡ single (exact k s)
-  unfolding exact
-  exact-zero h j z =
-      elim (ℕ-discrete (digits s) k) [
-        | yes d ↦ rw (d, ne-eqb k 1 (omega arith), le-leb 2 k h, le-leb k 4 j, z)
-        | no d ↦ exact-other d
+-- s begins with more digits than a number has
+number-long : (s : List ℕ) → limit (getD s 0 0 - 48) < digits s → isNumber s ≡ false
+number-long s h =
+    let most = limit-most (getD s 0 0 - 48) in
+    elim (decLe (digits s) 4) [
+      | yes k ↦ elim (ℕ-discrete (getD s 0 0 - 48) 0) [
+        | yes z ↦ let f : getD s 0 0 ≡ 48 = omega (arith, first-digit s (omega arith)) in rw (ne-eqb (digits s) 1 (omega arith), le-leb 2 (digits s) (omega arith), le-leb (digits s) 4 k, f)
+        | no z ↦ absurd (omega (arith, limit-other (getD s 0 0 - 48) z))
       ]
+      | no k ↦ rw (ne-eqb (digits s) 1 (omega arith), le-leb 2 (digits s) (omega arith), lt-leb (digits s) 4 (omega arith))
+    ]
 
-  pub exact-one : k ≡ 1 → digits s ≡ k → (v : ℕ) → v ≡ value 0 (take k s) → single-variants.Is v ≡ single (exact k s)
-  unfolding exact
-  exact-one o d v t = rw (t, d, o)
+number-is : (s : List ℕ) → 1 ≤ digits s → digits s ≤ limit (getD s 0 0 - 48) → isNumber s ≡ true
+number-is s h k =
+    elim (ℕ-discrete (digits s) 1) [
+      | yes o ↦ rw o
+      | no o ↦
+          let z : getD s 0 0 - 48 ≡ 0 → ⊥ = λ z. omega (arith, limit-zero (getD s 0 0 - 48) z) in
+          let most = limit-other (getD s 0 0 - 48) z in
+          rw (ne-eqb (digits s) 1 o, le-leb 2 (digits s) (omega arith), le-leb (digits s) 4 (omega arith), ne-eqb (getD s 0 0) 48 (omega arith))
+    ]
 
-  pub exact-many :
-      2 ≤ k → k ≤ 4 → digits s ≡ k → (getD s 0 0 ≡ 48 → ⊥) → (v : ℕ) → v ≡ value 0 (take k s) → single-variants.Is v ≡ single (exact k s)
-  unfolding exact
-  exact-many h j d z v t = rw (t, d, ne-eqb k 1 (omega arith), le-leb 2 k h, le-leb k 4 j, ne-eqb (getD s 0 0) 48 z, eq-eqb k k refl)
+-- what an answer says of the front
 
--- which answer a test picked
-picked : (t : Bool) (x n v k : ℕ) → (if t then Value x n else Nothing) ≡ Value v k → (t ≡ true) × (v ≡ x) × (k ≡ n)
-picked true x n v k e = (refl, cc, cc)
-picked false x n v k e = let z : _≡_ {A = ℕ} 0 1 = cc in absurd (omega arith)
+pub num-is : (x : Front) (v k : ℕ) → num x ≡ Value v k → x ≡ some (v, k)
+num-is none v k e = let z : _≡_ {A = ℕ} 0 1 = cc in absurd (omega arith)
+num-is (some n) v k e = let a : n .0 ≡ v = cc in let b : n .1 ≡ k = cc in rw (← a, ← b)
 
-passed : (t : Bool) (x n : ℕ) → (if t then Value x n else Nothing) ≡ Nothing → t ≡ false
-passed true x n e = let z : _≡_ {A = ℕ} 0 1 = cc in absurd (omega arith)
-passed false x n e = refl
+pub num-not : (x : Front) → num x ≡ Nothing → x ≡ none
+num-not none e = refl
+num-not (some n) e = let z : _≡_ {A = ℕ} 0 1 = cc in absurd (omega arith)
 
--- what an answer says of the text
-pub num-is : (s : List ℕ) (v k : ℕ) → numOf s ≡ Value v k → (isNumber s ≡ true) × (v ≡ numberOf s) × (k ≡ digits s)
-unfolding numOf
-num-is s v k e = picked (isNumber s) (numberOf s) (digits s) v k e
+pub pair-are : (x : Option Two) (p q k : ℕ) → pair x ≡ Are p q k → x ≡ some (record { first = p; second = q; bytes = k })
+pair-are none p q k e = let z : _≡_ {A = ℕ} 0 1 = cc in absurd (omega arith)
+pair-are (some n) p q k e = let a : n .first ≡ p = cc in let b : n .second ≡ q = cc in let c : n .bytes ≡ k = cc in rw (← a, ← b, ← c)
 
-pub num-not : (s : List ℕ) → numOf s ≡ Nothing → isNumber s ≡ false
-unfolding numOf
-num-not s e = passed (isNumber s) (numberOf s) (digits s) e
-
-pub num-fits : (s : List ℕ) (v k : ℕ) → numOf s ≡ Value v k → k ≤ length s
-num-fits s v k e = omega (arith, num-is s v k e, digits-fit s)
-
--- what an answer says of the form
-
-pub single-is : (x : Option ℕ) (n : ℕ) → single x ≡ single-variants.Is n → x ≡ some n
-single-is none n e = let z : _≡_ {A = ℕ} 0 1 = cc in absurd (omega arith)
-single-is (some m) n e = cc
-
-pub single-no : (x : Option ℕ) → single x ≡ single-variants.No → x ≡ none
-single-no none e = refl
-single-no (some m) e = let z : _≡_ {A = ℕ} 0 1 = cc in absurd (omega arith)
-
-pub pair-are : (x : Option (ℕ × ℕ)) (m n : ℕ) → pair x ≡ pair-variants.Are m n → x ≡ some (m, n)
-pair-are none m n e = let z : _≡_ {A = ℕ} 0 1 = cc in absurd (omega arith)
-pair-are (some p) m n e = let a : p .0 ≡ m = cc in let b : p .1 ≡ n = cc in rw (← a, ← b)
-
-pub pair-no : (x : Option (ℕ × ℕ)) → pair x ≡ pair-variants.No → x ≡ none
+pub pair-no : (x : Option Two) → pair x ≡ No → x ≡ none
 pair-no none e = refl
-pair-no (some p) e = let z : _≡_ {A = ℕ} 0 1 = cc in absurd (omega arith)
+pair-no (some n) e = let z : _≡_ {A = ℕ} 0 1 = cc in absurd (omega arith)
 
--- the number that s begins with as `exactly` reads it
+-- a front of at most n bytes
+within : ℕ → Front → Type 0
+within n none = Unit {0}
+within n (some x) = x .1 ≤ n
 
-reading : ℕ → Option ℕ → Num
-reading n none = Nothing
-reading n (some v) = Value v n
+later-within : (k n m : ℕ) (x : Front) → within n x → k + n ≤ m → within m (later k x)
+unfolding within
+later-within k n m none h l = tt
+later-within k n m (some x) h l = omega arith
 
-read-by : (t : Bool) (x n : ℕ) → (if t then Value x n else Nothing) ≡ reading n (if t then some x else none)
-unfolding reading
-read-by true x n = refl
-read-by false x n = refl
+within-two : ℕ → Option Two → Type 0
+within-two n none = Unit {0}
+within-two n (some x) = x .bytes ≤ n
 
-num-by : (s : List ℕ) → numOf s ≡ reading (digits s) (exact (digits s) s)
-unfolding numOf exact
-num-by s = rw (eq-eqb (digits s) (digits s) refl, and-true (isNumber s)) (read-by (isNumber s) (numberOf s) (digits s))
+second-within : (p k n m : ℕ) (x : Front) → within n x → k + n ≤ m → within-two m (withSecond p k x)
+unfolding within within-two
+second-within p k n m none h l = tt
+second-within p k n m (some x) h l = omega arith
 
--- numbers, by the count n of digits, five standing for more
-
-module _ (s : List ℕ) (n : ℕ) (e : n ≡ min 5 (digits s)) where
-  pub num-none : n ≡ 0 → Nothing ≡ numOf s
-  unfolding numOf
-  num-none z = rw (number-none s (omega arith))
-
-  pub num-long : 4 < n → Nothing ≡ numOf s
-  unfolding numOf
-  num-long h = rw (number-long s (omega arith))
-
-  -- no digit follows the n digits
-  pub num-after : n ≤ 4 → digits (drop n s) ≡ 0
-  num-after h = let d : n ≡ digits s = omega arith in rw d (digits-after s)
-
-  pub num-read : n ≤ 4 → (v : ℕ) → single (exact n s) ≡ single-variants.Is v → Value v n ≡ numOf s
-  unfolding reading
-  num-read h v x = let d : n ≡ digits s = omega arith in rw (num-by s, ← d, single-is (exact n s) v x)
-
-  pub num-unread : n ≤ 4 → single (exact n s) ≡ single-variants.No → Nothing ≡ numOf s
-  unfolding reading
-  num-unread h x = let d : n ≡ digits s = omega arith in rw (num-by s, ← d, single-no (exact n s) x)
-
--- forms
-
--- s is a number and the word e, or not
+-- s begins with a number and the word e, or not
 module _ (e s : List ℕ) where
-  -- the digits and e are all of s
-  then-apart : (length e + digits s ≡ length s → ⊥) → numberThen e s ≡ none
-  unfolding numberThen
-  then-apart n =
-      rw (same-size e (drop (digits s) s) (rw (length-drop (digits s) s) (λ h. n (omega (arith, digits-fit s)))), and-false (isNumber s))
+  front-at : (t : Bool) → t ≡ starts e (drop (digits s) s) → within (length s) (if isNumber s && t then some (numberOf s, digits s + length e) else none)
+  unfolding within
+  front-at true h =
+      either-way
+      (within (length s))
+      (isNumber s && true)
+      (omega (arith, starts-fits e (drop (digits s) s) h, length-drop (digits s) s, digits-fit s))
+      tt
+  front-at false h = rw (and-false (isNumber s)) tt
 
-  then-short : length s ≤ length e → numberThen e s ≡ none
-  unfolding numberThen
-  then-short h =
-      elim (decLe 1 (digits s)) [
-        | yes d ↦ then-apart (omega arith)
-        | no d ↦ rw (number-none s (omega arith))
-      ]
+  front-within : within (length s) (numberFront e s)
+  unfolding numberFront
+  front-within = front-at (starts e (drop (digits s) s)) refl
 
-  then-long : length e + 4 < length s → numberThen e s ≡ none
-  unfolding numberThen
-  then-long h =
-      elim (decLe (digits s) 4) [
-        | yes d ↦ then-apart (omega arith)
-        | no d ↦ rw (number-long s (omega arith))
-      ]
+  -- none of the digits are taken
+  pub then-none : taking (taken s) s ≡ Nothing → Nothing ≡ num (numberFront e s)
+  unfolding numberFront taken
+  then-none h =
+      let most = limit-most (getD s 0 0 - 48) in
+      rw (number-none s (omega (arith, taking-not (taken s) s h)))
 
-  -- the word e from place k on
-  module _ (k : ℕ) (z : length e + k ≡ length s) where
-    pub then-other : false ≡ same e (tail k s) → single-variants.No ≡ single (numberThen e s)
-    unfolding numberThen
+  -- v is the value of the k digits that are taken
+  module _ (v k : ℕ) (h : taking (taken s) s ≡ Value v k) where
+    pub then-other : false ≡ starts e (tail k s) → Nothing ≡ num (numberFront e s)
+    unfolding numberFront taken
     then-other t =
+        let i = taking-is (taken s) s v k h in
         elim (ℕ-discrete (digits s) k) [
           | yes d ↦ rw (← (rw (part-to-end s k, ← d) at t), and-false (isNumber s))
-          | no d ↦ rw (then-apart (omega arith))
+          | no d ↦ rw (number-long s (omega arith))
         ]
 
-    pub then-digit : (d : ℕ) → k < length s → (d + 48) % 2 ^ 32 ≡ getD s k 0 → d ≤ 9 → single-variants.No ≡ single (numberThen e s)
-    then-digit d h j i =
-        elim (ℕ-discrete (digits s) k) [
-          | yes n ↦ let m : digits (drop k s) ≡ 0 = rw n at (digits-after s) in absurd (omega (arith, digits-more s k d h j i))
-          | no n ↦ rw (then-apart (omega arith))
-        ]
+    pub then-is : 1 ≤ length e → digits e ≡ 0 → true ≡ starts e (tail k s) → Value v (k + length e) ≡ num (numberFront e s)
+    unfolding numberFront taken
+    then-is l z t =
+        let i = taking-is (taken s) s v k h in
+        let u = rw (part-to-end s k) at t in
+        let d : digits s ≡ k = omega (arith, digits-split k s (omega arith), starts-digits e (drop k s) l z u) in
+        rw (number-is s (omega arith) (omega arith), d, ← u, ← (i .2))
 
-    pub then-exact : (r : Single) → true ≡ same e (tail k s) → r ≡ single (exact k s) → r ≡ single (numberThen e s)
-    unfolding numberThen exact
-    then-exact r t h =
-        elim (ℕ-discrete (digits s) k) [
-          | yes d ↦ h ∙ rw (d, ← (rw (part-to-end s k) at t), eq-eqb k k refl)
-          | no d ↦ h ∙ sym (exact-other k s d) ∙ rw (then-apart (omega arith))
-        ]
+-- a number and the word e in the part of s from a on
+pub part-fits : (e s : List ℕ) (a v k : ℕ) → a ≤ length s → num (numberFront e (tail a s)) ≡ Value v k → a + k ≤ length s
+unfolding within
+part-fits e s a v k l h =
+    let i = num-is (numberFront e (drop a s)) v k (rw (part-to-end s a) at h) in
+    let j : k ≤ length (drop a s) = rw i at (front-within e (drop a s)) in
+    omega (arith, length-drop a s)
 
--- s is the word w, a number and the word e, or not
+-- s begins with the word w, a number and the word e, or not
 module _ (w e s : List ℕ) where
-  pub one-is : (r : Single) → true ≡ starts w s → r ≡ single (numberThen e (tail (length w) s)) → r ≡ single (oneNumber w e s)
-  unfolding oneNumber
-  one-is r t h = rw (← t) (rw (part-to-end s (length w)) at h)
+  one-at : (t : Bool) → t ≡ starts w s → within (length s) (if t then later (length w) (numberFront e (drop (length w) s)) else none)
+  unfolding within
+  one-at true h =
+      later-within
+      (length w)
+      (length (drop (length w) s))
+      (length s)
+      (numberFront e (drop (length w) s))
+      (front-within e (drop (length w) s))
+      (omega (arith, starts-fits w s h, length-drop (length w) s))
+  one-at false h = tt
 
-  pub one-short : length s ≤ length w + length e → single-variants.No ≡ single (oneNumber w e s)
-  unfolding oneNumber
-  one-short h =
-      either-way (λ x. single-variants.No ≡ single x) (starts w s) (rw (then-short e (drop (length w) s) (rw (length-drop (length w) s) (omega arith)))) refl
+  one-within : within (length s) (oneFront w e s)
+  unfolding oneFront
+  one-within = one-at (starts w s) refl
 
-  pub one-long : length w + length e + 4 < length s → single-variants.No ≡ single (oneNumber w e s)
-  unfolding oneNumber
-  one-long h =
-      either-way (λ x. single-variants.No ≡ single x) (starts w s) (rw (then-long e (drop (length w) s) (rw (length-drop (length w) s) (omega arith)))) refl
+  pub one-fits : (n : ℕ × ℕ) → oneFront w e s ≡ some n → n .1 ≤ length s
+  unfolding within
+  one-fits n h = rw h at one-within
 
-  pub one-not : false ≡ starts w s → single-variants.No ≡ single (oneNumber w e s)
-  unfolding oneNumber
+  pub one-not : false ≡ starts w s → Nothing ≡ num (oneFront w e s)
+  unfolding oneFront
   one-not t = rw (← t)
 
--- s is a number, the word m, a number and the word e, or not
-module _ (m e s : List ℕ) where
-  pub numbers-none : numOf s ≡ Nothing → pair-variants.No ≡ pair (numbersThen m e s)
-  unfolding numbersThen
-  numbers-none h = rw (num-not s h)
+  pub one-none : true ≡ starts w s → num (numberFront e (tail (length w) s)) ≡ Nothing → Nothing ≡ num (oneFront w e s)
+  unfolding oneFront
+  one-none t h = rw (← t, num-not (numberFront e (drop (length w) s)) (rw (part-to-end s (length w)) at h))
 
-  -- the second number as `one` reads it
-  numbers-by : (v k : ℕ) → numOf s ≡ Value v k → numbersThen m e s ≡ withFirst v (oneNumber m e (tail k s))
-  unfolding numbersThen oneNumber
-  numbers-by v k h = let i = num-is s v k h in rw (i .1, part-to-end s k, i .2, i .0) (first-inside (starts m (drop (digits s) s)) (numberOf s) _)
+  pub one-is :
+      (v k : ℕ) → true ≡ starts w s → num (numberFront e (tail (length w) s)) ≡ Value v k → Value v (length w + k) ≡ num (oneFront w e s)
+  unfolding oneFront
+  one-is v k t h = rw (← t, num-is (numberFront e (drop (length w) s)) v k (rw (part-to-end s (length w)) at h))
 
-  pub numbers-are :
-      (v k u : ℕ) → numOf s ≡ Value v k → single (oneNumber m e (tail k s)) ≡ single-variants.Is u
-      → pair-variants.Are v u ≡ pair (numbersThen m e s)
-  numbers-are v k u h j = rw (numbers-by v k h, single-is (oneNumber m e (tail k s)) u j)
-
-  pub numbers-not :
-      (v k : ℕ) → numOf s ≡ Value v k → single (oneNumber m e (tail k s)) ≡ single-variants.No → pair-variants.No ≡ pair (numbersThen m e s)
-  numbers-not v k h j = rw (numbers-by v k h, single-no (oneNumber m e (tail k s)) j)
-
--- s is the word w, a number, the word m, a number and the word e, or not
+-- s begins with the word w, a number, the word m, a number and the word e, or not
 module _ (w m e s : List ℕ) where
-  pub two-are : (r : Pair) → true ≡ starts w s → r ≡ pair (numbersThen m e (tail (length w) s)) → r ≡ pair (twoNumbers w m e s)
-  unfolding twoNumbers
-  two-are r t h = rw (← t) (rw (part-to-end s (length w)) at h)
+  pub two-not : num (oneFront w m s) ≡ Nothing → No ≡ pair (twoFront w m e s)
+  unfolding twoFront
+  two-not h = rw (num-not (oneFront w m s) h)
 
-  pub two-not : false ≡ starts w s → pair-variants.No ≡ pair (twoNumbers w m e s)
-  unfolding twoNumbers
-  two-not t = rw (← t)
+  module _ (p a : ℕ) (h : num (oneFront w m s) ≡ Value p a) where
+    pub two-none : num (numberFront e (tail a s)) ≡ Nothing → No ≡ pair (twoFront w m e s)
+    unfolding twoFront
+    two-none j = rw (num-is (oneFront w m s) p a h, num-not (numberFront e (drop a s)) (rw (part-to-end s a) at j))
+
+    pub two-are : (q b : ℕ) → num (numberFront e (tail a s)) ≡ Value q b → Are p q (a + b) ≡ pair (twoFront w m e s)
+    unfolding twoFront
+    two-are q b j = rw (num-is (oneFront w m s) p a h, num-is (numberFront e (drop a s)) q b (rw (part-to-end s a) at j))
+
+  two-at : (x : Front) → within (length s) x → within-two (length s) (thenNumber e s x)
+  unfolding within within-two
+  two-at none h = tt
+  two-at (some n) h =
+      second-within
+      (n .0)
+      (n .1)
+      (length (drop (n .1) s))
+      (length s)
+      (numberFront e (drop (n .1) s))
+      (front-within e (drop (n .1) s))
+      (omega (arith, length-drop (n .1) s))
+
+  two-within : within-two (length s) (twoFront w m e s)
+  unfolding twoFront
+  two-within = two-at (oneFront w m s) (one-within w m s)
+
+  pub two-fits : (n : Two) → twoFront w m e s ≡ some n → n .bytes ≤ length s
+  unfolding within-two
+  two-fits n h = rw h at two-within

@@ -5,10 +5,10 @@ use Rattle.line.proofs.close_line.Statement.{statement}
 use Rattle.line.proofs.close_line.Tie as tie
 
 returns : tie.Need-returns
-returns c = rw (sym (c .before .same .ensures) ∙ c .if1 .taken)
+returns c = rw (sym (c .before .starts .ensures) ∙ c .if1 .taken)
 
 returns-2 : tie.Need-returns-2
-returns-2 c = rw (sym (c .before .same .ensures) ∙ c .if1 .left)
+returns-2 c = rw (sym (c .before .starts .ensures) ∙ c .if1 .left)
 
 pub close-line-spec : {M : Type 1} → statement M
 close-line-spec = tie.close (tie.spec (λ c. search needs) (λ c κs. search needs) returns returns-2)

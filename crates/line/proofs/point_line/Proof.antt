@@ -1,14 +1,13 @@
 -- `line::point_line` meets its contract: the letter leaves one form of the ordered choice.
-use mathlib.Core.Path.{sym, _∙_}
+use mathlib.Core.Path.{_∙_}
 use native.Mathlib.Omega.{arith}
 use borrow.Author.Needs.{needs}
-use borrow.Author.Tests.{not-true}
-use Rattle.line.proofs.Laws.{only, also, point-letter, point-other, point-out}
+use Rattle.line.proofs.Laws.{only, also, point-short, point-letter, point-other}
 use Rattle.line.proofs.point_line.Statement.{statement}
 use Rattle.line.proofs.point_line.Tie as tie
 
 returns : tie.Need-returns
-returns c = point-out _ (sym (c .before .starts .ensures) ∙ not-true _ (c .if1 .taken))
+returns c = point-short _ (c .if1 .taken)
 
 returns-2 : tie.Need-returns-2
 unfolding only also
@@ -41,8 +40,6 @@ pub point-line-spec : {M : Type 1} → statement M
 point-line-spec =
     tie.close
     (tie.spec
-    (λ c. search needs)
-    (λ c κs. search needs)
     returns
     (λ c. search needs)
     (λ c κs. search needs)

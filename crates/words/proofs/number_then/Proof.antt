@@ -1,73 +1,65 @@
 -- `words::number_then` meets its contract: one law for each way out.
-use Prim.Native.Nat.{_-_}
-use mathlib.Core.Path.{sym, _∙_}
-use mathlib.Core.Logic.{⊎-elim}
+use mathlib.Core.Path.{_≡_, sym, _∙_}
 use native.Mathlib.Omega.{arith}
-use lib.ListN.{length}
 use borrow.Author.Needs.{needs}
-use borrow.Author.Tests.{not-true, not-false}
-use Rattle.words.proofs.Laws.{digits-end, digits-stop, then-other, then-digit, then-exact}
+use Rattle.words.specs.Answers.{taken, taking}
+use Rattle.words.specs.declared.Num.the-variants.{Value}
+use Rattle.words.proofs.Laws.{taken-fits, then-none, then-other, then-is}
 use Rattle.words.proofs.number_then.Statement.{statement}
 use Rattle.words.proofs.number_then.Tie as tie
 
-sub-k : tie.Need-sub-k
-sub-k c = search needs
+-- the digits that are taken
+digits-taken :
+    (c : tie.After-v) → let s = c .before .before .before .before .before .args .s .now in taking (taken s) s ≡ Value (c .v .given .0 .0) (c .v .given .0 .1 .0)
+digits-taken c = sym (c .before .before .number .ensures) ∙ c .v .given .1
 
-sub-same : tie.Need-sub-same
-sub-same c = search needs
+number-requires : tie.Need-number-requires
+number-requires c κs = search needs
 
-part-same-start : tie.Need-part-same-start
-part-same-start c = search needs
+enum-known-v : tie.Need-enum-known-v
+enum-known-v c = search needs
 
-part-same-end : tie.Need-part-same-end
-part-same-end c = search needs
-
-same-requires : tie.Need-same-requires
-same-requires c κs = search needs
+enum-told : tie.Need-enum-told
+enum-told c = search needs
 
 returns : tie.Need-returns
-returns c = then-other _ _ _ (omega arith) (sym (not-true _ (c .if1 .taken)) ∙ c .before .same .ensures)
+returns c = then-none _ _ (sym (c .before .before .number .ensures) ∙ c .enum-told .given .1)
 
-shared-slice-read-digit : tie.Need-shared-slice-read-digit
-shared-slice-read-digit c = search needs
+sub-starts : tie.Need-sub-starts
+sub-starts c = taken-fits _ _ _ (digits-taken (c .before)) .1
 
-digit-requires : tie.Need-digit-requires
-digit-requires c κs = search needs
+part-starts-start : tie.Need-part-starts-start
+part-starts-start c = taken-fits _ _ _ (digits-taken (c .before)) .1
+
+part-starts-end : tie.Need-part-starts-end
+part-starts-end c = search needs
+
+starts-requires : tie.Need-starts-requires
+starts-requires c κs = search needs
+
+add-t12 : tie.Need-add-t12
+add-t12 c = let fits = taken-fits _ _ _ (digits-taken (c .before .before .before .before)) in omega arith
 
 returns-2 : tie.Need-returns-2
 returns-2 c =
-    let d = c .before .digit in
-    then-digit _ _ _ (omega arith) (d .result) (omega arith) (d .ensures) (c .if3 .taken)
-
-exactly-requires : tie.Need-exactly-requires
-exactly-requires c κs =
-    let a = c .before .before .before .before .before .before .args in
-    let s = a .s .now in
-    let k = length s - length (a .e .now) in (
-      omega arith,
-      omega arith,
-      omega arith,
-      ⊎-elim
-          (λ x. digits-stop s k (x .2 .result) (x .0 .taken) (x .2 .ensures) (omega arith) (omega arith))
-          (λ x. digits-end s k (omega arith))
-          (c .if2 .came),
-    )
+    let a = c .before .before .before .before .before .before .before .before .before in
+    then-is _ _ _ _ (digits-taken (c .before .before .before .before)) (a .pre .0) (a .pre .1) (sym (c .if1 .taken) ∙ c .before .starts .ensures)
 
 returns-3 : tie.Need-returns-3
-returns-3 c = then-exact _ _ _ (omega arith) _ (sym (not-false _ (c .before .before .if1 .left)) ∙ c .before .before .before .same .ensures) (c .exactly .ensures)
+returns-3 c = then-other _ _ _ _ (digits-taken (c .before .before .before .before)) (sym (c .if1 .left) ∙ c .before .starts .ensures)
 
 pub number-then-spec : {M : Type 1} → statement M
 number-then-spec =
     tie.close
     (tie.spec
-    sub-k
-    sub-same
-    part-same-start
-    part-same-end
-    same-requires
+    number-requires
+    enum-known-v
+    enum-told
     returns
-    shared-slice-read-digit
-    digit-requires
+    sub-starts
+    part-starts-start
+    part-starts-end
+    starts-requires
+    add-t12
     returns-2
-    exactly-requires
     returns-3)
