@@ -10,7 +10,7 @@ use mathlib.Core.Option.{Option, none, some}
 use lib.Dec.{T, T-not, not-T}
 use borrow.Author.Tests.{eqb-false, ne-eqb}
 use Rattle.model.specs.Task.{Func, size, point}
-use Rattle.model.specs.Walk.{Walk, leads, loaded, stored, is, stores}
+use Rattle.model.specs.Walk.{Walk, leads, loaded, stored, stores}
 use Rattle.model.specs.Figures.{uninitialised}
 use Rattle.model.specs.Refusal.{storedBefore}
 use Rattle.theory.proofs.Walks.{walk-trans}
@@ -22,7 +22,7 @@ use Rattle.tables.specs.Tables.{pointAt, frameAt, baseAt, sizeAt, pointsOf, fun
 use Rattle.tables.proofs.Laws.{length-points, point-there}
 use Rattle.forward.specs.Forward.{item, Carried, Solved}
 use Rattle.walks.specs.Flow.{FuncReady, Kills, has, FuncAt, NoGens, Answered}
-use Rattle.walks.proofs.Points.{load-below}
+use Rattle.sweep.proofs.Laws.{load-below}
 
 -- where a bit would be 1 and is 0, the test fails
 not-one : (b : Bool) (m : ℕ) → (T b → m ≡ 1) → m ≡ 0 → T (not b)

@@ -1,5 +1,5 @@
 -- Laws of a point: its offset, what it kills, and whether a set has what it loads.
-use Prim.Native.Nat.{ℕ, _+_, _≤_, _<_}
+use Prim.Native.Nat.{ℕ, _+_, _<_}
 use native.Mathlib.Omega.{arith}
 use native.Mathlib.Decide.{ℕ-discrete}
 use mathlib.Core.Path.{_≡_, refl, ap, sym, _∙_}
@@ -8,39 +8,18 @@ use mathlib.Core.List.{List, [], _∷_}
 use mathlib.Core.Option.{none, some}
 use lib.ListN.{length, set}
 use lib.Seq.{getD-set-same, getD-set-other}
-use lib.Dec.{T, eqb, T-not, ltb→lt, lt→ltb, eqb→eq, eqb-refl}
+use lib.Dec.{eqb, T-not, eqb→eq, eqb-refl}
 use denote.Enum.Declared.{tagOf}
 use types.Run.{OneOf, miss}
 use Rattle.model.proofs.Point as P
 use Rattle.model.specs.declared.Point.{Point}
 use Rattle.model.specs.declared.Point.the-variants.{Load, Store, Call, Ensure, Goto, Either, Return}
-use Rattle.model.specs.Task.{offsetFits}
 use Rattle.model.specs.Walk.{loaded, stored}
 use Rattle.bits.specs.Bits.{bit, Single}
 use Rattle.bits.proofs.Laws.{bit-zero}
 use Rattle.tables.specs.Tables.{pointAt}
 use Rattle.forward.specs.Forward.{item}
 use Rattle.walks.specs.Flow.{Kills, has}
-
--- an offset that fits a frame fits a larger one
-pub fits-wider : (k m : ℕ) (x : Point) → k ≤ m → T (offsetFits k x) → T (offsetFits m x)
-fits-wider k m (Load o) h f = lt→ltb o m (omega (arith, ltb→lt o k f))
-fits-wider k m (Store o) h f = lt→ltb o m (omega (arith, ltb→lt o k f))
-fits-wider k m (Call g) h f = tt
-fits-wider k m (Ensure n) h f = tt
-fits-wider k m (Goto p) h f = tt
-fits-wider k m (Either p q) h f = tt
-fits-wider k m Return h f = tt
-
--- an offset that is loaded is below the frame
-pub load-below : (k : ℕ) (x : Point) {o : ℕ} → T (offsetFits k x) → loaded x ≡ some o → o < k
-load-below k (Load a) {o} f e = let i : a ≡ o = cc in omega (arith, ltb→lt a k f)
-load-below k (Store a) f e = let z : _≡_ {A = ℕ} 0 1 = cc in absurd (omega arith)
-load-below k (Call g) f e = let z : _≡_ {A = ℕ} 0 1 = cc in absurd (omega arith)
-load-below k (Ensure n) f e = let z : _≡_ {A = ℕ} 0 1 = cc in absurd (omega arith)
-load-below k (Goto p) f e = let z : _≡_ {A = ℕ} 0 1 = cc in absurd (omega arith)
-load-below k (Either p q) f e = let z : _≡_ {A = ℕ} 0 1 = cc in absurd (omega arith)
-load-below k Return f e = let z : _≡_ {A = ℕ} 0 1 = cc in absurd (omega arith)
 
 -- a point that is no store, by its number; one that is no load
 pub not-store : (x : Point) → OneOf (0 ∷ 2 ∷ 3 ∷ 4 ∷ 5 ∷ 6 ∷ []) (tagOf P.the-type x) → stored x ≡ none

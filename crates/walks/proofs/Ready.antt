@@ -1,5 +1,5 @@
 -- When the tables are ready: from a task that is read and linked, and down to what each function of the crate is given.
-use Prim.Native.Nat.{ℕ, zero, suc, _+_, _≤_, _<_}
+use Prim.Native.Nat.{ℕ, _+_, _≤_, _<_}
 use native.Mathlib.Omega.{arith}
 use mathlib.Core.Path.{_≡_, refl}
 use mathlib.Core.List.{List}
@@ -12,9 +12,11 @@ use Rattle.theory.proofs.Accepted.{Linked}
 use Rattle.theory.proofs.Links.{closed}
 use Rattle.tables.specs.Tables.{pointAt, baseAt, sizeAt, funcOf, taskOf, Stacked}
 use Rattle.tables.proofs.Laws.{length-points, length-funcs, point-there, func-is, stacked-within, sum-funcs}
-use Rattle.forward.specs.Forward.{item, function, Inside, Given}
+use Rattle.forward.specs.Forward.{function, Inside, Given}
+use Rattle.sweep.specs.Sweep.{Sweepable}
+use Rattle.sweep.proofs.Laws.{fits-wider}
+use Rattle.sweep.proofs.Answers.{zeros}
 use Rattle.walks.specs.Flow.{FuncReady, Ready, FuncAt, NoGens, Space}
-use Rattle.walks.proofs.Points.{fits-wider}
 
 -- the tables of a task that is read and linked are ready
 pub ready : {w : List ℕ} {s n m : ℕ} → Shaped (taskOf w s n) → Linked (taskOf w s n) → Stacked w n m → Ready w n m
@@ -46,6 +48,22 @@ ready-at {w} r l f h =
       within = omega (arith, stacked-within (r .stacked) f h, r .all);
       room = l;
       ready = r .each f h;
+    }
+
+-- what the sweep asks of it
+pub sweepable : {w : List ℕ} {n m : ℕ} → Ready w n m → 3264 ≤ length w → (f : ℕ) → f < n → Sweepable w f
+sweepable {w} r l f h =
+    let a = ready-at r l f h in
+    let e = length-points w (baseAt w f) (sizeAt w f) in
+    record {
+      low = a .low;
+      room = l;
+      within = a .within;
+      some = omega (arith, a .ready .some);
+      small = omega (arith, a .ready .small);
+      frame = a .ready .frame;
+      offsets = λ p i. rw (← point-there w (baseAt w f) (sizeAt w f) p i) (a .ready .offsets p (omega arith));
+      closed = λ p q i m. omega (arith, a .ready .closed p q (omega arith) m);
     }
 
 -- the same where its first point and its size have been read
@@ -84,11 +102,6 @@ given-at {w} {f} {b} {n} a g k =
     }
 
 -- the arrays with which the scan starts
-zeros : (n p : ℕ) → item (replicate n 0) p ≡ 0
-zeros zero p = refl
-zeros (suc n) zero = refl
-zeros (suc n) (suc p) = zeros n p
-
 pub no-gens : NoGens (replicate 256 0)
 no-gens = record { long = lit≤ tt; zero = zeros 256 }
 

@@ -18,16 +18,17 @@ use Rattle.model.specs.Task.{Func, Task, size, count, func, point, funcLine}
 use Rattle.model.specs.Walk.{loaded}
 use Rattle.model.specs.Figures.{reached}
 use Rattle.model.specs.Refusal.{storedBefore, reachRow, loadRow, firstPoint}
-use Rattle.theory.proofs.Firsts.{counted-zero, counted-step, below-none, below-found, unless-none}
+use Rattle.theory.proofs.Firsts.{counted-none, counted-zero, counted-step, below-none, below-found, unless-none}
 use Rattle.tables.specs.Tables.{pointAt, baseAt, sizeAt, funcOf, taskOf, Stacked}
-use Rattle.tables.proofs.Laws.{length-funcs, func-is, size-is, line-is}
+use Rattle.tables.proofs.Laws.{length-points, length-funcs, func-is, size-is, line-is}
 use Rattle.forward.specs.Forward.{item}
+use Rattle.sweep.specs.Sweep.{Clean}
 use Rattle.walks.proofs.Flow as F
 use Rattle.walks.specs.declared.Flow.{Flow}
 use Rattle.walks.specs.declared.Flow.the-variants.{Reach, Load, Fine}
 use Rattle.walks.specs.declared.Found.{Found}
 use Rattle.walks.specs.declared.Found.the-variants.{At, Nothing}
-use Rattle.walks.specs.Flow.{flowOf, taskFlow, lineAt, reachIn, loadIn, flowIn, flowFrom, withLater, has, Search, Answered}
+use Rattle.walks.specs.Flow.{flowOf, taskFlow, lineAt, reachIn, loadIn, flowIn, flowFrom, withLater, has, Search, Passed, Answered}
 
 -- what a search finds is below n
 pub found-below : {P : ℕ → Type 0} {n : ℕ} {r : Found} {p : ℕ} → Search P n r → r ≡ At p → p < n
@@ -169,8 +170,30 @@ module _ (w : List ℕ) (f n : ℕ) (kept : Flow) {u : Flow} where
       let j : n - f ≡ 0 = omega arith in
       sym (later-none kept) ∙ ap (withLater kept) (sym (later-end w f)) ∙ (rw j at i)
 
-pub scan-start : (w : List ℕ) (n : ℕ) → withLater Fine (flowFrom w 0 (n - 0)) ≡ flowFrom w 0 n
-scan-start w n = let j : n - 0 ≡ n = omega arith in ap (flowFrom w 0) j
+-- a clean function has no refusal 11 or 13
+module _ (w : List ℕ) (f : ℕ) (clean : Clean (funcOf w f)) where
+  within : (p : ℕ) → p < sizeAt w f → p < size (funcOf w f)
+  within p h = omega (arith, length-points w (baseAt w f) (sizeAt w f))
+
+  reach-clean : reachIn w f ≡ none
+  unfolding reachIn
+  reach-clean = below-none _ (sizeAt w f) .1 (λ p i. unless-none (reached (funcOf w f) p) (Unreachable (lineAt w f p)) .1 (clean .reached p (within p i)))
+
+  load-clean : loadIn w f ≡ none
+  unfolding loadIn
+  load-clean = below-none _ (sizeAt w f) .1 (λ p i. unless-none (storedBefore (funcOf w f) p (loaded (point (funcOf w f) p))) (Uninitialised (lineAt w f p)) .1 (clean .stored p (within p i)))
+
+  flow-clean : Fine ≡ flowIn w f
+  flow-clean = sym (λ i. flowOf (reach-clean i) (load-clean i))
+
+-- a scan begins where the functions are no longer known to be clean
+scan-from : (w : List ℕ) (f n : ℕ) → f ≤ n → ((g : ℕ) → g < f → Clean (funcOf w g)) → withLater Fine (flowFrom w f (n - f)) ≡ flowFrom w 0 n
+scan-from w zero n h c = let j : n - 0 ≡ n = omega arith in ap (flowFrom w 0) j
+scan-from w (suc f) n h c =
+    rw (← add-one f) (scan-on w f n Fine (scan-from w f n (omega arith) (λ g l. c g (omega arith))) (flow-clean w f (c f (omega arith))) refl (omega arith))
+
+pub scan-start : {w : List ℕ} {f n : ℕ} → Passed w f n → withLater Fine (flowFrom w f (n - f)) ≡ flowFrom w 0 n
+scan-start {w} {f} {n} p = scan-from w f n (p .few) (p .clean)
 
 -- rows that agree have the same first refusal
 first-same : {B : Type 0} (g h : ℕ → Option B) (i n : ℕ) → ((j : ℕ) → i ≤ j → j < i + n → g j ≡ h j)
@@ -206,3 +229,7 @@ module _ {w : List ℕ} {n m : ℕ} (k : Stacked w n m) (s : ℕ) where
       (λ i. flowOf
       (rows-same (λ x l p. unless (reached x p) (Unreachable l)) i)
       (rows-same (λ x l p. unless (storedBefore x p (loaded (point x p))) (Uninitialised l)) i))
+
+  -- a task of clean functions has no refusal 11 or 13
+  pub clean-flow : {f : ℕ} → Passed w f n → f ≡ n → Fine ≡ taskFlow task
+  clean-flow {f} p e = scan-end w f n Fine (scan-start p) (omega arith) ∙ task-flow

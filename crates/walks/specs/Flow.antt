@@ -18,6 +18,7 @@ use Rattle.model.specs.Refusal.{storedBefore, reachRow, loadRow, firstPoint}
 use Rattle.bits.specs.Bits.{bit}
 use Rattle.tables.specs.Tables.{pointAt, baseAt, sizeAt, funcOf, Stacked}
 use Rattle.forward.specs.Forward.{item, Inside}
+use Rattle.sweep.specs.Sweep.{Clean}
 use Rattle.walks.specs.declared.Flow.{Flow}
 use Rattle.walks.specs.declared.Flow.the-variants.{Reach, Load, Fine}
 use Rattle.walks.specs.declared.Found.{Found}
@@ -101,6 +102,11 @@ pub record FuncAt (w : List ℕ) (f b n : ℕ) : Type 0 where
   pub within : b + n ≤ 1024
   pub room : 3264 ≤ length w
   pub ready : FuncReady (funcOf w f)
+
+-- of the functions, those before the first have no refusal 11 or 13
+pub record Passed (w : List ℕ) (first funcs : ℕ) : Type 0 where
+  pub few : first ≤ funcs
+  pub clean : (f : ℕ) → f < first → Clean (funcOf w f)
 
 -- no point generates anything
 pub record NoGens (gens : List ℕ) : Type 0 where

@@ -1,15 +1,15 @@
 // Judges a read and linked task in the tables by refusals 11 and 13. One pass of the forward kernel over each function marks the points
 // that walks reach, and brings to each point the offsets that some walk has not stored before it.
 ghost use mathlib.Core.Path.{_≡_};
-ghost use mathlib.Core.Bool.{false};
-ghost use Prim.Native.Nat.{ℕ, _+_, _*_, _<_, _≤_};
+ghost use mathlib.Core.Bool.{true, false};
+ghost use Prim.Native.Nat.{ℕ, _+_, _<_, _≤_};
 ghost use lib.Dec.{T};
 ghost use lib.ListN.{length};
 ghost use Rattle.model.specs.Task.{offsetFits};
 ghost use Rattle.model.specs.Walk.{loaded};
 ghost use Rattle.tables.specs.Tables.{pointAt, baseAt, sizeAt, taskOf};
 ghost use Rattle.forward.specs.Forward.{item};
-ghost use Rattle.walks.specs.Flow.{taskFlow, Ready, flowIn, withLater, Kills, has, Search, FuncAt, NoGens, Space, Answered};
+ghost use Rattle.walks.specs.Flow.{taskFlow, Ready, flowIn, withLater, Kills, has, Search, FuncAt, Passed, NoGens, Space, Answered};
 use model::Point;
 use model::Refusal;
 
@@ -49,11 +49,30 @@ fn set_kills(work: &[u32], base: usize, n: usize, kills: &mut [u64])
     }
 }
 
+// Every point has a mark. The loop always runs through, so that several marks are looked at at a time.
+fn all_seen(state: &[u8], n: usize) -> bool
+    requires { ⌜ n ≤ length (now state) ⌝ }
+    ensures { λ r. ⌜ (r ≡ true → (p : ℕ) → p < n → item (now (state .entry)) p ≡ 0 → ⊥) ⌝ }
+{
+    let mut all = true;
+    let mut p = 0;
+    while p < n {
+        if state[p] == 0 {
+            all = false;
+        }
+        p += 1;
+    }
+    all
+}
+
 // The first point without a mark: no walk reaches it.
 fn first_unseen(state: &[u8], n: usize) -> Found
     requires { ⌜ n ≤ length (now state) ⌝ }
     ensures { λ r. ⌜ Search (λ p. item (now (state .entry)) p ≡ 0 → ⊥) n r ⌝ }
 {
+    if all_seen(state, n) {
+        return Found::Nothing;
+    }
     let mut p = 0;
     while p < n {
         if state[p] == 0 {
@@ -157,9 +176,11 @@ fn with_later(kept: Flow, later: Flow) -> Flow
     }
 }
 
-// One function after the other, up to the first refusal 11. The contract alone reads points, the number of points in all.
+// One function after the other from the first on, up to the first refusal 11; those before it are clean. The contract alone reads points, the
+// number of points in all.
 fn funcs_flow(
     work: &[u32],
+    first: usize,
     funcs: usize,
     points: usize,
     gens: &[u64],
@@ -167,11 +188,11 @@ fn funcs_flow(
     sets: &mut [u64],
     state: &mut [u8],
 ) -> Flow
-    requires { ⌜ (3264 ≤ length (now work)) × Ready (now work) funcs points × NoGens (now gens) × Space (now kills) (now sets) (now state) ⌝ }
+    requires { ⌜ (3264 ≤ length (now work)) × Ready (now work) funcs points × Passed (now work) first funcs × NoGens (now gens) × Space (now kills) (now sets) (now state) ⌝ }
     ensures { λ r. ⌜ ((s : ℕ) → r ≡ taskFlow (taskOf (now (work .entry)) s funcs)) ⌝ }
 {
     let mut kept = Flow::Fine;
-    let mut f = 0;
+    let mut f = first;
     while f < funcs {
         kept = with_later(kept, func_flow(work, f, gens, kills, sets, state));
         if let Flow::Reach(r) = kept {
@@ -182,9 +203,21 @@ fn funcs_flow(
     kept
 }
 
-// Refusals 11 and 13 of the task whose funcs functions and points points stand in the tables.
+// Refusals 11 and 13 of the task whose funcs functions and points points stand in the tables. Most tasks that have none pass the sweep.
 pub fn flow_rows(work: &[u32], funcs: usize, points: usize) -> Flow
     requires { ⌜ (3264 ≤ length (now work)) × Ready (now work) funcs points ⌝ }
+    ensures { λ r. ⌜ ((s : ℕ) → r ≡ taskFlow (taskOf (now (work .entry)) s funcs)) ⌝ }
+{
+    let first = sweep::clean_funcs(work, funcs);
+    if first == funcs {
+        return Flow::Fine;
+    }
+    solved_rows(work, first, funcs, points)
+}
+
+// The same by the kernel, where the functions before the first are clean.
+fn solved_rows(work: &[u32], first: usize, funcs: usize, points: usize) -> Flow
+    requires { ⌜ (3264 ≤ length (now work)) × Ready (now work) funcs points × Passed (now work) first funcs ⌝ }
     ensures { λ r. ⌜ ((s : ℕ) → r ≡ taskFlow (taskOf (now (work .entry)) s funcs)) ⌝ }
 {
     let gens = [0u64; 256];
@@ -193,6 +226,7 @@ pub fn flow_rows(work: &[u32], funcs: usize, points: usize) -> Flow
     let mut state = [0u8; 256];
     funcs_flow(
         work,
+        first,
         funcs,
         points,
         &gens,

@@ -32,6 +32,8 @@ fn texts() -> Vec<(&'static str, Vec<u8>)> {
         ("256 points", straight(1)),
         ("512 points", straight(2)),
         ("1,024 points", straight(4)),
+        ("1,024 points, led back", led_back(0)),
+        ("768 straight, 256 led back", led_back(3)),
         ("64 functions", functions()),
         ("256 points, branches", branches(false)),
         ("256 points, backward chain", branches(true)),
@@ -79,26 +81,39 @@ fn typical() -> Vec<u8> {
 
 /// Functions of 256 points, one after the other, each called by the one before; loads and stores of eight offsets.
 fn straight(count: usize) -> Vec<u8> {
+    chain(count, |_| vec![])
+}
+
+/// Four such functions. Those from `first` on begin with points of which one is reached only by a lead from a higher one.
+fn led_back(first: usize) -> Vec<u8> {
+    chain(4, |function| {
+        let points = if function < first {
+            vec![]
+        } else {
+            vec!["  (goto 2)", "  (goto 4)", "  (either 1 3)", "  (goto 4)"]
+        };
+        points.into_iter().map(String::from).collect()
+    })
+}
+
+fn chain(count: usize, opening: impl Fn(usize) -> Vec<String>) -> Vec<u8> {
     let mut text = Vec::new();
     put(&mut text, "(stack 16)");
     for function in 0..count {
         put(&mut text, "(func 8");
-        let mut points = 0;
+        let mut points = opening(function);
         if function + 1 < count {
-            put(&mut text, &format!("  (call {})", function + 1));
-            put(&mut text, "  (ensure 8)");
-            points = 2;
+            points.push(format!("  (call {})", function + 1));
+            points.push("  (ensure 8)".to_string());
         }
-        for index in points..255 {
-            let offset = (index - points) / 2 % 8;
-            let word = if (index - points) % 2 == 0 {
-                "store"
-            } else {
-                "load"
-            };
-            put(&mut text, &format!("  ({word} {offset})"));
+        for index in 0..255 - points.len() {
+            let word = if index % 2 == 0 { "store" } else { "load" };
+            points.push(format!("  ({word} {})", index / 2 % 8));
         }
-        put(&mut text, "  (return)");
+        points.push("  (return)".to_string());
+        for point in &points {
+            put(&mut text, point);
+        }
         put(&mut text, ")");
     }
     text

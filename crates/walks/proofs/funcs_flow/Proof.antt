@@ -11,7 +11,7 @@ use Rattle.walks.proofs.funcs_flow.Statement.{statement}
 use Rattle.walks.proofs.funcs_flow.Tie as tie
 
 abbrev Inv-loop : tie.InvT-loop
-Inv-loop work funcs points gens kills₀ sets₀ state₀ kept₀ f₀ kills sets state kept f =
+Inv-loop work first funcs points gens kills₀ sets₀ state₀ kept₀ f₀ kills sets state kept f =
     (f ≤ funcs)
     × (length kills ≡ length kills₀)
     × (length sets ≡ length sets₀)
@@ -19,15 +19,15 @@ Inv-loop work funcs points gens kills₀ sets₀ state₀ kept₀ f₀ kills set
     × (withLater kept (flowFrom work f (funcs - f)) ≡ flowFrom work 0 funcs)
 
 abbrev μ-loop : tie.MeasureT-loop
-μ-loop work funcs points gens kills₀ sets₀ state₀ kept₀ f₀ kills sets state kept f = funcs - f
+μ-loop work first funcs points gens kills₀ sets₀ state₀ kept₀ f₀ kills sets state kept f = funcs - f
 
 loop-holds : tie.Need-loop-holds Inv-loop μ-loop
-loop-holds c = (omega arith, refl, refl, refl, scan-start _ _)
+loop-holds c = (omega arith, refl, refl, refl, scan-start (c .before .before .before .before .before .pre .2))
 
 func-flow-requires : tie.Need-func-flow-requires Inv-loop μ-loop
 func-flow-requires c κs =
     let s = c .before .before .before .before .before .before .before .before .before .before .pre in
-    (ready-at (s .1) (s .0) (c .before .before .before .before .loop .f) (omega arith), s .2, omega arith)
+    (ready-at (s .1) (s .0) (c .before .before .before .before .loop .f) (omega arith), s .3, omega arith)
 
 returns : tie.Need-returns Inv-loop μ-loop
 returns c =

@@ -1,0 +1,4 @@
+pub mod Theory
+pub mod Laws
+pub mod Turns
+pub mod Answers

@@ -1,0 +1,12 @@
+-- The operator is the definition.
+use mathlib.Core.Path.{refl}
+use Rattle.sweep.specs.Steps.{union}
+use Rattle.sweep.proofs.union_of.Statement.{statement}
+use Rattle.sweep.proofs.union_of.Tie as tie
+
+returns : tie.Need-returns
+unfolding union
+returns c = refl
+
+pub union-of-spec : {M : Type 1} → statement M
+union-of-spec = tie.close (tie.spec returns)

@@ -1,0 +1,3 @@
+-- What a sweep is given, and what it shows.
+pub mod Sweep
+pub mod Steps
