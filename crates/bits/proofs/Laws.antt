@@ -1,12 +1,12 @@
 -- Laws of bits: of or, and, not, shifts and the masks with one bit or the lowest bits set.
 use Prim.Native.Nat.{ℕ, zero, suc, _+_, _-_, _*_, _/_, _%_, _^_, _≤_, _<_, min, max}
-use native.Mathlib.Nat.{pow-suc, pow-zero}
+use native.Mathlib.Nat.{pow-suc}
 use native.Mathlib.Numerals.{one-add}
 use native.Mathlib.Omega.{arith}
-use mathlib.Core.Path.{_≡_, refl, ap, ap₂, sym, _∙_, subst}
+use mathlib.Core.Path.{_≡_, refl, ap, sym, _∙_}
 use lib.Bits.{bitAnd, bitOr, and-step, or-step, or-add-and, and-le-r, and-mask}
 use lib.Pow.{pow-pos, shl-exact, shr-shr}
-use Rattle.bits.specs.Bits.{bit, Single, Low}
+use Rattle.bits.specs.Bits.{bit, Single, Low, union, difference}
 
 pub bit-le : (m j : ℕ) → bit m j ≤ 1
 unfolding bit
@@ -129,3 +129,17 @@ same-bits zero a b h l e = omega arith
 same-bits (suc k) a b h l e =
     omega
     (arith, e 0 (omega arith), same-bits k (a / 2) (b / 2) (omega (arith, pow-suc 2 k)) (omega (arith, pow-suc 2 k)) (λ j i. e (suc j) (omega arith)))
+
+-- the operators, bit by bit; a union is no smaller a number
+pub bit-union : (a b j : ℕ) → bit (union a b) j ≡ max (bit a j) (bit b j)
+unfolding union
+bit-union a b j = bit-or a b j
+
+pub union-ge : (a b : ℕ) → a ≤ union a b
+unfolding union
+union-ge a b = or-ge a b
+
+pub bit-difference : (a b j : ℕ) → b < 2 ^ 64 → j < 64 → bit (difference a b) j ≡ min (bit a j) (1 - bit b j)
+unfolding difference
+bit-difference a b j h l =
+    bit-and a (18446744073709551615 - b) j ∙ ap (λ (x : ℕ). min (bit a j) x) (bit-not-word b j h l)

@@ -1,6 +1,7 @@
 -- A number as a set: its bits, counted from the lowest.
-use Prim.Native.Nat.{ℕ, zero, suc, _/_, _%_, _≤_, _<_}
+use Prim.Native.Nat.{ℕ, zero, suc, _-_, _/_, _%_, _≤_, _<_}
 use mathlib.Core.Path.{_≡_}
+use lib.Bits.{bitAnd, bitOr}
 
 -- bit j of m, 0 or 1
 unfoldable pub bit : ℕ → ℕ → ℕ
@@ -16,3 +17,10 @@ pub record Single (o m : ℕ) : Type 0 where
 pub record Low (k m : ℕ) : Type 0 where
   pub below : (j : ℕ) → j < k → bit m j ≡ 1
   pub above : (j : ℕ) → k ≤ j → bit m j ≡ 0
+
+-- the bits of both sets; the bits of a that are not in b
+unfoldable pub union : ℕ → ℕ → ℕ
+union a b = bitOr a b
+
+unfoldable pub difference : ℕ → ℕ → ℕ
+difference a b = bitAnd a (18446744073709551615 - b)

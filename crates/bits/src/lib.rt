@@ -1,7 +1,7 @@
-// Masks of 64 bits: one bit, the lowest bits, and the reading of a bit. The laws of bits are in proofs/Laws.antt.
+// Sets of 64 bits: one bit, the lowest bits, the reading of a bit, and the operators by name. The laws of bits are in proofs/Laws.antt.
 ghost use mathlib.Core.Path.{_≡_};
 ghost use Prim.Native.Nat.{_<_, _≤_};
-ghost use Rattle.bits.specs.Bits.{bit, Single, Low};
+ghost use Rattle.bits.specs.Bits.{bit, Single, Low, union, difference};
 
 pub fn single_bit(o: u32) -> u64
     requires { ⌜ o < 64 ⌝ }
@@ -26,4 +26,16 @@ pub fn bit_of(m: u64, o: u32) -> u64
     ensures { λ r. ⌜ r ≡ bit m o ⌝ }
 {
     (m >> o) & 1
+}
+
+pub fn union_of(a: u64, b: u64) -> u64
+    ensures { λ r. ⌜ r ≡ union a b ⌝ }
+{
+    a | b
+}
+
+pub fn difference_of(a: u64, b: u64) -> u64
+    ensures { λ r. ⌜ r ≡ difference a b ⌝ }
+{
+    a & !b
 }

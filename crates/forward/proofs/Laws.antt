@@ -8,18 +8,18 @@ use mathlib.Core.Bool.{true, true≢false}
 use mathlib.Core.List.{List, [], _∷_, List·Memᴰ, List·Memᴰ·head, List·Memᴰ·tail, List·Memᴰ·cases-cons}
 use mathlib.Core.Logic.{_↔_, ⊎-elim}
 use lib.ListN.{length, getD, set, drop, replicate, length-append, length-drop, length-replicate, List·getD-append, getD-replicate}
-use lib.Bits.{bitAnd, bitOr}
 use borrow.Author.Fill.{fill-none, fill-more}
-use Rattle.bits.specs.Bits.{bit}
-use Rattle.bits.proofs.Laws.{bit-or, bit-and, bit-not-word, or-ge}
+use Rattle.bits.specs.Bits.{bit, union, difference}
+use Rattle.bits.proofs.Laws.{bit-union, bit-difference}
 use Rattle.model.specs.declared.Point.{Point}
 use Rattle.model.specs.declared.Point.the-variants.{Load, Store, Call, Ensure, Goto, Either, Return}
 use Rattle.model.specs.Task.{Func}
 use Rattle.model.specs.Walk.{leadsFrom, leads}
 use Rattle.tables.specs.Tables.{isAccess, pointsOf}
 use Rattle.tables.proofs.Laws.{point-there}
-use Rattle.forward.specs.Forward.{item, function, Inside}
-use Rattle.forward.specs.Worklist.{turned, order, nextAt, union, transfer, Progress, progress, listed, Raised, Propagated, targets, cleared, sum, waiting}
+use Rattle.forward.specs.Forward.{Inside}
+use Rattle.tables.specs.Tables.{item, function}
+use Rattle.forward.specs.Worklist.{turned, order, nextAt, transfer, Progress, progress, listed, Raised, Propagated, targets, cleared, sum, waiting}
 use Rattle.forward.specs.declared.Next.{Next}
 use Rattle.forward.specs.declared.Next.the-variants.{Nowhere, To, Fork}
 
@@ -124,22 +124,11 @@ waiting-other (suc zero) h = refl
 waiting-other (suc (suc zero)) h = absurd (h refl)
 waiting-other (suc (suc (suc s))) h = refl
 
--- the sets as bits; a union is no smaller a number
-pub bit-union : (a b j : ℕ) → bit (union a b) j ≡ max (bit a j) (bit b j)
-unfolding union
-bit-union a b j = bit-or a b j
-
-pub union-ge : (a b : ℕ) → a ≤ union a b
-unfolding union
-union-ge a b = or-ge a b
-
+-- what leaves a point, bit by bit
 pub bit-transfer : (s kill gen j : ℕ) → kill < 2 ^ 64 → j < 64 → bit (transfer s kill gen) j ≡ max (min (bit s j) (1 - bit kill j)) (bit gen j)
 unfolding transfer
 bit-transfer s kill gen j h l =
-    bit-or (bitAnd s (18446744073709551615 - kill)) gen j
-    ∙ ap
-    (λ (x : ℕ). max x (bit gen j))
-    (bit-and s (18446744073709551615 - kill) j ∙ ap (λ (x : ℕ). min (bit s j) x) (bit-not-word kill j h l))
+    bit-union (difference s kill) gen j ∙ ap (λ (x : ℕ). max x (bit gen j)) (bit-difference s kill j h l)
 
 -- a cleared table, entry by entry
 pub cleared-none : (l : List ℕ) → l ≡ cleared 0 l

@@ -3,19 +3,10 @@
 use Prim.Native.Nat.{ℕ, _+_, _≤_, _<_}
 use mathlib.Core.Path.{_≡_}
 use mathlib.Core.List.{List, List·Memᴰ}
-use lib.ListN.{length, getD}
+use lib.ListN.{length}
 use Rattle.bits.specs.Bits.{bit}
-use Rattle.model.specs.Task.{Func}
 use Rattle.model.specs.Walk.{Walk, never, leads}
-use Rattle.tables.specs.Tables.{pointsOf}
-
--- entry p of a table
-abbrev pub item : List ℕ → ℕ → ℕ
-item l p = getD l p 0
-
--- the function whose n points stand in w from number b on; its frame does not matter here
-abbrev pub function : List ℕ → ℕ → ℕ → Func
-function w b n = record { frame = 0; points = pointsOf w b n }
+use Rattle.tables.specs.Tables.{item, function}
 
 -- points below n lead only to points below n
 abbrev pub Inside : (ℕ → List ℕ) → ℕ → Type 0

@@ -3,11 +3,11 @@ use Prim.Native.Nat.{ℕ, zero, suc, _+_, _-_, _^_, _≤_, _<_}
 use mathlib.Core.Path.{_≡_}
 use mathlib.Core.List.{List, [], _∷_, _++_, List·Memᴰ}
 use lib.ListN.{length, drop, set, replicate}
-use lib.Bits.{bitAnd, bitOr}
 use Rattle.model.specs.Task.{Func}
 use Rattle.model.specs.Walk.{leadsFrom, leads}
-use Rattle.tables.specs.Tables.{pointAt}
-use Rattle.forward.specs.Forward.{item, Given}
+use Rattle.bits.specs.Bits.{union, difference}
+use Rattle.tables.specs.Tables.{item, pointAt}
+use Rattle.forward.specs.Forward.{Given}
 use Rattle.forward.specs.declared.Last.{Last}
 use Rattle.forward.specs.declared.Next.{Next}
 use Rattle.forward.specs.declared.Next.the-variants.{Nowhere, To, Fork}
@@ -31,12 +31,9 @@ order x p = turned (leads x p)
 unfoldable pub nextAt : List ℕ → ℕ → ℕ → List ℕ
 nextAt w b p = turned (leadsFrom p (pointAt w (b + p)))
 
--- the bits of both sets; what leaves a point with this set
-unfoldable pub union : ℕ → ℕ → ℕ
-union a b = bitOr a b
-
+-- what leaves a point with the set s
 unfoldable pub transfer : ℕ → ℕ → ℕ → ℕ
-transfer s kill gen = bitOr (bitAnd s (18446744073709551615 - kill)) gen
+transfer s kill gen = union (difference s kill) gen
 
 -- the tables: the set of each point, its state (0 unseen, 1 seen, 2 seen and in the list), and the list, of which the first count entries are
 -- in use

@@ -1,12 +1,12 @@
 // The forward gen/kill data-flow kernel over the points of one function, with a list of the points still to visit.
 ghost use mathlib.Core.Path.{_≡_};
-ghost use Prim.Native.Nat.{ℕ, _+_, _<_, _≤_};
+ghost use Prim.Native.Nat.{_+_, _<_, _≤_};
 ghost use lib.ListN.{length, set};
 ghost use Rattle.model.specs.Task.{Func};
 ghost use Rattle.model.specs.Walk.{leadsFrom, leads};
-ghost use Rattle.tables.specs.Tables.{pointsOf};
-ghost use Rattle.forward.specs.Forward.{item, function, Given, Solved};
-ghost use Rattle.forward.specs.Worklist.{targets, turned, order, nextAt, union, transfer, progress, cleared, listed, Ended, Ends, Raised, Propagated, Visited, Visits, Listed, Fits, FitsAll, Ready};
+ghost use Rattle.tables.specs.Tables.{item, function, pointsOf};
+ghost use Rattle.forward.specs.Forward.{Given, Solved};
+ghost use Rattle.forward.specs.Worklist.{targets, turned, order, nextAt, transfer, progress, cleared, listed, Ended, Ends, Raised, Propagated, Visited, Visits, Listed, Fits, FitsAll, Ready};
 use model::Point;
 
 // Where a point leads, in the order in which a set comes there.
@@ -55,17 +55,11 @@ fn next_at(work: &[u32], base: usize, p: usize) -> Next
     next_of(p, tables::point_at(work, i))
 }
 
-// The operators on sets, by name.
-fn union_of(a: u64, b: u64) -> u64
-    ensures { λ r. ⌜ r ≡ union a b ⌝ }
-{
-    a | b
-}
-
+// What leaves a point with this set.
 fn transfer_of(set: u64, kills: u64, gens: u64) -> u64
     ensures { λ r. ⌜ r ≡ transfer set kills gens ⌝ }
 {
-    (set & !kills) | gens
+    bits::union_of(bits::difference_of(set, kills), gens)
 }
 
 // The list is a stack of bytes: a point is put at its end and taken from its end.
@@ -149,7 +143,7 @@ fn raise(
 {
     let s = state[q];
     let old = sets[q];
-    let new = union_of(old, m);
+    let new = bits::union_of(old, m);
     if s == 0 {
         return add_to_list(sets, state, todo, count, q, new);
     }
@@ -183,7 +177,7 @@ fn propagate(
             last: last_of(sets, todo, count),
         },
         Next::To(q) => {
-            let set = union_of(sets[q], m);
+            let set = bits::union_of(sets[q], m);
             let more = raise(sets, state, todo, count, q, m);
             End {
                 count: more,
@@ -192,7 +186,7 @@ fn propagate(
         }
         Next::Fork(q, r) => {
             let some = raise(sets, state, todo, count, q, m);
-            let set = union_of(sets[r], m);
+            let set = bits::union_of(sets[r], m);
             let more = raise(sets, state, todo, some, r, m);
             End {
                 count: more,

@@ -1,11 +1,9 @@
 -- The verdict of the passes is the first refusal of the rows, in their order.
-use Prim.Native.Nat.{ℕ, _-_, _≤_, _<_}
+use Prim.Native.Nat.{ℕ, _≤_, _<_}
 use mathlib.Core.Path.{_≡_, refl, sym, ap, _∙_}
 use mathlib.Core.List.{List}
 use mathlib.Core.Option.{Option, none, some}
-use native.Mathlib.Omega.{arith}
 use lib.ListN.{length}
-use lib.Dec.{ltb}
 use borrow.Author.Tests.{lt-ltb, le-ltb}
 use Rattle.model.specs.declared.Refusal.{Refusal}
 use Rattle.model.specs.declared.Refusal.the-variants.{TextTooLong}
@@ -13,7 +11,7 @@ use Rattle.model.specs.declared.Verdict.{Verdict}
 use Rattle.model.specs.declared.Verdict.the-variants.{Accepted, Refused}
 use Rattle.model.specs.Basic.{_orElse_}
 use Rattle.model.specs.Task.{Task, Judged, refused, task, readText}
-use Rattle.model.specs.Refusal.{judge, checkRows, taskRows, orTask, judgedTask, firstPoint, reachRow, loadRow}
+use Rattle.model.specs.Refusal.{judge, checkRows, taskRows, orTask, firstPoint, reachRow, loadRow}
 use Rattle.model.specs.Services.{verdictOf}
 use Rattle.tables.specs.Tables.{taskOf}
 use Rattle.task.specs.declared.Tables.{Tables}
@@ -26,7 +24,7 @@ use Rattle.walks.specs.declared.Flow.the-variants.{Reach, Load, Fine}
 use Rattle.walks.specs.Flow.{flowOf, taskFlow}
 use Rattle.theory.proofs.Reading.{read-shaped}
 use Rattle.theory.proofs.Accepted.{Linked, links-none}
-use Rattle.judge.specs.Rows.{walkRows, lastOf, Shown, Walkable}
+use Rattle.judge.specs.Rows.{walkRows, lastOf, Shown}
 
 -- 11, then 12, then 13: a, b and c are the first refusals of each
 reach-first : (a b c : Option Refusal) (r : Refusal) → flowOf a c ≡ Reach r → Refused r ≡ rowVerdict (a orElse (b orElse c))

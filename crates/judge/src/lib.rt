@@ -5,7 +5,7 @@ ghost use lib.ListN.{length};
 ghost use Rattle.model.specs.Refusal.{judge, checkRows, taskRows};
 ghost use Rattle.model.specs.Services.{verdictOf};
 ghost use Rattle.tables.specs.Tables.{taskOf};
-ghost use Rattle.task.specs.Reading.{Holds, Kept};
+ghost use Rattle.task.specs.Reading.{Kept};
 ghost use Rattle.links.specs.Links.{rowVerdict};
 ghost use Rattle.judge.specs.Rows.{walkRows, lastOf, Shown, Walkable};
 use model::Refusal;

@@ -1,10 +1,10 @@
 -- The figures of a task, all in blocks. The walks run inside one function; displacements go from callees to callers, the entry
 -- occupancy and the chain from callers to callees. Calls lead to later functions, which bounds the depth of both.
 use Prim.Native.Nat.{ℕ, zero, suc, pred, _+_, _-_, _*_, min, max}
-use mathlib.Core.Bool.{Bool, true, false, not, _&&_, _||_}
+use mathlib.Core.Bool.{Bool, _&&_}
 use mathlib.Core.List.{List, [], _∷_}
 use mathlib.Core.Option.{Option, none, some}
-use lib.Dec.{leb, eqb}
+use lib.Dec.{eqb}
 use Rattle.model.specs.Basic.{if_then_else_, joined, select, largest, smallest, upTo, aboveAll, lowest}
 use Rattle.model.specs.Task.{Func, Task, size, count, func, point}
 use Rattle.model.specs.Walk.{leads, called, loads, stores, touches, calls, isCall, isEnsure, returns, never, someWalk, arrival}

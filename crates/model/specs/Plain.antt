@@ -1,6 +1,6 @@
 -- The plain stack: the reference semantics, a stack in memory without a cache. It fixes what loads answer and what is refused, and is fed
 -- the task of a text and the events, nothing else.
-use Prim.Native.Nat.{ℕ, zero, suc}
+use Prim.Native.Nat.{ℕ, suc}
 use mathlib.Core.List.{List, [], _∷_}
 use mathlib.Core.Option.{Option, none, some}
 use lib.ListN.{getD, set, replicate}

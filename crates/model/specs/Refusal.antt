@@ -1,7 +1,7 @@
 -- The refusals: the number and the place of each, the rows that a read task may still fail, and their order.
-use Prim.Native.Nat.{ℕ, zero, suc, _+_, _-_, _*_, _/_, _%_}
+use Prim.Native.Nat.{ℕ, suc, _+_, _-_, _*_, _/_, _%_}
 use mathlib.Core.Bool.{Bool, true, false, not, _&&_, _||_}
-use mathlib.Core.List.{List, [], _∷_}
+use mathlib.Core.List.{List, []}
 use mathlib.Core.Option.{Option, none, some}
 use lib.ListN.{length}
 use lib.Dec.{leb, ltb, eqb}
@@ -15,8 +15,8 @@ use Rattle.model.specs.declared.Ending.{Ending}
 use Rattle.model.specs.declared.Ending.the-variants as ending
 use Rattle.model.specs.Basic.{if_then_else_, unless, _orElse_, firstOf, any, upTo, countFrom}
 use Rattle.model.specs.Task.{Func, Task, Judged, refused, task, size, count, func, point, funcLine, pointLine, readText}
-use Rattle.model.specs.Walk.{loaded, called, ensured, isReturn, present, is, calls, isCall, isEnsure}
-use Rattle.model.specs.Figures.{reached, uninitialised, callPoints, longest}
+use Rattle.model.specs.Walk.{loaded, called, ensured, calls, isCall, isEnsure}
+use Rattle.model.specs.Figures.{reached, uninitialised, longest}
 use Rattle.model.specs.Sheet.{reportText}
 
 -- the sizes that bound the buffers

@@ -1,5 +1,5 @@
 -- A run on the core: what each event does to the frames, the cache and the memory, what it moves, and what the sheet allows.
-use Prim.Native.Nat.{ℕ, zero, suc, _+_, _≤_}
+use Prim.Native.Nat.{ℕ, suc, _+_, _≤_}
 use mathlib.Core.Path.{_≡_}
 use mathlib.Core.List.{List, [], _∷_}
 use mathlib.Core.Option.{Option, none, some}
@@ -11,7 +11,7 @@ use Rattle.model.specs.declared.Ending.{Ending}
 use Rattle.model.specs.declared.Ending.the-variants.{AllDone, Refused}
 use Rattle.model.specs.Basic.{if_then_else_}
 use Rattle.model.specs.Task.{Task, func, point}
-use Rattle.model.specs.Core.{Core, Moved, reserve, free, ensure, load, store, preempt, fresh}
+use Rattle.model.specs.Core.{Core, reserve, free, ensure, load, store, preempt, fresh}
 use Rattle.model.specs.Sheet.{Sheet}
 use Rattle.model.specs.Refusal.{eventRows}
 use Rattle.model.specs.Plain.{Event, Frame, entered, running, afterEvent, plain}

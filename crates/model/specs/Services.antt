@@ -1,9 +1,8 @@
 -- What check, report and run return and what every lent buffer holds afterwards, for every input.
 use Prim.Native.Nat.{ℕ}
-use mathlib.Core.List.{List, [], _∷_, _++_}
+use mathlib.Core.List.{List, [], _++_}
 use lib.ListN.{length, drop, replicate}
 use lib.Dec.{ltb}
-use Rattle.model.specs.declared.Refusal.{Refusal}
 use Rattle.model.specs.declared.Verdict.{Verdict}
 use Rattle.model.specs.declared.Verdict.the-variants.{Accepted}
 use Rattle.model.specs.declared.Verdict.the-variants as verdict
@@ -11,8 +10,7 @@ use Rattle.model.specs.declared.Ending.the-variants as ending
 use Rattle.model.specs.declared.ReportResult.{ReportResult}
 use Rattle.model.specs.declared.RunResult.{RunResult}
 use Rattle.model.specs.Basic.{if_then_else_}
-use Rattle.model.specs.Task.{Task, Judged, refused, task}
-use Rattle.model.specs.Core.{Core}
+use Rattle.model.specs.Task.{Judged, refused, task}
 use Rattle.model.specs.Sheet.{sheetOf, reportText}
 use Rattle.model.specs.Refusal.{workLength, judge, checkRows, reportRows, runRows, packed}
 use Rattle.model.specs.Plain.{Event, eventsOf}

@@ -1,5 +1,5 @@
 -- The preemption sheet: the figures as one record, and the bytes of the report.
-use Prim.Native.Nat.{ℕ, zero, suc, _+_, _*_, _/_, _%_}
+use Prim.Native.Nat.{ℕ, zero, suc, _+_, _/_, _%_}
 use mathlib.Core.List.{List, [], _∷_, _++_}
 use lib.Dec.{ltb}
 use Rattle.model.specs.Basic.{if_then_else_, joined, upTo}

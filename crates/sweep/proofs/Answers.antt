@@ -16,7 +16,8 @@ use Rattle.tables.specs.Tables.{pointAt, frameAt, baseAt, sizeAt, funcOf}
 use Rattle.tables.proofs.Laws.{length-points, point-there}
 use Rattle.sweep.specs.Sweep.{Sweepable, Clean}
 use Rattle.sweep.proofs.Laws.{fits-wider, load-below}
-use Rattle.sweep.specs.Steps.{item, Space, Most, Points, function, Swept}
+use Rattle.sweep.specs.Steps.{Space, Most, Points, Swept}
+use Rattle.tables.specs.Tables.{item, function}
 
 -- what the sweep of function f is given
 pub points-at : {w : List ℕ} {f b n : ℕ} → Sweepable w f → b ≡ baseAt w f → n ≡ sizeAt w f → Points w b n

@@ -1,19 +1,20 @@
 -- Laws of the steps: sets as bits, and what each point does with its set.
-use Prim.Native.Nat.{ℕ, _-_, _^_, _≤_, _<_, min, max}
+use Prim.Native.Nat.{ℕ, _^_, _≤_, _<_}
 use native.Mathlib.Omega.{arith}
 use mathlib.Core.Option.{some}
-use mathlib.Core.Path.{_≡_, refl, ap, _∙_}
+use mathlib.Core.Path.{_≡_, refl, ap}
 use mathlib.Core.List.{List, [], _∷_, List·Memᴰ·head, List·Memᴰ·tail}
 use lib.Dec.{T, T-not, eqb, ltb→lt, lt→ltb, eqb→eq, eqb-refl}
-use Rattle.bits.specs.Bits.{bit, Single}
-use Rattle.bits.proofs.Laws.{bit-le, bit-or, bit-and, bit-not-word}
+use Rattle.bits.specs.Bits.{bit, Single, union, difference}
+use Rattle.bits.proofs.Laws.{bit-le, bit-union, bit-difference}
 use Rattle.model.specs.declared.Point.{Point}
 use Rattle.model.specs.declared.Point.the-variants.{Load, Store, Call, Ensure, Goto, Either, Return}
 use Rattle.model.specs.Task.{offsetFits}
 use Rattle.model.specs.Walk.{loaded}
 use Rattle.sweep.specs.declared.Step.{Step}
 use Rattle.sweep.specs.declared.Step.the-variants.{Fails, Falls, Leaves}
-use Rattle.sweep.specs.Steps.{item, union, difference, Covers, Joined, Moved, FallsOn, LeavesTo, Accessed, Stepped, Inside}
+use Rattle.tables.specs.Tables.{item}
+use Rattle.sweep.specs.Steps.{Covers, Joined, Moved, FallsOn, LeavesTo, Accessed, Stepped, Inside}
 use Rattle.sweep.proofs.Theory.{moved-none, moved-more}
 
 -- an offset that fits a frame fits a larger one
@@ -37,10 +38,6 @@ load-below k (Either p q) f e = let z : _≡_ {A = ℕ} 0 1 = cc in absurd (omeg
 load-below k Return f e = let z : _≡_ {A = ℕ} 0 1 = cc in absurd (omega arith)
 
 -- a union has the bits of both sets
-bit-union : (a b j : ℕ) → bit (union a b) j ≡ max (bit a j) (bit b j)
-unfolding union
-bit-union a b j = bit-or a b j
-
 covers-left : (a b : ℕ) → Covers (union a b) a
 covers-left a b j h = omega (arith, bit-union a b j, bit-le b j)
 
@@ -50,11 +47,6 @@ covers-right a b j h = omega (arith, bit-union a b j, bit-le a j)
 -- a set that a union leaves as it is has the bits of the other one
 pub covers-same : (a b : ℕ) {u : ℕ} → u ≡ union a b → u ≡ a → Covers a b
 covers-same a b e d j h = omega (arith, ap (λ (v : ℕ). bit v j) e, ap (λ (v : ℕ). bit v j) d, covers-right a b j h)
-
-bit-difference : (a b j : ℕ) → b < 2 ^ 64 → j < 64 → bit (difference a b) j ≡ min (bit a j) (1 - bit b j)
-unfolding difference
-bit-difference a b j h l =
-    bit-and a (18446744073709551615 - b) j ∙ ap (λ (x : ℕ). min (bit a j) x) (bit-not-word b j h l)
 
 -- the set at a point that has the mark, and at one that does not
 pub joined-marked : {mark q m u : ℕ} {sets marks : List ℕ} → u ≡ union m (item sets q) → Joined mark q m sets marks u

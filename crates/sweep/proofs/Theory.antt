@@ -13,7 +13,8 @@ use Rattle.bits.specs.Bits.{bit}
 use Rattle.model.specs.Task.{Func, point}
 use Rattle.model.specs.Walk.{Walk, leads, loads, stores, never}
 use Rattle.theory.proofs.Walks.{walk-trans}
-use Rattle.sweep.specs.Steps.{item, Covers, Most, Joined, Holds, Moved, FallsOn, LeavesTo, Swept}
+use Rattle.sweep.specs.Steps.{Covers, Most, Joined, Holds, Moved, FallsOn, LeavesTo, Swept}
+use Rattle.tables.specs.Tables.{item}
 
 -- entries after a store
 here : (l : List ℕ) (p v : ℕ) → p < length l → item (set l p v) p ≡ v

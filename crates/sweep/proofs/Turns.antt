@@ -10,7 +10,8 @@ use Rattle.tables.specs.Tables.{pointAt}
 use Rattle.tables.proofs.Laws.{point-there}
 use Rattle.sweep.specs.declared.Step.{Step}
 use Rattle.sweep.specs.declared.Step.the-variants.{Falls, Leaves}
-use Rattle.sweep.specs.Steps.{item, Space, Most, Inside, Joined, Stepped, Points, function, Swept}
+use Rattle.sweep.specs.Steps.{Space, Most, Inside, Joined, Stepped, Points, Swept}
+use Rattle.tables.specs.Tables.{item, function}
 use Rattle.sweep.proofs.Theory.{Sweeping, sweeping-falls, sweeping-leaves, sweeping-end}
 
 -- a point leads to points that have room

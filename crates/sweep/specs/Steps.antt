@@ -1,30 +1,18 @@
 -- The sweep, step by step: what each function of the crate does to the sets and the marks. A set is a number of 64 bits, one for each offset.
-use Prim.Native.Nat.{ℕ, suc, _+_, _-_, _≤_, _<_}
+use Prim.Native.Nat.{ℕ, suc, _+_, _≤_, _<_}
 use mathlib.Core.Bool.{not}
 use mathlib.Core.List.{List, [], _∷_, List·Memᴰ}
 use mathlib.Core.Logic.{_⊎_}
 use mathlib.Core.Path.{_≡_}
-use lib.Bits.{bitAnd, bitOr}
 use lib.Dec.{T}
-use lib.ListN.{length, getD}
+use lib.ListN.{length}
 use Rattle.bits.specs.Bits.{bit}
 use Rattle.model.specs.declared.Point.{Point}
 use Rattle.model.specs.Task.{Func, offsetFits}
 use Rattle.model.specs.Walk.{Walk, leadsFrom, leads, loaded, stored, is, loads, stores, never}
-use Rattle.tables.specs.Tables.{pointAt, pointsOf}
+use Rattle.tables.specs.Tables.{item, pointAt}
 use Rattle.sweep.specs.declared.Step.{Step}
 use Rattle.sweep.specs.declared.Step.the-variants.{Fails, Falls, Leaves}
-
--- entry p of a table
-abbrev pub item : List ℕ → ℕ → ℕ
-item l p = getD l p 0
-
--- the bits of both sets; the bits of a that are not in b
-unfoldable pub union : ℕ → ℕ → ℕ
-union a b = bitOr a b
-
-unfoldable pub difference : ℕ → ℕ → ℕ
-difference a b = bitAnd a (18446744073709551615 - b)
 
 -- a has every bit of b
 abbrev pub Covers : ℕ → ℕ → Type 0
@@ -91,10 +79,6 @@ pub record Points (w : List ℕ) (b n : ℕ) : Type 0 where
   pub work-long : 3264 ≤ length w
   pub offsets : (p : ℕ) → p < n → T (offsetFits 64 (pointAt w (b + p)))
   pub inside : (p q : ℕ) → p < n → List·Memᴰ q (leadsFrom p (pointAt w (b + p))) → q < n
-
--- the function whose n points stand in w from number b on; its frame does not matter here
-abbrev pub function : List ℕ → ℕ → ℕ → Func
-function w b n = record { frame = 0; points = pointsOf w b n }
 
 -- the n points of x are reached, point 0 has the bits of the entry, a point hands on each bit that it does not store, and none loads a bit of its set
 pub record Swept (x : Func) (n entry : ℕ) (sets : List ℕ) : Type 0 where

@@ -7,9 +7,9 @@ ghost use Prim.Native.Nat.{ℕ, _+_, _<_, _≤_};
 ghost use lib.Dec.{T};
 ghost use lib.ListN.{length};
 ghost use Rattle.model.specs.Task.{offsetFits};
-ghost use Rattle.tables.specs.Tables.{pointAt, funcOf};
+ghost use Rattle.tables.specs.Tables.{item, pointAt, function, funcOf};
 ghost use Rattle.sweep.specs.Sweep.{Sweepable, Clean};
-ghost use Rattle.sweep.specs.Steps.{item, union, difference, Covers, Space, Most, Joined, Moved, Accessed, Stepped, Inside, Points, function, Swept};
+ghost use Rattle.sweep.specs.Steps.{Covers, Space, Most, Joined, Moved, Accessed, Stepped, Inside, Points, Swept};
 use model::Point;
 
 // What a point does with its set: it may be at fault, it leads to the next point with a set, or it does not lead there.
@@ -19,24 +19,11 @@ enum Step {
     Leaves,
 }
 
-// The operators on sets, by name.
-fn union_of(a: u64, b: u64) -> u64
-    ensures { λ r. ⌜ r ≡ union a b ⌝ }
-{
-    a | b
-}
-
-fn difference_of(a: u64, b: u64) -> u64
-    ensures { λ r. ⌜ r ≡ difference a b ⌝ }
-{
-    a & !b
-}
-
 // The set m brings nothing to the set old.
 fn covers(old: u64, m: u64) -> bool
     ensures { λ r. ⌜ (r ≡ true → Covers old m) ⌝ }
 {
-    union_of(old, m) == old
+    bits::union_of(old, m) == old
 }
 
 // The set at point q where the set m comes to it. What stands in sets counts if q has the mark.
@@ -45,7 +32,7 @@ fn joined(mark: u8, q: usize, m: u64, sets: &[u64], marks: &[u8]) -> u64
     ensures { λ r. ⌜ Joined mark q m (now (sets .entry)) (now (marks .entry)) r ⌝ }
 {
     if marks[q] == mark {
-        return union_of(m, sets[q]);
+        return bits::union_of(m, sets[q]);
     }
     m
 }
@@ -104,7 +91,7 @@ fn access(x: Point, m: u64) -> Step
         return Step::Falls(m);
     }
     if let Point::Store(o) = x {
-        return Step::Falls(difference_of(m, bits::single_bit(o)));
+        return Step::Falls(bits::difference_of(m, bits::single_bit(o)));
     }
     Step::Fails
 }

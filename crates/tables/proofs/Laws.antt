@@ -1,22 +1,20 @@
 -- Laws of the tables: what is read back after a write, and the task that the tables hold, point by point.
 use Prim.Native.Nat.{ℕ, zero, suc, _+_, _*_, _≤_, _<_}
-use native.Mathlib.Nat.{add-suc}
 use native.Mathlib.Omega.{arith}
 use native.Mathlib.Decide.{decLt}
-use native.Mathlib.Numerals.{add-one}
 use mathlib.Core.Path.{_≡_, refl, ap, sym, _∙_}
 use mathlib.Core.Bool.{Bool, true, false}
 use mathlib.Core.List.{List, [], _∷_, _++_}
-use lib.ListN.{length, getD, set, take, length-append, length-set}
+use lib.ListN.{length, getD, take, length-append}
 use lib.ListN.{List·getD-append}
 use lib.Dec.{ltb, eqb}
 use borrow.Author.Tests.{ne-eqb, le-ltb}
-use lib.Seq.{getD-set-same, getD-set-other, getD-at, take-append-le, take-all}
+use lib.Seq.{getD-at, take-append-le, take-all}
 use Rattle.model.specs.declared.Point.{Point}
 use Rattle.model.specs.declared.Point.the-variants.{Load, Store, Call, Ensure, Goto, Either, Return}
 use Rattle.model.specs.Basic.{if_then_else_, sumOf}
-use Rattle.model.specs.Task.{Func, Task, size, count, func, point, empty, inAll, funcLine}
-use Rattle.tables.specs.Tables.{pointOf, kindOf, isAccess, firstArgument, secondArgument, pointAt, putPoint, frameAt, baseAt, sizeAt, putFunc, pointsOf, funcOf, funcsOf, taskOf, Stacked, none, more}
+use Rattle.model.specs.Task.{Func, size, func, point, empty, inAll, funcLine}
+use Rattle.tables.specs.Tables.{pointOf, kindOf, isAccess, firstArgument, secondArgument, pointAt, frameAt, baseAt, sizeAt, pointsOf, funcOf, funcsOf, taskOf, Stacked, none, more}
 
 -- a point survives being written as numbers
 pub point-back : (p : Point) → pointOf (kindOf p) (firstArgument p) (secondArgument p) ≡ p

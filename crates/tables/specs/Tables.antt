@@ -1,11 +1,11 @@
 -- The tables in the working space, and the task that they hold.
 --   0 kind, 1024 first and 2048 second argument of each point, counted over all functions
 --   3072 frame, 3136 first point and 3200 number of points of each function
-use Prim.Native.Nat.{ℕ, zero, suc, _+_, _≤_, _<_}
+use Prim.Native.Nat.{ℕ, zero, suc, _+_}
 use mathlib.Core.Path.{_≡_}
 use mathlib.Core.Bool.{Bool, true, false}
 use mathlib.Core.List.{List, [], _∷_, _++_}
-use lib.ListN.{length, getD, set}
+use lib.ListN.{getD, set}
 use lib.Dec.{eqb}
 use Rattle.model.specs.declared.Point.{Point}
 use Rattle.model.specs.declared.Point.the-variants.{Load, Store, Call, Ensure, Goto, Either, Return}
@@ -52,6 +52,10 @@ secondArgument (Goto p) = 0
 secondArgument (Either p q) = q
 secondArgument Return = 0
 
+-- entry p of a table
+abbrev pub item : List ℕ → ℕ → ℕ
+item l p = getD l p 0
+
 -- a load or a store
 abbrev pub isAccess : Point → Bool
 isAccess (Load o) = true
@@ -87,6 +91,10 @@ putFunc w f frame base size = set (set (set w (3072 + f) frame) (3136 + f) base)
 unfoldable pub pointsOf : List ℕ → ℕ → ℕ → List Point
 pointsOf w b zero = []
 pointsOf w b (suc n) = pointsOf w b n ++ (pointAt w (b + n) ∷ [])
+
+-- the function that n points from number b on make, with no frame
+abbrev pub function : List ℕ → ℕ → ℕ → Func
+function w b n = record { frame = 0; points = pointsOf w b n }
 
 abbrev pub funcOf : List ℕ → ℕ → Func
 funcOf w f = record { frame = frameAt w f; points = pointsOf w (baseAt w f) (sizeAt w f) }

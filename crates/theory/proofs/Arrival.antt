@@ -9,7 +9,7 @@ use native.Mathlib.Decide.{decLt}
 use native.Mathlib.Nat.{le-max-left, le-max-right, le-trans}
 use native.Mathlib.Omega.{arith}
 use lib.Dec.{eqb, eqb→eq, eqb-refl}
-use Rattle.model.specs.Basic.{if_then_else_, any, largest, upTo}
+use Rattle.model.specs.Basic.{if_then_else_, any, upTo}
 use Rattle.model.specs.Walk.{Carries, Largest, arrival, carried, sources}
 use Rattle.theory.proofs.Lists.{by-test, by-max, by-largest, any-holds, mem-select, mem-upTo, largest-bounds}
 use Rattle.theory.proofs.Walks.{Still, rounds-still}

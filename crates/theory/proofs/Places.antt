@@ -1,18 +1,18 @@
 -- The place of a refused text is a line of it, the line after its last, or a length that is known: it fits 16 bits.
-use Prim.Native.Nat.{ℕ, zero, suc, _+_, _*_, _-_, _≤_, _<_}
-use mathlib.Core.Path.{_≡_, refl, sym, ap, _∙_}
+use Prim.Native.Nat.{ℕ, zero, suc, _+_, _-_, _≤_, _<_}
+use mathlib.Core.Path.{_≡_, refl, _∙_}
 use mathlib.Core.Bool.{Bool, true, false, not, _&&_, _||_}
 use mathlib.Core.List.{List, [], _∷_, _++_, List·Memᴰ, List·Memᴰ·head, List·Memᴰ·tail}
 use mathlib.Core.Option.{Option, none, some}
 use native.Mathlib.Omega.{arith}
 use lib.ListN.{length, take, length-append}
-use lib.Dec.{T, eqb, leb, ltb, nltb→le}
+use lib.Dec.{eqb, leb, ltb, nltb→le}
 use Rattle.model.specs.declared.Line.{Line}
 use Rattle.model.specs.declared.Line.the-variants as line
 use Rattle.model.specs.declared.Refusal.{Refusal}
 use Rattle.model.specs.declared.Refusal.the-variants.{Callee, Pairing, Target, LastPoint, Unreachable, Uncalled, Uninitialised}
-use Rattle.model.specs.Basic.{if_then_else_, unless, _orElse_, firstOf, sumOf, upTo, countFrom}
-use Rattle.model.specs.Text.{lineOf, linesFrom, linesOf}
+use Rattle.model.specs.Basic.{unless, _orElse_, firstOf, sumOf, upTo, countFrom}
+use Rattle.model.specs.Text.{linesFrom, linesOf}
 use Rattle.model.specs.Task.{Func, Task, Judged, refused, task, Progress, start, between, inside, Step, stop, goes, readLine, readEnd, readFrom, readText, onward, inAll, size, count, func, point, funcLine, pointLine, offsetFits}
 use Rattle.model.specs.Walk.{called, loaded}
 use Rattle.model.specs.Figures.{reached}

@@ -1,27 +1,26 @@
 -- Each figure of an accepted text is what document 01 says of all walks: no walk of any length passes it, and some walk attains it.
 -- The record OverWalks names every such theorem; `over-walks` proves them all from acceptance.
-use Prim.Native.Nat.{ℕ, suc, _+_, _-_, _≤_, _<_, min, max}
-use mathlib.Core.Path.{_≡_, refl}
-use mathlib.Core.Bool.{Bool, true, false, _||_}
-use mathlib.Core.List.{List, [], _∷_, List·Memᴰ}
-use mathlib.Core.Logic.{_↔_, _⊎_, ⊎-elim}
-use mathlib.Core.Option.{Option, none, some}
+use Prim.Native.Nat.{ℕ, suc, _+_, _≤_, _<_, min}
+use mathlib.Core.Path.{_≡_}
+use mathlib.Core.Bool.{false, _||_}
+use mathlib.Core.List.{List, []}
+use mathlib.Core.Logic.{_↔_, ⊎-elim}
+use mathlib.Core.Option.{Option}
 use native.Mathlib.Omega.{arith}
 use lib.Dec.{T, ltb, eqb, ltb→lt, eqb→eq}
 use Rattle.model.specs.declared.Point.{Point}
 use Rattle.model.specs.declared.Point.the-variants.{Load, Store, Call, Ensure, Goto, Either, Return}
 use Rattle.model.specs.declared.Refusal.{Refusal}
-use Rattle.model.specs.Basic.{if_then_else_, largest, smallest}
-use Rattle.model.specs.Task.{Func, Task, task, size, count, func, point, offsetFits}
+use Rattle.model.specs.Basic.{largest, smallest}
+use Rattle.model.specs.Task.{Task, task, size, count, func, point, offsetFits}
 use Rattle.model.specs.Walk.{Walk, Met, Carries, Largest, Smallest, leads, never, loads, stores, touches, calls, called, is, isCall, isEnsure, returns, loaded, stored}
 use Rattle.model.specs.Figures as model
 use Rattle.model.specs.Figures.{callees, after, kept}
 use Rattle.model.specs.Refusal.{judge}
 use Rattle.theory.proofs.Lists.{or-holds}
-use Rattle.theory.proofs.Reading.{Shaped}
-use Rattle.theory.proofs.Accepted.{Linked, WellFormed, accepted}
+use Rattle.theory.proofs.Accepted.{WellFormed, accepted}
 use Rattle.theory.proofs.Links.{is-holds, closed, callee-later}
-use Rattle.theory.proofs.Figures.{Closed, InFrame, reached-walk, uninitialised-walk, dead-is, need-is, callFree-met, keptNext-is, high-entry-is}
+use Rattle.theory.proofs.Figures.{Closed, InFrame, reached-walk, uninitialised-walk, dead-is, need-is, keptNext-is, high-entry-is}
 use Rattle.theory.proofs.Between.{CallsLater, mem-callees, longest-is, shortest-leaf, shortest-free, shortest-calls, entry-is, entry-zero, chain-is, chain-zero, overCalls-is}
 
 -- of function f, x = func t f

@@ -20,7 +20,8 @@ use Rattle.bits.specs.Bits.{bit, Low}
 use Rattle.bits.proofs.Laws.{bit-zero}
 use Rattle.tables.specs.Tables.{pointAt, frameAt, baseAt, sizeAt, pointsOf, funcOf}
 use Rattle.tables.proofs.Laws.{length-points, point-there}
-use Rattle.forward.specs.Forward.{item, Carried, Solved}
+use Rattle.forward.specs.Forward.{Carried, Solved}
+use Rattle.tables.specs.Tables.{item}
 use Rattle.walks.specs.Flow.{FuncReady, Kills, has, FuncAt, NoGens, Answered}
 use Rattle.sweep.proofs.Laws.{load-below}
 

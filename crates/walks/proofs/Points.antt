@@ -18,7 +18,7 @@ use Rattle.model.specs.Walk.{loaded, stored}
 use Rattle.bits.specs.Bits.{bit, Single}
 use Rattle.bits.proofs.Laws.{bit-zero}
 use Rattle.tables.specs.Tables.{pointAt}
-use Rattle.forward.specs.Forward.{item}
+use Rattle.tables.specs.Tables.{item}
 use Rattle.walks.specs.Flow.{Kills, has}
 
 -- a point that is no store, by its number; one that is no load

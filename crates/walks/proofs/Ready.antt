@@ -12,7 +12,8 @@ use Rattle.theory.proofs.Accepted.{Linked}
 use Rattle.theory.proofs.Links.{closed}
 use Rattle.tables.specs.Tables.{pointAt, baseAt, sizeAt, funcOf, taskOf, Stacked}
 use Rattle.tables.proofs.Laws.{length-points, length-funcs, point-there, func-is, stacked-within, sum-funcs}
-use Rattle.forward.specs.Forward.{function, Inside, Given}
+use Rattle.forward.specs.Forward.{Inside, Given}
+use Rattle.tables.specs.Tables.{function}
 use Rattle.sweep.specs.Sweep.{Sweepable}
 use Rattle.sweep.proofs.Laws.{fits-wider}
 use Rattle.sweep.proofs.Answers.{zeros}

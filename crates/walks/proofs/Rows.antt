@@ -18,10 +18,10 @@ use Rattle.model.specs.Task.{Func, Task, size, count, func, point, funcLine}
 use Rattle.model.specs.Walk.{loaded}
 use Rattle.model.specs.Figures.{reached}
 use Rattle.model.specs.Refusal.{storedBefore, reachRow, loadRow, firstPoint}
-use Rattle.theory.proofs.Firsts.{counted-none, counted-zero, counted-step, below-none, below-found, unless-none}
+use Rattle.theory.proofs.Firsts.{counted-zero, counted-step, below-none, below-found, unless-none}
 use Rattle.tables.specs.Tables.{pointAt, baseAt, sizeAt, funcOf, taskOf, Stacked}
 use Rattle.tables.proofs.Laws.{length-points, length-funcs, func-is, size-is, line-is}
-use Rattle.forward.specs.Forward.{item}
+use Rattle.tables.specs.Tables.{item}
 use Rattle.sweep.specs.Sweep.{Clean}
 use Rattle.walks.proofs.Flow as F
 use Rattle.walks.specs.declared.Flow.{Flow}

@@ -17,7 +17,8 @@ use Rattle.model.specs.Figures as figure
 use Rattle.model.specs.Refusal.{storedBefore, reachRow, loadRow, firstPoint}
 use Rattle.bits.specs.Bits.{bit}
 use Rattle.tables.specs.Tables.{pointAt, baseAt, sizeAt, funcOf, Stacked}
-use Rattle.forward.specs.Forward.{item, Inside}
+use Rattle.forward.specs.Forward.{Inside}
+use Rattle.tables.specs.Tables.{item}
 use Rattle.sweep.specs.Sweep.{Clean}
 use Rattle.walks.specs.declared.Flow.{Flow}
 use Rattle.walks.specs.declared.Flow.the-variants.{Reach, Load, Fine}

@@ -3,10 +3,6 @@ use Rattle.felknost.proofs.Laws.{fits, numbered}
 use borrow.Author.Needs.{needs}
 use Rattle.felknost.proofs.felknost_check.Statement.{statement}
 use Rattle.felknost.proofs.felknost_check.Tie as tie
-use Rattle.felknost.proofs.felknost_check.Reads as reads
-use Rattle.felknost.proofs.felknost_check.Lts as lts
-use Rattle.codes.proofs.packed.Reads as packed-reads
-use Rattle.judge.proofs.judge_text.Reads as judge-text-reads
 
 slice-aggregate-judge-text : tie.Need-slice-aggregate-judge-text
 slice-aggregate-judge-text c = search needs

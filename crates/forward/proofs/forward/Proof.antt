@@ -1,7 +1,7 @@
 -- A function with these points has these leads.
 use borrow.Author.Needs.{needs}
 use denote.Ref.{now}
-use Rattle.forward.specs.Forward.{function}
+use Rattle.tables.specs.Tables.{function}
 use Rattle.forward.proofs.Laws.{leads-same}
 use Rattle.forward.proofs.forward.Statement.{statement}
 use Rattle.forward.proofs.forward.Tie as tie

@@ -4,8 +4,6 @@ use borrow.Author.Needs.{needs}
 use Rattle.forward.proofs.Laws.{raised-found, raised-again, raised-grows, raised-rests}
 use Rattle.forward.proofs.raise.Statement.{statement}
 use Rattle.forward.proofs.raise.Tie as tie
-use Rattle.forward.proofs.raise.Reads as reads
-use Rattle.forward.proofs.raise.Lts as lts
 
 add-to-list-requires : tie.Need-add-to-list-requires
 add-to-list-requires c κs =

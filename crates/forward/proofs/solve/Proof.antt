@@ -1,9 +1,8 @@
 -- Cleared tables with point 0 in the list, and visits until the list is empty.
-use native.Mathlib.Omega.{arith}
 use mathlib.Core.Path.{refl}
 use borrow.Author.Needs.{needs}
 use denote.Ref.{now}
-use Rattle.forward.specs.Forward.{function}
+use Rattle.tables.specs.Tables.{function}
 use Rattle.forward.proofs.Theory.{start-listed, start-solved, solved-order}
 use Rattle.forward.proofs.Laws.{order-inside}
 use Rattle.forward.proofs.solve.Statement.{statement}

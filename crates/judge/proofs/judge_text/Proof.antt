@@ -1,14 +1,9 @@
 -- A text that is too long, one that cannot be read, and one whose task is judged.
 use mathlib.Core.Path.{refl}
-use native.Mathlib.Omega.{arith}
 use Rattle.judge.proofs.Laws.{read-task, read-refused, shown, text-long, text-refused, text-task}
 use borrow.Author.Needs.{needs}
 use Rattle.judge.proofs.judge_text.Statement.{statement}
 use Rattle.judge.proofs.judge_text.Tie as tie
-use Rattle.judge.proofs.judge_text.Reads as reads
-use Rattle.judge.proofs.judge_text.Lts as lts
-use Rattle.judge.proofs.task_rows.Reads as task-rows-reads
-use Rattle.task.proofs.read_task.Reads as read-task-reads
 
 returns : tie.Need-returns
 returns c = (text-long _ (c .if1 .taken), record { size = refl; past = refl })

@@ -2,8 +2,6 @@
 use borrow.Author.Needs.{needs}
 use Rattle.judge.proofs.last_of.Statement.{statement}
 use Rattle.judge.proofs.last_of.Tie as tie
-use Rattle.judge.proofs.last_of.Reads as reads
-use Rattle.judge.proofs.last_of.Lts as lts
 
 enum-told : tie.Need-enum-told
 enum-told c = search needs

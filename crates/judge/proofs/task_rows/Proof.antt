@@ -5,10 +5,6 @@ use Rattle.judge.proofs.Laws.{link-first, link-fine, linked}
 use borrow.Author.Needs.{needs}
 use Rattle.judge.proofs.task_rows.Statement.{statement}
 use Rattle.judge.proofs.task_rows.Tie as tie
-use Rattle.judge.proofs.task_rows.Reads as reads
-use Rattle.judge.proofs.task_rows.Lts as lts
-use Rattle.judge.proofs.walk_rows.Reads as walk-rows-reads
-use Rattle.links.proofs.link_rows.Reads as link-rows-reads
 
 link-rows-requires : tie.Need-link-rows-requires
 link-rows-requires c κs = search needs

@@ -6,11 +6,6 @@ use Rattle.judge.proofs.Laws.{reach-of, load-of, fine-of}
 use borrow.Author.Needs.{needs}
 use Rattle.judge.proofs.walk_rows.Statement.{statement}
 use Rattle.judge.proofs.walk_rows.Tie as tie
-use Rattle.judge.proofs.walk_rows.Reads as reads
-use Rattle.judge.proofs.walk_rows.Lts as lts
-use Rattle.judge.proofs.last_of.Reads as last-of-reads
-use Rattle.links.proofs.call_rows.Reads as call-rows-reads
-use Rattle.walks.proofs.flow_rows.Reads as flow-rows-reads
 
 flow-rows-requires : tie.Need-flow-rows-requires
 flow-rows-requires c κs =

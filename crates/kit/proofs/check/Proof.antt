@@ -3,10 +3,6 @@ use Rattle.kit.proofs.Laws.{small, large-verdict, large-work}
 use borrow.Author.Needs.{needs}
 use Rattle.kit.proofs.check.Statement.{statement}
 use Rattle.kit.proofs.check.Tie as tie
-use Rattle.kit.proofs.check.Reads as reads
-use Rattle.kit.proofs.check.Lts as lts
-use Rattle.judge.proofs.judge_text.Reads as judge-text-reads
-use Rattle.kit.proofs.clear.Reads as clear-reads
 
 returns : tie.Need-returns
 returns c = small _ _ (c .if1 .taken)

@@ -6,7 +6,7 @@ use mathlib.Core.Logic.{⊎-elim}
 use mathlib.Core.Path.{_≡_, refl, sym, _∙_}
 use lib.ListN.{length, length-set}
 use borrow.Author.Needs.{needs}
-use Rattle.sweep.specs.Steps.{function}
+use Rattle.tables.specs.Tables.{function}
 use Rattle.sweep.proofs.Theory.{Sweeping, sweeping-none}
 use Rattle.sweep.proofs.Turns.{inside-there, space-stored, turn-falls, turn-leaves, turns-end}
 use Rattle.sweep.proofs.points_swept.Statement.{statement}

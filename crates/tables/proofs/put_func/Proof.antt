@@ -4,8 +4,6 @@ use lib.ListN.{length-set}
 use borrow.Author.Needs.{needs}
 use Rattle.tables.proofs.put_func.Statement.{statement}
 use Rattle.tables.proofs.put_func.Tie as tie
-use Rattle.tables.proofs.put_func.Reads as reads
-use Rattle.tables.proofs.put_func.Lts as lts
 
 add-work : tie.Need-add-work
 add-work c = search needs

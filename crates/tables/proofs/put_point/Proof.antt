@@ -4,11 +4,6 @@ use lib.ListN.{length-set}
 use borrow.Author.Needs.{needs}
 use Rattle.tables.proofs.put_point.Statement.{statement}
 use Rattle.tables.proofs.put_point.Tie as tie
-use Rattle.tables.proofs.put_point.Reads as reads
-use Rattle.tables.proofs.put_point.Lts as lts
-use Rattle.tables.proofs.first_argument.Reads as first-argument-reads
-use Rattle.tables.proofs.kind_of.Reads as kind-of-reads
-use Rattle.tables.proofs.second_argument.Reads as second-argument-reads
 
 kind-of-requires : tie.Need-kind-of-requires
 kind-of-requires c κs = search needs

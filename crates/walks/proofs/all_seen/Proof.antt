@@ -5,7 +5,7 @@ use mathlib.Core.Bool.{true, true≢false}
 use mathlib.Core.Logic.{⊎-elim}
 use mathlib.Core.Path.{_≡_, sym, _∙_}
 use borrow.Author.Count.{below-more}
-use Rattle.forward.specs.Forward.{item}
+use Rattle.tables.specs.Tables.{item}
 use Rattle.walks.proofs.all_seen.Statement.{statement}
 use Rattle.walks.proofs.all_seen.Tie as tie
 

@@ -4,7 +4,7 @@ use native.Mathlib.Omega.{arith}
 use mathlib.Core.Path.{_≡_}
 use borrow.Author.Count.{below-more}
 use borrow.Author.Needs.{needs}
-use Rattle.forward.specs.Forward.{item}
+use Rattle.tables.specs.Tables.{item}
 use Rattle.walks.specs.Flow.{Search}
 use Rattle.walks.proofs.first_unseen.Statement.{statement}
 use Rattle.walks.proofs.first_unseen.Tie as tie

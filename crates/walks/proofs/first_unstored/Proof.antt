@@ -6,7 +6,7 @@ use mathlib.Core.Bool.{false}
 use borrow.Author.Count.{below-more}
 use Rattle.model.specs.Walk.{loaded}
 use Rattle.tables.specs.Tables.{pointAt}
-use Rattle.forward.specs.Forward.{item}
+use Rattle.tables.specs.Tables.{item}
 use Rattle.walks.specs.Flow.{has, Search}
 use Rattle.walks.proofs.Points.{had, not-had}
 use Rattle.walks.proofs.first_unstored.Statement.{statement}

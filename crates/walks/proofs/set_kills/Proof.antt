@@ -4,7 +4,7 @@ use native.Mathlib.Omega.{arith}
 use mathlib.Core.Path.{_≡_, refl}
 use lib.ListN.{length, length-set}
 use Rattle.tables.specs.Tables.{pointAt}
-use Rattle.forward.specs.Forward.{item}
+use Rattle.tables.specs.Tables.{item}
 use Rattle.walks.specs.Flow.{Kills}
 use Rattle.walks.proofs.Points.{kills-more}
 use Rattle.walks.proofs.set_kills.Statement.{statement}

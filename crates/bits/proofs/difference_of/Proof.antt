@@ -1,8 +1,8 @@
 -- The operators are the definition.
 use mathlib.Core.Path.{refl}
-use Rattle.sweep.specs.Steps.{difference}
-use Rattle.sweep.proofs.difference_of.Statement.{statement}
-use Rattle.sweep.proofs.difference_of.Tie as tie
+use Rattle.bits.specs.Bits.{difference}
+use Rattle.bits.proofs.difference_of.Statement.{statement}
+use Rattle.bits.proofs.difference_of.Tie as tie
 
 returns : tie.Need-returns
 unfolding difference

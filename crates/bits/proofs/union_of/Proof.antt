@@ -1,8 +1,8 @@
 -- The operator is the definition.
 use mathlib.Core.Path.{refl}
-use Rattle.forward.specs.Worklist.{union}
-use Rattle.forward.proofs.union_of.Statement.{statement}
-use Rattle.forward.proofs.union_of.Tie as tie
+use Rattle.bits.specs.Bits.{union}
+use Rattle.bits.proofs.union_of.Statement.{statement}
+use Rattle.bits.proofs.union_of.Tie as tie
 
 returns : tie.Need-returns
 unfolding union
