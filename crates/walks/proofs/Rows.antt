@@ -186,7 +186,7 @@ module _ (w : List ℕ) (f : ℕ) (clean : Clean (funcOf w f)) where
   flow-clean : Fine ≡ flowIn w f
   flow-clean = sym (λ i. flowOf (reach-clean i) (load-clean i))
 
--- a scan begins where the functions are no longer known to be clean
+-- a scan may begin after functions that are clean
 scan-from : (w : List ℕ) (f n : ℕ) → f ≤ n → ((g : ℕ) → g < f → Clean (funcOf w g)) → withLater Fine (flowFrom w f (n - f)) ≡ flowFrom w 0 n
 scan-from w zero n h c = let j : n - 0 ≡ n = omega arith in ap (flowFrom w 0) j
 scan-from w (suc f) n h c =
