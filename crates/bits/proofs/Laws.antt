@@ -1,12 +1,14 @@
 -- Laws of bits: of or, and, not, shifts and the masks with one bit or the lowest bits set.
 use Prim.Native.Nat.{ℕ, zero, suc, _+_, _-_, _*_, _/_, _%_, _^_, _≤_, _<_, min, max}
-use native.Mathlib.Nat.{pow-suc}
+use native.Mathlib.Nat.{pow-suc, le-antisymm}
+use native.Mathlib.Decide.{decLe}
 use native.Mathlib.Numerals.{one-add}
 use native.Mathlib.Omega.{arith}
 use mathlib.Core.Path.{_≡_, refl, ap, sym, _∙_}
 use lib.Bits.{bitAnd, bitOr, and-step, or-step, or-add-and, and-le-r, and-mask}
+use lib.Count.{leadingZeros, trailingZeros, under, leading-length}
 use lib.Pow.{pow-pos, shl-exact, shr-shr}
-use Rattle.bits.specs.Bits.{bit, Single, Low, union, difference}
+use Rattle.bits.specs.Bits.{bit, Single, Low, Top, Lowest, union, difference}
 
 pub bit-le : (m j : ℕ) → bit m j ≤ 1
 unfolding bit
@@ -143,3 +145,82 @@ pub bit-difference : (a b j : ℕ) → b < 2 ^ 64 → j < 64 → bit (difference
 unfolding difference
 bit-difference a b j h l =
     bit-and a (18446744073709551615 - b) j ∙ ap (λ (x : ℕ). min (bit a j) x) (bit-not-word b j h l)
+
+-- the highest bit of a number of j + 1 digits
+bit-highest : (j m : ℕ) → 2 ^ j ≤ m → m < 2 ^ suc j → bit m j ≡ 1
+unfolding bit
+bit-highest zero m h l = omega arith
+bit-highest (suc j) m h l = bit-highest j (m / 2) (omega (arith, pow-suc 2 j)) (omega (arith, pow-suc 2 j, pow-suc 2 (suc j)))
+
+-- the zeros above the highest bit, and the digits from it on, make a word
+pub top-leading : (m : ℕ) → m < 2 ^ 64 → Top m (64 - leadingZeros 64 m)
+top-leading m h =
+    let s = leading-length 64 m h in
+    record {
+      within = omega arith;
+      above = λ j l i. bit-high (s .0) m j (s .2) (omega (arith, s .1));
+      attained = λ j e.
+          let d : s .0 ≡ suc j = omega (arith, s .1) in
+          bit-highest j m (omega (arith, s .3, ap (λ (x : ℕ). 2 ^ x) d, pow-suc 2 j)) (omega (arith, s .2, ap (λ (x : ℕ). 2 ^ x) d));
+    }
+
+-- a set has one highest bit
+top-le : (m r s : ℕ) → Top m r → Top m s → s ≤ r
+top-le m r zero a b = omega arith
+top-le m r (suc j) a b =
+    elim (decLe (suc j) r) [ yes h ↦ h | no h ↦ absurd (omega (arith, a .above j (omega arith) (omega arith), b .attained j refl)) ]
+
+pub top-unique : (m r s : ℕ) → Top m r → Top m s → r ≡ s
+top-unique m r s a b = le-antisymm (top-le m s r b a) (top-le m r s a b)
+
+-- the k lowest bits have k as their top
+pub low-top : (k m : ℕ) → Low k m → k ≤ 64 → Top m k
+low-top k m l h =
+    record {
+      within = h;
+      above = λ j i _. l .above j i;
+      attained = λ j e. l .below j (omega arith);
+    }
+
+-- the digits below the lowest bit, and that bit
+under-first : (d t : ℕ) → 0 < under d t → d ≡ 0
+under-first zero t h = refl
+under-first (suc d) t h = absurd (omega arith)
+
+under-rest : (d t j : ℕ) → suc j < under d t → j < t
+under-rest zero t j h = omega arith
+under-rest (suc d) t j h = absurd (omega arith)
+
+trailing-below : (k m j : ℕ) → j < trailingZeros k m → bit m j ≡ 0
+unfolding trailingZeros bit
+trailing-below zero m j h = absurd (omega arith)
+trailing-below (suc k) m zero h = under-first (m % 2) (trailingZeros k (m / 2)) h
+trailing-below (suc k) m (suc j) h = trailing-below k (m / 2) j (under-rest (m % 2) (trailingZeros k (m / 2)) j h)
+
+under-there : (k m d t : ℕ) → m % 2 ≡ d → (t < k → bit (m / 2) t ≡ 1) → under d t < suc k → bit m (under d t) ≡ 1
+unfolding bit
+under-there k m zero t e f h = f (omega arith)
+under-there k m (suc d) t e f h = omega arith
+
+trailing-there : (k m : ℕ) → trailingZeros k m < k → bit m (trailingZeros k m) ≡ 1
+unfolding trailingZeros
+trailing-there zero m h = absurd (omega arith)
+trailing-there (suc k) m h =
+    under-there k m (m % 2) (trailingZeros k (m / 2)) refl (λ i. trailing-there k (m / 2) i) h
+
+-- the trailing zeros of a word, where they are fewer than k, and k where they are not
+pub lowest-trailing : (m k : ℕ) → k ≤ 64 → trailingZeros 64 m < k → Lowest m k (trailingZeros 64 m)
+lowest-trailing m k l h =
+    record {
+      within = omega arith;
+      below = λ j i. trailing-below 64 m j i;
+      attained = λ i. trailing-there 64 m (omega arith);
+    }
+
+pub lowest-none : (m k : ℕ) → k ≤ trailingZeros 64 m → Lowest m k k
+lowest-none m k h =
+    record {
+      within = omega arith;
+      below = λ j i. trailing-below 64 m j (omega arith);
+      attained = λ i. absurd (omega arith);
+    }

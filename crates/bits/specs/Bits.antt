@@ -18,6 +18,18 @@ pub record Low (k m : ℕ) : Type 0 where
   pub below : (j : ℕ) → j < k → bit m j ≡ 1
   pub above : (j : ℕ) → k ≤ j → bit m j ≡ 0
 
+-- r is one more than the highest bit of m, 0 where m is empty
+pub record Top (m r : ℕ) : Type 0 where
+  pub within : r ≤ 64
+  pub above : (j : ℕ) → r ≤ j → j < 64 → bit m j ≡ 0
+  pub attained : (j : ℕ) → r ≡ suc j → bit m j ≡ 1
+
+-- r is the lowest bit of m below k, k where there is none
+pub record Lowest (m k r : ℕ) : Type 0 where
+  pub within : r ≤ k
+  pub below : (j : ℕ) → j < r → bit m j ≡ 0
+  pub attained : r < k → bit m r ≡ 1
+
 -- the bits of both sets; the bits of a that are not in b
 unfoldable pub union : ℕ → ℕ → ℕ
 union a b = bitOr a b

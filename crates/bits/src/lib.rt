@@ -1,7 +1,7 @@
-// Sets of 64 bits: one bit, the lowest bits, the reading of a bit, and the operators by name. The laws of bits are in proofs/Laws.antt.
+// Sets of 64 bits: one bit, the lowest bits, the reading of a bit, the highest and the lowest bit, and the operators by name. The laws of bits are in proofs/Laws.antt.
 ghost use mathlib.Core.Path.{_≡_};
 ghost use Prim.Native.Nat.{_<_, _≤_};
-ghost use Rattle.bits.specs.Bits.{bit, Single, Low, union, difference};
+ghost use Rattle.bits.specs.Bits.{bit, Single, Low, Top, Lowest, union, difference};
 
 pub fn single_bit(o: u32) -> u64
     requires { ⌜ o < 64 ⌝ }
@@ -26,6 +26,20 @@ pub fn bit_of(m: u64, o: u32) -> u64
     ensures { λ r. ⌜ r ≡ bit m o ⌝ }
 {
     (m >> o) & 1
+}
+
+pub fn top_of(m: u64) -> u32
+    ensures { λ r. ⌜ Top m r ⌝ }
+{
+    64 - u64::leading_zeros(m)
+}
+
+pub fn lowest_of(m: u64, k: u32) -> u32
+    requires { ⌜ k ≤ 64 ⌝ }
+    ensures { λ r. ⌜ Lowest m k r ⌝ }
+{
+    let z = u64::trailing_zeros(m);
+    if z < k { z } else { k }
 }
 
 pub fn union_of(a: u64, b: u64) -> u64

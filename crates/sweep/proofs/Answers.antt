@@ -12,15 +12,14 @@ use Rattle.model.specs.Walk.{Walk, leads, loaded, is, stores}
 use Rattle.model.specs.Figures.{uninitialised}
 use Rattle.model.specs.Refusal.{storedBefore}
 use Rattle.theory.proofs.Figures.{Closed, reached-walk, uninitialised-walk}
-use Rattle.tables.specs.Tables.{pointAt, frameAt, baseAt, sizeAt, funcOf}
-use Rattle.tables.proofs.Laws.{length-points, point-there}
-use Rattle.sweep.specs.Sweep.{Sweepable, Clean}
-use Rattle.sweep.proofs.Laws.{fits-wider, load-below}
+use Rattle.tables.specs.Tables.{Fit, pointAt, frameAt, baseAt, sizeAt, funcOf}
+use Rattle.tables.proofs.Laws.{fits-wider, load-below, length-points, point-there}
+use Rattle.sweep.specs.Sweep.{Clean}
 use Rattle.sweep.specs.Steps.{Space, Most, Points, Swept}
 use Rattle.tables.specs.Tables.{item, function}
 
 -- what the sweep of function f is given
-pub points-at : {w : List ℕ} {f b n : ℕ} → Sweepable w f → b ≡ baseAt w f → n ≡ sizeAt w f → Points w b n
+pub points-at : {w : List ℕ} {f b n : ℕ} → Fit w f → b ≡ baseAt w f → n ≡ sizeAt w f → Points w b n
 unfolding leads
 points-at {w} {f} s e d =
     rw (e, d)
@@ -76,7 +75,7 @@ unfolding leads
 swept-of w f entry sets s =
     record { reached = s .reached; entered = s .entered; clean = s .clean; passed = s .passed }
 
-pub swept-answers : {w : List ℕ} {f b n frame entry : ℕ} {sets : List ℕ} → Sweepable w f → b ≡ baseAt w f → n ≡ sizeAt w f
+pub swept-answers : {w : List ℕ} {f b n frame entry : ℕ} {sets : List ℕ} → Fit w f → b ≡ baseAt w f → n ≡ sizeAt w f
     → frame ≡ frameAt w f → Low frame entry → Swept (function w b n) n entry sets → Clean (funcOf w f)
 swept-answers {w} {f} {b} {n} {frame} {entry} {sets} a e d k low s =
     let l = length-points w (baseAt w f) (sizeAt w f) in

@@ -1,41 +1,18 @@
 -- Laws of the steps: sets as bits, and what each point does with its set.
-use Prim.Native.Nat.{ℕ, _^_, _≤_, _<_}
+use Prim.Native.Nat.{ℕ, _^_, _<_}
 use native.Mathlib.Omega.{arith}
-use mathlib.Core.Option.{some}
 use mathlib.Core.Path.{_≡_, refl, ap}
 use mathlib.Core.List.{List, [], _∷_, List·Memᴰ·head, List·Memᴰ·tail}
-use lib.Dec.{T, T-not, eqb, ltb→lt, lt→ltb, eqb→eq, eqb-refl}
+use lib.Dec.{T-not, eqb, eqb→eq, eqb-refl}
 use Rattle.bits.specs.Bits.{bit, Single, union, difference}
 use Rattle.bits.proofs.Laws.{bit-le, bit-union, bit-difference}
 use Rattle.model.specs.declared.Point.{Point}
 use Rattle.model.specs.declared.Point.the-variants.{Load, Store, Call, Ensure, Goto, Either, Return}
-use Rattle.model.specs.Task.{offsetFits}
-use Rattle.model.specs.Walk.{loaded}
 use Rattle.sweep.specs.declared.Step.{Step}
 use Rattle.sweep.specs.declared.Step.the-variants.{Fails, Falls, Leaves}
 use Rattle.tables.specs.Tables.{item}
 use Rattle.sweep.specs.Steps.{Covers, Joined, Moved, FallsOn, LeavesTo, Accessed, Stepped, Inside}
 use Rattle.sweep.proofs.Theory.{moved-none, moved-more}
-
--- an offset that fits a frame fits a larger one
-pub fits-wider : (k m : ℕ) (x : Point) → k ≤ m → T (offsetFits k x) → T (offsetFits m x)
-fits-wider k m (Load o) h f = lt→ltb o m (omega (arith, ltb→lt o k f))
-fits-wider k m (Store o) h f = lt→ltb o m (omega (arith, ltb→lt o k f))
-fits-wider k m (Call g) h f = tt
-fits-wider k m (Ensure n) h f = tt
-fits-wider k m (Goto p) h f = tt
-fits-wider k m (Either p q) h f = tt
-fits-wider k m Return h f = tt
-
--- an offset that is loaded is below the frame
-pub load-below : (k : ℕ) (x : Point) {o : ℕ} → T (offsetFits k x) → loaded x ≡ some o → o < k
-load-below k (Load a) {o} f e = let i : a ≡ o = cc in omega (arith, ltb→lt a k f)
-load-below k (Store a) f e = let z : _≡_ {A = ℕ} 0 1 = cc in absurd (omega arith)
-load-below k (Call g) f e = let z : _≡_ {A = ℕ} 0 1 = cc in absurd (omega arith)
-load-below k (Ensure n) f e = let z : _≡_ {A = ℕ} 0 1 = cc in absurd (omega arith)
-load-below k (Goto p) f e = let z : _≡_ {A = ℕ} 0 1 = cc in absurd (omega arith)
-load-below k (Either p q) f e = let z : _≡_ {A = ℕ} 0 1 = cc in absurd (omega arith)
-load-below k Return f e = let z : _≡_ {A = ℕ} 0 1 = cc in absurd (omega arith)
 
 -- a union has the bits of both sets
 covers-left : (a b : ℕ) → Covers (union a b) a

@@ -7,8 +7,8 @@ ghost use Prim.Native.Nat.{ℕ, _+_, _<_, _≤_};
 ghost use lib.Dec.{T};
 ghost use lib.ListN.{length};
 ghost use Rattle.model.specs.Task.{offsetFits};
-ghost use Rattle.tables.specs.Tables.{item, pointAt, function, funcOf};
-ghost use Rattle.sweep.specs.Sweep.{Sweepable, Clean};
+ghost use Rattle.tables.specs.Tables.{Fit, item, pointAt, function, funcOf};
+ghost use Rattle.sweep.specs.Sweep.{Clean};
 ghost use Rattle.sweep.specs.Steps.{Covers, Space, Most, Joined, Moved, Accessed, Stepped, Inside, Points, Swept};
 use model::Point;
 
@@ -157,7 +157,7 @@ fn points_swept(
 
 // Function f. Its mark is one that no function before it has.
 fn func_swept(work: &[u32], f: usize, sets: &mut [u64], marks: &mut [u8]) -> bool
-    requires { ⌜ Sweepable (now work) f × Space (now sets) (now marks) × Most f (now marks) ⌝ }
+    requires { ⌜ Fit (now work) f × Space (now sets) (now marks) × Most f (now marks) ⌝ }
     ensures { λ r. ⌜ (r ≡ true → Clean (funcOf (now (work .entry)) f) × Most (f + 1) (now (marks .exit))) ⌝ }
 {
     let base = tables::base_at(work, f);
@@ -167,7 +167,7 @@ fn func_swept(work: &[u32], f: usize, sets: &mut [u64], marks: &mut [u8]) -> boo
 }
 
 fn funcs_swept(work: &[u32], funcs: usize, sets: &mut [u64], marks: &mut [u8]) -> usize
-    requires { ⌜ ((f : ℕ) → f < funcs → Sweepable (now work) f) × Space (now sets) (now marks) × Most 0 (now marks) ⌝ }
+    requires { ⌜ ((f : ℕ) → f < funcs → Fit (now work) f) × Space (now sets) (now marks) × Most 0 (now marks) ⌝ }
     ensures { λ r. ⌜ (r ≤ funcs) × ((f : ℕ) → f < r → Clean (funcOf (now (work .entry)) f)) ⌝ }
 {
     let mut f = 0;
@@ -182,7 +182,7 @@ fn funcs_swept(work: &[u32], funcs: usize, sets: &mut [u64], marks: &mut [u8]) -
 
 // How many functions, from the first on, pass the sweep: they have no refusal 11 or 13.
 pub fn clean_funcs(work: &[u32], funcs: usize) -> usize
-    requires { ⌜ ((f : ℕ) → f < funcs → Sweepable (now work) f) ⌝ }
+    requires { ⌜ ((f : ℕ) → f < funcs → Fit (now work) f) ⌝ }
     ensures { λ r. ⌜ (r ≤ funcs) × ((f : ℕ) → f < r → Clean (funcOf (now (work .entry)) f)) ⌝ }
 {
     let mut sets = [0u64; 256];

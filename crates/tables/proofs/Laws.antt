@@ -5,15 +5,17 @@ use native.Mathlib.Decide.{decLt}
 use mathlib.Core.Path.{_≡_, refl, ap, sym, _∙_}
 use mathlib.Core.Bool.{Bool, true, false}
 use mathlib.Core.List.{List, [], _∷_, _++_}
+use mathlib.Core.Option.{some}
 use lib.ListN.{length, getD, take, length-append}
 use lib.ListN.{List·getD-append}
-use lib.Dec.{ltb, eqb}
+use lib.Dec.{T, ltb, eqb, ltb→lt, lt→ltb}
 use borrow.Author.Tests.{ne-eqb, le-ltb}
 use lib.Seq.{getD-at, take-append-le, take-all}
 use Rattle.model.specs.declared.Point.{Point}
 use Rattle.model.specs.declared.Point.the-variants.{Load, Store, Call, Ensure, Goto, Either, Return}
 use Rattle.model.specs.Basic.{if_then_else_, sumOf}
-use Rattle.model.specs.Task.{Func, size, func, point, empty, inAll, funcLine}
+use Rattle.model.specs.Task.{Func, size, func, point, empty, inAll, funcLine, offsetFits}
+use Rattle.model.specs.Walk.{loaded}
 use Rattle.tables.specs.Tables.{pointOf, kindOf, isAccess, firstArgument, secondArgument, pointAt, frameAt, baseAt, sizeAt, pointsOf, funcOf, funcsOf, taskOf, Stacked, none, more}
 
 -- a point survives being written as numbers
@@ -46,6 +48,26 @@ access-kind k a b =
         by-four false false true f = refl
         by-four false false false true = refl
         by-four false false false false = refl
+
+-- an offset that fits a frame fits a larger one
+pub fits-wider : (k m : ℕ) (x : Point) → k ≤ m → T (offsetFits k x) → T (offsetFits m x)
+fits-wider k m (Load o) h f = lt→ltb o m (omega (arith, ltb→lt o k f))
+fits-wider k m (Store o) h f = lt→ltb o m (omega (arith, ltb→lt o k f))
+fits-wider k m (Call g) h f = tt
+fits-wider k m (Ensure n) h f = tt
+fits-wider k m (Goto p) h f = tt
+fits-wider k m (Either p q) h f = tt
+fits-wider k m Return h f = tt
+
+-- an offset that is loaded is below the frame
+pub load-below : (k : ℕ) (x : Point) {o : ℕ} → T (offsetFits k x) → loaded x ≡ some o → o < k
+load-below k (Load a) {o} f e = let i : a ≡ o = cc in omega (arith, ltb→lt a k f)
+load-below k (Store a) f e = let z : _≡_ {A = ℕ} 0 1 = cc in absurd (omega arith)
+load-below k (Call g) f e = let z : _≡_ {A = ℕ} 0 1 = cc in absurd (omega arith)
+load-below k (Ensure n) f e = let z : _≡_ {A = ℕ} 0 1 = cc in absurd (omega arith)
+load-below k (Goto p) f e = let z : _≡_ {A = ℕ} 0 1 = cc in absurd (omega arith)
+load-below k (Either p q) f e = let z : _≡_ {A = ℕ} 0 1 = cc in absurd (omega arith)
+load-below k Return f e = let z : _≡_ {A = ℕ} 0 1 = cc in absurd (omega arith)
 
 -- the points of a function, counted and one by one
 pub length-points : (w : List ℕ) (b n : ℕ) → length (pointsOf w b n) ≡ n

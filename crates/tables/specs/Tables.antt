@@ -1,16 +1,17 @@
 -- The tables in the working space, and the task that they hold.
 --   0 kind, 1024 first and 2048 second argument of each point, counted over all functions
 --   3072 frame, 3136 first point and 3200 number of points of each function
-use Prim.Native.Nat.{ℕ, zero, suc, _+_}
+use Prim.Native.Nat.{ℕ, zero, suc, _+_, _≤_, _<_}
 use mathlib.Core.Path.{_≡_}
 use mathlib.Core.Bool.{Bool, true, false}
-use mathlib.Core.List.{List, [], _∷_, _++_}
-use lib.ListN.{getD, set}
-use lib.Dec.{eqb}
+use mathlib.Core.List.{List, [], _∷_, _++_, List·Memᴰ}
+use lib.ListN.{length, getD, set}
+use lib.Dec.{T, eqb}
 use Rattle.model.specs.declared.Point.{Point}
 use Rattle.model.specs.declared.Point.the-variants.{Load, Store, Call, Ensure, Goto, Either, Return}
 use Rattle.model.specs.Basic.{if_then_else_}
-use Rattle.model.specs.Task.{Func, Task}
+use Rattle.model.specs.Task.{Func, Task, offsetFits}
+use Rattle.model.specs.Walk.{leads}
 
 -- a point as three numbers, and back
 abbrev pub pointOf : ℕ → ℕ → ℕ → Point
@@ -110,3 +111,14 @@ taskOf w s n = record { stack = s; funcs = funcsOf w n }
 pub data Stacked (w : List ℕ) : ℕ → ℕ → Type 0 where
   none : Stacked w 0 0
   more : {n m : ℕ} → Stacked w n m → baseAt w n ≡ m → Stacked w (suc n) (m + sizeAt w n)
+
+-- function f of the tables w has points that keep to it and to its frame
+pub record Fit (w : List ℕ) (f : ℕ) : Type 0 where
+  pub low : f < 64
+  pub room : 3264 ≤ length w
+  pub within : baseAt w f + sizeAt w f ≤ 1024
+  pub some : 1 ≤ sizeAt w f
+  pub small : sizeAt w f ≤ 256
+  pub frame : frameAt w f ≤ 64
+  pub offsets : (p : ℕ) → p < sizeAt w f → T (offsetFits (frameAt w f) (pointAt w (baseAt w f + p)))
+  pub closed : (p q : ℕ) → p < sizeAt w f → List·Memᴰ q (leads (funcOf w f) p) → q < sizeAt w f

@@ -19,11 +19,10 @@ use Rattle.theory.proofs.Links.{lead-inside}
 use Rattle.bits.specs.Bits.{bit, Low}
 use Rattle.bits.proofs.Laws.{bit-zero}
 use Rattle.tables.specs.Tables.{pointAt, frameAt, baseAt, sizeAt, pointsOf, funcOf}
-use Rattle.tables.proofs.Laws.{length-points, point-there}
+use Rattle.tables.proofs.Laws.{load-below, length-points, point-there}
 use Rattle.forward.specs.Forward.{Carried, Solved}
 use Rattle.tables.specs.Tables.{item}
 use Rattle.walks.specs.Flow.{FuncReady, Kills, has, FuncAt, NoGens, Answered}
-use Rattle.sweep.proofs.Laws.{load-below}
 
 -- where a bit would be 1 and is 0, the test fails
 not-one : (b : Bool) (m : ℕ) → (T b → m ≡ 1) → m ≡ 0 → T (not b)

@@ -10,12 +10,11 @@ use Rattle.model.specs.Walk.{leads}
 use Rattle.theory.proofs.Reading.{Shaped}
 use Rattle.theory.proofs.Accepted.{Linked}
 use Rattle.theory.proofs.Links.{closed}
-use Rattle.tables.specs.Tables.{pointAt, baseAt, sizeAt, funcOf, taskOf, Stacked}
-use Rattle.tables.proofs.Laws.{length-points, length-funcs, point-there, func-is, stacked-within, sum-funcs}
+use Rattle.tables.specs.Tables.{Fit, pointAt, baseAt, sizeAt, funcOf, taskOf, Stacked}
+use Rattle.tables.proofs.Laws.{fits-wider, length-points, length-funcs, point-there, func-is, stacked-within, sum-funcs}
 use Rattle.forward.specs.Forward.{Inside, Given}
 use Rattle.tables.specs.Tables.{function}
-use Rattle.sweep.specs.Sweep.{Sweepable}
-use Rattle.sweep.proofs.Laws.{fits-wider}
+use Rattle.tables.specs.Tables.{Fit}
 use Rattle.sweep.proofs.Answers.{zeros}
 use Rattle.walks.specs.Flow.{FuncReady, Ready, FuncAt, NoGens, Space}
 
@@ -52,8 +51,8 @@ ready-at {w} r l f h =
     }
 
 -- what the sweep asks of it
-pub sweepable : {w : List ℕ} {n m : ℕ} → Ready w n m → 3264 ≤ length w → (f : ℕ) → f < n → Sweepable w f
-sweepable {w} r l f h =
+pub fit : {w : List ℕ} {n m : ℕ} → Ready w n m → 3264 ≤ length w → (f : ℕ) → f < n → Fit w f
+fit {w} r l f h =
     let a = ready-at r l f h in
     let e = length-points w (baseAt w f) (sizeAt w f) in
     record {

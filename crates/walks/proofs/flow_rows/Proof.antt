@@ -1,12 +1,12 @@
 -- Functions that pass the sweep have neither refusal.
 use borrow.Author.Needs.{needs}
-use Rattle.walks.proofs.Ready.{sweepable}
+use Rattle.walks.proofs.Ready.{fit}
 use Rattle.walks.proofs.Rows.{clean-flow}
 use Rattle.walks.proofs.flow_rows.Statement.{statement}
 use Rattle.walks.proofs.flow_rows.Tie as tie
 
 clean-funcs-requires : tie.Need-clean-funcs-requires
-clean-funcs-requires c κs = let s = c .before .pre in sweepable (s .1) (s .0)
+clean-funcs-requires c κs = let s = c .before .pre in fit (s .1) (s .0)
 
 returns : tie.Need-returns
 returns c =

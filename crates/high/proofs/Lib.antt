@@ -1,0 +1,2 @@
+pub mod Theory
+pub mod Laws

@@ -1,0 +1,217 @@
+-- Laws of a buffer that bytes are written into, and of the lengths of a number in decimal and of a row of them.
+use Prim.Native.Nat.{ℕ, zero, suc, _+_, _*_, _/_, _%_, _^_, _≤_, _<_, zero-le}
+use mathlib.Core.Path.{_≡_, refl, sym, ap, _∙_}
+use mathlib.Core.List.{List, [], _∷_, _++_, append-assoc, append-nil}
+use native.Mathlib.Numerals.{add-one}
+use native.Mathlib.Nat.{zero-add, add-zero, pow-succ'}
+use native.Mathlib.Decide.{decLt}
+use native.Mathlib.Omega.{arith}
+use lib.ListN.{length, getD, take, drop, set, length-append, length-drop, take-append-drop}
+use lib.Seq.{length-take-le, take-length, take-suc, append-snoc, take-at, drop-at, take-set-le, drop-drop, set-split, paste}
+use Rattle.model.specs.Basic.{joined}
+use Rattle.model.specs.Text.{bytes}
+use Rattle.model.specs.Sheet.{decimal, row}
+use Rattle.model.specs.Services.{over}
+use Rattle.theory.proofs.Decimal.{decimal-small, decimal-large}
+use Rattle.print.specs.Print.{pasted, spaced}
+
+-- a buffer that bytes are written into
+
+-- from its first byte on
+pub pasted-start : (w out : List ℕ) → pasted 0 w out ≡ over w out
+unfolding pasted over
+pasted-start w out = ap (λ (n : ℕ). w ++ drop n out) (zero-add (length w))
+
+pub length-pasted : (at : ℕ) (w out : List ℕ) → at + length w ≤ length out → length (pasted at w out) ≡ length out
+unfolding pasted
+length-pasted at w out h =
+    let e = length-append (take at out) (w ++ drop (at + length w) out) in
+    let f = length-append w (drop (at + length w) out) in
+    omega (arith, length-take-le at out (omega arith), length-drop (at + length w) out)
+
+-- what stands before the end of the bytes written, and after it
+length-head : (at : ℕ) (w out : List ℕ) → at ≤ length out → length (take at out ++ w) ≡ at + length w
+length-head at w out h = omega (arith, length-append (take at out) w, length-take-le at out h)
+
+take-pasted : (at : ℕ) (w out : List ℕ) → at ≤ length out → take (at + length w) (pasted at w out) ≡ take at out ++ w
+unfolding pasted
+take-pasted at w out h =
+    rw (← append-assoc (take at out) w (drop (at + length w) out))
+    (take-at (take at out ++ w) (drop (at + length w) out) (at + length w) (length-head at w out h))
+
+drop-pasted : (at : ℕ) (w out : List ℕ) → at ≤ length out → drop (at + length w) (pasted at w out) ≡ drop (at + length w) out
+unfolding pasted
+drop-pasted at w out h =
+    rw (← append-assoc (take at out) w (drop (at + length w) out))
+    (drop-at (take at out ++ w) (drop (at + length w) out) (at + length w) (length-head at w out h))
+
+drop-further : (at n : ℕ) (w out : List ℕ) → at ≤ length out → drop (at + length w + n) (pasted at w out) ≡ drop (at + length w + n) out
+drop-further at n w out h =
+    sym (drop-drop n (at + length w) (pasted at w out)) ∙ ap (drop n) (drop-pasted at w out h) ∙ drop-drop n (at + length w) out
+
+-- bytes written after others
+pub pasted-more : (at : ℕ) (w v out : List ℕ) → at ≤ length out → pasted (at + length w) v (pasted at w out) ≡ pasted at (w ++ v) out
+unfolding pasted
+pasted-more at w v out h =
+    let end = at + length w in
+    let e : at + length (w ++ v) ≡ end + length v = omega (arith, length-append w v) in
+    ap (λ (l : List ℕ). l ++ (v ++ drop (end + length v) (pasted at w out))) (take-pasted at w out h)
+    ∙ ap (λ (l : List ℕ). take at out ++ w ++ (v ++ l)) (drop-further at (length v) w out h)
+    ∙ rw (e, append-assoc w v (drop (end + length v) out)) (append-assoc (take at out) w (v ++ drop (end + length v) out))
+
+-- the same from what two writers say: w ends at e and leaves o, v leaves o′
+pub pasted-on : (at e : ℕ) (w v out o o′ : List ℕ) → at ≤ length out → e ≡ at + length w → o ≡ pasted at w out → o′ ≡ pasted e v o
+    → o′ ≡ pasted at (w ++ v) out
+pasted-on at e w v out o o′ h k p q = q ∙ rw (k, p) (pasted-more at w v out h)
+
+-- the same of a buffer whose first bytes are written over
+pub pasted-next : (at : ℕ) (l w out : List ℕ) → at ≡ length l → pasted at w (over l out) ≡ over (l ++ w) out
+pasted-next at l w out e =
+    let z : at ≡ 0 + length l = omega arith in
+    rw (z, ← pasted-start l out, ← pasted-start (l ++ w) out) (pasted-more 0 l w out zero-le)
+
+-- a copy of all bytes
+pub paste-all : (at : ℕ) (w out : List ℕ) (i : ℕ) → i ≡ length w → paste out at w i ≡ pasted at w out
+unfolding pasted
+paste-all at w out i e = rw (e, take-length w) (append-assoc (take at out) w (drop (at + length w) out))
+
+-- one byte
+pasted-one : (at d : ℕ) (out : List ℕ) → at < length out → set out at d ≡ pasted at (d ∷ []) out
+unfolding pasted
+pasted-one at d out h = rw add-one (set-split out at d h)
+
+-- what stands from a byte on that was written
+drop-set : (i d : ℕ) (out : List ℕ) → i < length out → drop i (set out i d) ≡ d ∷ drop (suc i) out
+drop-set i d out h =
+    ap (drop i) (set-split out i d h)
+    ∙ drop-at (take i out) (d ∷ drop (suc i) out) i (length-take-le i out (omega arith))
+
+-- the last byte written before the others
+pasted-last : (at i d : ℕ) (w out : List ℕ) → i ≡ at + length w → i < length out
+    → pasted at w (set out i d) ≡ pasted at (w ++ (d ∷ [])) out
+unfolding pasted
+pasted-last at i d w out e h =
+    let l : at + length (w ++ (d ∷ [])) ≡ suc i = omega (arith, length-append w (d ∷ [])) in
+    rw (← e, l, drop-set i d out h, take-set-le at out i d (omega arith), append-snoc w d (drop (suc i) out))
+
+-- the length of a number in decimal
+
+pub length-small : (m : ℕ) → m < 10 → length (decimal m) ≡ 1
+length-small m h = ap length (decimal-small m h)
+
+pub length-large : (m : ℕ) → 10 ≤ m → length (decimal m) ≡ length (decimal (m / 10)) + 1
+length-large m h = ap length (decimal-large m h) ∙ length-append (decimal (m / 10)) ((48 + m % 10) ∷ [])
+
+-- a number has a digit
+pub decimal-some : (m : ℕ) → 1 ≤ length (decimal m)
+decimal-some m =
+    elim (decLt m 10) [
+      | yes h ↦ omega (arith, length-small m h)
+      | no h ↦ omega (arith, length-large m (omega arith))
+    ]
+
+-- a number below 10 ^ (k + 1) has at most k + 1 digits
+digits-most : (k m : ℕ) → m < 10 ^ suc k → length (decimal m) ≤ suc k
+digits-most zero m h = omega (arith, length-small m h)
+digits-most (suc k) m h =
+    elim (decLt m 10) [
+      | yes i ↦ omega (arith, length-small m i)
+      | no i ↦
+          let l = digits-most k (m / 10) (omega (arith, pow-succ' 10 (suc k))) in
+          omega (arith, length-large m (omega arith))
+    ]
+
+-- a number of 32 bits has at most ten
+pub decimal-most : (m : ℕ) → m < 2 ^ 32 → length (decimal m) ≤ 10
+decimal-most m h = digits-most 9 m (omega arith)
+
+-- a number that is written from its last digit on
+
+pub number-last : (at i m : ℕ) (out : List ℕ) → 10 ≤ m → i + 1 ≡ at + length (decimal m) → i < length out
+    → pasted at (decimal (m / 10)) (set out i (48 + m % 10)) ≡ pasted at (decimal m) out
+number-last at i m out h e l =
+    pasted-last at i (48 + m % 10) (decimal (m / 10)) out (omega (arith, length-large m h)) l
+    ∙ ap (λ (w : List ℕ). pasted at w out) (sym (decimal-large m h))
+
+pub number-first : (at i m : ℕ) (out : List ℕ) → m < 10 → i + 1 ≡ at + length (decimal m) → i < length out → set out i (48 + m) ≡ pasted at (decimal m) out
+number-first at i m out h e l =
+    let z : i ≡ at = omega (arith, length-small m h) in
+    rw (z, decimal-small m h) (pasted-one at (48 + m) out (omega arith))
+
+-- numbers with a space before each
+
+joined-append : (g : ℕ → List ℕ) (k l : List ℕ) → joined g (k ++ l) ≡ joined g k ++ joined g l
+unfolding joined
+joined-append g [] l = refl
+joined-append g (a ∷ k) l = ap (λ (r : List ℕ). g a ++ r) (joined-append g k l) ∙ sym (append-assoc (g a) (joined g k) (joined g l))
+
+joined-snoc : (g : ℕ → List ℕ) (l : List ℕ) (x : ℕ) → joined g (l ++ (x ∷ [])) ≡ joined g l ++ g x
+unfolding joined
+joined-snoc g l x = joined-append g l (x ∷ []) ∙ ap (λ (r : List ℕ). joined g l ++ r) (append-nil (g x))
+
+-- none of them
+pub length-none : length (spaced []) ≡ 0
+unfolding joined
+length-none = refl
+
+pub pasted-none : (at : ℕ) (out : List ℕ) → out ≡ pasted at (spaced []) out
+unfolding pasted joined
+pasted-none at out = rw (add-zero at) (sym (take-append-drop at out))
+
+-- one more
+spaced-next : (l : List ℕ) (i : ℕ) → i < length l → spaced (take (i + 1) l) ≡ spaced (take i l) ++ (bytes " " ++ decimal (getD l i 0))
+spaced-next l i h = rw (add-one, take-suc l i 0 h) (joined-snoc (λ m. bytes " " ++ decimal m) (take i l) (getD l i 0))
+
+pub length-next : (l : List ℕ) (i : ℕ) → i < length l
+    → length (spaced (take (i + 1) l)) ≡ length (spaced (take i l)) + 1 + length (decimal (getD l i 0))
+length-next l i h =
+    let w = spaced (take i l) in
+    let v = decimal (getD l i 0) in
+    omega (arith, ap length (spaced-next l i h), length-append w (bytes " " ++ v))
+
+-- the first i of them are not longer than all
+length-first : (l : List ℕ) (i : ℕ) → length (spaced (take i l)) ≤ length (spaced l)
+length-first l i =
+    let e = ap (λ (r : List ℕ). length (spaced r)) (take-append-drop i l) in
+    let f = ap length (joined-append (λ m. bytes " " ++ decimal m) (take i l) (drop i l)) in
+    omega (arith, length-append (spaced (take i l)) (spaced (drop i l)))
+
+pub length-room : (l : List ℕ) (i : ℕ) → i < length l → length (spaced (take i l)) + 1 + length (decimal (getD l i 0)) ≤ length (spaced l)
+length-room l i h = omega (arith, length-next l i h, length-first l (i + 1))
+
+-- a space and a number written after those before it
+pub spaced-on : (at e r i : ℕ) (l out o o′ o″ : List ℕ) → i < length l → at ≤ length out
+    → e ≡ at + length (spaced (take i l)) → o ≡ pasted at (spaced (take i l)) out → r ≡ e + 1
+    → o′ ≡ pasted e (bytes " ") o → o″ ≡ pasted r (decimal (getD l i 0)) o′ → o″ ≡ pasted at (spaced (take (i + 1) l)) out
+spaced-on at e r i l out o o′ o″ h k a p b q u =
+    let w = spaced (take i l) in
+    let v = decimal (getD l i 0) in
+    let s = pasted-on at e w (bytes " ") out o o′ k a p q in
+    let n : r ≡ at + length (w ++ bytes " ") = omega (arith, length-append w (bytes " ")) in
+    rw (spaced-next l i h, ← append-assoc w (bytes " ") v) (pasted-on at r (w ++ bytes " ") v out o′ o″ k n s u)
+
+-- a row of the report
+
+row-parts : (w l : List ℕ) → row w l ≡ w ++ spaced l ++ bytes ")\n"
+unfolding row
+row-parts w l = sym (append-assoc w (spaced l) (bytes ")\n"))
+
+pub length-row : (w l : List ℕ) → length (row w l) ≡ length w + length (spaced l) + 2
+length-row w l = omega (arith, ap length (row-parts w l), length-append (w ++ spaced l) (bytes ")\n"), length-append w (spaced l))
+
+-- a row written as its word, its numbers and its end
+pub row-written : (at e r : ℕ) (w l out o o′ o″ : List ℕ) → at ≤ length out → e ≡ at + length w → o ≡ pasted at w out
+    → r ≡ e + length (spaced l) → o′ ≡ pasted e (spaced l) o → o″ ≡ pasted r (bytes ")\n") o′ → o″ ≡ pasted at (row w l) out
+row-written at e r w l out o o′ o″ h k p a q u =
+    let n : r ≡ at + length (w ++ spaced l) = omega (arith, length-append w (spaced l)) in
+    rw (row-parts w l) (pasted-on at r (w ++ spaced l) (bytes ")\n") out o′ o″ h n (pasted-on at e w (spaced l) out o o′ h k p q) u)
+
+-- a number of 32 bits takes at most eleven bytes of a row
+pub spaced-most : (l : List ℕ) → ((i : ℕ) → getD l i 0 < 2 ^ 32) → length (spaced l) ≤ 11 * length l
+unfolding joined
+spaced-most [] h = zero-le
+spaced-most (a ∷ l) h =
+    omega (arith, length-append (bytes " " ++ decimal a) (spaced l), decimal-most a (h 0), spaced-most l (λ i. h (suc i)))
+
+pub row-most : (w l : List ℕ) → ((i : ℕ) → getD l i 0 < 2 ^ 32) → length (row w l) ≤ length w + 11 * length l + 2
+row-most w l h = omega (arith, length-row w l, spaced-most l h)

@@ -1,0 +1,2 @@
+-- What the printer leaves in the output buffer.
+pub mod Print

@@ -1,0 +1,89 @@
+// Words, decimal numbers and rows of them, written into a lent buffer at a place.
+ghost use mathlib.Core.Path.{_≡_};
+ghost use Prim.Native.Nat.{ℕ, _+_, _≤_};
+ghost use mathlib.Core.List.{List};
+ghost use lib.ListN.{length};
+ghost use Rattle.model.specs.Sheet.{decimal, row};
+ghost use Rattle.print.specs.Print.{pasted, spaced};
+
+// Writes the bytes w from byte at on, and returns where they end.
+pub fn put(out: &mut [u8], at: usize, w: &[u8]) -> usize
+    requires { ⌜ at + length (now w) ≤ length (now out) ⌝ }
+    ensures { λ r. ⌜ (r ≡ at + length (now (w .entry))) × (now (out .exit) ≡ pasted at (now (w .entry)) (now (out .entry))) ⌝ }
+{
+    let mut i: usize = 0;
+    while i < w.len() {
+        out[at + i] = w[i];
+        i += 1;
+    }
+    at + i
+}
+
+// How many digits n has.
+pub fn number_length(n: u32) -> usize
+    ensures { λ r. ⌜ r ≡ length (decimal n) ⌝ }
+{
+    let mut rest = n;
+    let mut k: usize = 1;
+    while 9 < rest {
+        rest /= 10;
+        k += 1;
+    }
+    k
+}
+
+// Writes n in decimal from byte at on, the last digit first, and returns where it ends.
+pub fn put_number(out: &mut [u8], at: usize, n: u32) -> usize
+    requires { ⌜ at + length (decimal n) ≤ length (now out) ⌝ }
+    ensures { λ r. ⌜ (r ≡ at + length (decimal n)) × (now (out .exit) ≡ pasted at (decimal n) (now (out .entry))) ⌝ }
+{
+    let end = at + number_length(n);
+    let mut i = end - 1;
+    let mut m = n;
+    while 9 < m {
+        out[i] = b'0' + (m % 10) as u8;
+        m /= 10;
+        i -= 1;
+    }
+    out[i] = b'0' + m as u8;
+    end
+}
+
+// Writes the numbers, with a space before each, from byte at on, and returns where they end.
+fn put_numbers(out: &mut [u8], at: usize, numbers: &[u32]) -> usize
+    requires { ⌜ at + length (spaced (now numbers)) ≤ length (now out) ⌝ }
+    ensures { λ r. ⌜ (r ≡ at + length (spaced (now (numbers .entry)))) × (now (out .exit) ≡ pasted at (spaced (now (numbers .entry))) (now (out .entry))) ⌝ }
+{
+    let mut end = at;
+    let mut k: usize = 0;
+    while k < numbers.len() {
+        end = put(out, end, b" ");
+        end = put_number(out, end, numbers[k]);
+        k += 1;
+    }
+    end
+}
+
+// Writes a row of the report from byte at on, and returns where it ends.
+pub fn put_row(out: &mut [u8], at: usize, word: &[u8], numbers: &[u32]) -> usize
+    requires { ⌜ at + length (row (now word) (now numbers)) ≤ length (now out) ⌝ }
+    ensures { λ r. ⌜ (r ≡ at + length (row (now (word .entry)) (now (numbers .entry)))) × (now (out .exit) ≡ pasted at (row (now (word .entry)) (now (numbers .entry))) (now (out .entry))) ⌝ }
+{
+    let first = put(out, at, word);
+    let end = put_numbers(out, first, numbers);
+    put(out, end, b")\n")
+}
+
+// How many bytes a row has whose word has so many.
+pub fn row_length(word: usize, numbers: &[u32]) -> usize
+    requires { ⌜ (length (now numbers) ≤ 16) × (word ≤ 64) ⌝ }
+    ensures { λ r. ⌜ ((w : List ℕ) → length w ≡ word → r ≡ length (row w (now (numbers .entry)))) ⌝ }
+{
+    let mut n = word + 2;
+    let mut k: usize = 0;
+    while k < numbers.len() {
+        n += 1 + number_length(numbers[k]);
+        k += 1;
+    }
+    n
+}
