@@ -1,4 +1,4 @@
--- Laws of the definitions: cleared tables, tables after a write, sets as bits, sums, and where the points of a function lead.
+-- Laws of the definitions: tables after a write, sets as bits, and where the points of a function lead.
 use Prim.Native.Nat.{ℕ, zero, suc, _+_, _-_, _/_, _^_, _≤_, _<_, min, max}
 use native.Mathlib.Nat.{pow-suc}
 use native.Mathlib.Omega.{arith}
@@ -6,37 +6,16 @@ use native.Mathlib.Decide.{ℕ-discrete}
 use mathlib.Core.Path.{_≡_, refl, ap, sym, _∙_}
 use mathlib.Core.List.{List, [], _∷_, List·Memᴰ, List·Memᴰ·head, List·Memᴰ·tail, List·Memᴰ·not-nil, List·Memᴰ·cases-cons}
 use mathlib.Core.Logic.{⊎-elim}
-use lib.ListN.{length, getD, set, drop, replicate, length-append, length-drop, length-replicate, List·getD-append, getD-replicate}
+use lib.ListN.{length, set}
 use lib.Seq.{getD-set-same, getD-set-other}
-use borrow.Author.Fill.{fill-none, fill-more}
 use Rattle.bits.specs.Bits.{bit, union, difference}
 use Rattle.bits.proofs.Laws.{bit-le, bit-zero, bit-union, bit-difference}
 use Rattle.model.specs.declared.Point.{Point}
-use Rattle.model.specs.declared.Point.the-variants.{Return}
-use Rattle.model.specs.Task.{Func}
 use Rattle.model.specs.Walk.{leadsFrom, leads}
 use Rattle.tables.specs.Tables.{item, pointAt, function}
-use Rattle.tables.proofs.Laws.{point-there}
+use Rattle.tables.proofs.Laws.{leads-there}
 use Rattle.backward.specs.Backward.{Given}
-use Rattle.backward.specs.Rounds.{joined, setFrom, setAt, There, cleared}
-
--- a cleared table, entry by entry
-pub cleared-none : (l : List ℕ) → l ≡ cleared 0 l
-unfolding cleared
-cleared-none l = fill-none l 0
-
-pub cleared-more : (n : ℕ) (l : List ℕ) → n < length l → set (cleared n l) n 0 ≡ cleared (n + 1) l
-unfolding cleared
-cleared-more n l h = fill-more n 0 l h
-
-pub length-cleared : (n : ℕ) (l : List ℕ) → n ≤ length l → length (cleared n l) ≡ length l
-unfolding cleared
-length-cleared n l h = simp (length-append, length-replicate, length-drop) (omega arith)
-
-pub item-cleared : (n p : ℕ) (l : List ℕ) → p < n → item (cleared n l) p ≡ 0
-unfolding cleared
-item-cleared n p l h =
-    List·getD-append (replicate n 0) (drop n l) 0 p (rw (length-replicate {A = ℕ} n 0) h) ∙ getD-replicate n p 0 0 h
+use Rattle.backward.specs.Rounds.{joined, setFrom, setAt, There}
 
 -- a table after a write: at the place, and elsewhere
 pub here : (l : List ℕ) (q v : ℕ) → q < length l → item (set l q v) q ≡ v
@@ -91,34 +70,6 @@ joined-all sets (a ∷ r ∷ l) j q m e =
     (λ d. let g : bit (item sets a) j ≡ 1 = rw (← d) e in omega arith)
     (λ k. let g = joined-all sets (r ∷ l) j q k e in omega arith)
     (List·Memᴰ·cases-cons m)
-
--- sums: of the same terms, and of terms that differ at q alone
-unfoldable pub sum : (ℕ → ℕ) → ℕ → ℕ
-sum f zero = 0
-sum f (suc n) = sum f n + f n
-
-sum-same : (f g : ℕ → ℕ) (n : ℕ) → ((p : ℕ) → p < n → f p ≡ g p) → sum f n ≡ sum g n
-unfolding sum
-sum-same f g zero e = refl
-sum-same f g (suc n) e = omega (arith, sum-same f g n (λ p h. e p (omega arith)), e n (omega arith))
-
-pub sum-but : (f g : ℕ → ℕ) (q n : ℕ) → q < n → ((p : ℕ) → (p ≡ q → ⊥) → f p ≡ g p) → sum f n + g q ≡ sum g n + f q
-unfolding sum
-sum-but f g q zero h e = absurd (omega arith)
-sum-but f g q (suc n) h e =
-    elim (ℕ-discrete n q) [
-      | yes d ↦ omega (arith, ap f d, ap g d, sum-same f g n (λ p k. e p (omega arith)))
-      | no d ↦ omega (arith, sum-but f g q n (omega arith) e, e n d)
-    ]
-
--- where the points of a function lead
-pub leads-there : (w : List ℕ) (b n p : ℕ) → p < n → leads (function w b n) p ≡ leadsFrom p (pointAt w (b + p))
-unfolding leads
-leads-there w b n p h = ap (leadsFrom p) (point-there w b n p h)
-
-pub leads-same : (x y : Func) → x .points ≡ y .points → leads x ≡ leads y
-unfolding leads
-leads-same x y e = λ i p. leadsFrom p (getD (e i) p Return)
 
 -- what the functions hand over: the set m of point p, from what comes from the leads and what p takes and gives
 pub set-made : (p : ℕ) (x y : Point) (gens kills sets : List ℕ) (a d m : ℕ) → x ≡ y → a ≡ joined sets (leadsFrom p x)

@@ -8,13 +8,14 @@ use mathlib.Core.Bool.{Bool, true, false, not, true≢false}
 use mathlib.Core.List.{List, List·Memᴰ}
 use lib.Dec.{T, eqb→eq, eqb-refl, T-not}
 use lib.ListN.{length, set, length-set}
-use Rattle.bits.specs.Bits.{bit}
-use Rattle.bits.proofs.Laws.{bit-le, bit-zero}
+use Rattle.bits.specs.Bits.{bit, cleared}
+use Rattle.bits.proofs.Laws.{bit-le, bit-zero, length-cleared, item-cleared}
 use Rattle.model.specs.Walk.{Walk, Met}
-use Rattle.tables.specs.Tables.{item}
+use Rattle.tables.specs.Tables.{item, sum}
 use Rattle.backward.specs.Backward.{has, Solved}
-use Rattle.backward.specs.Rounds.{joined, setAt, Unstable, Writes, Round, cleared}
-use Rattle.backward.proofs.Laws.{here, else, le-bits, bit-set, joined-some, joined-all, sum, sum-but, length-cleared, item-cleared}
+use Rattle.backward.specs.Rounds.{joined, setAt, Unstable, Writes, Round}
+use Rattle.backward.proofs.Laws.{here, else, le-bits, bit-set, joined-some, joined-all}
+use Rattle.tables.proofs.Laws.{sum-but}
 
 -- how much the first n sets can still grow
 unfoldable pub cost : ℕ → List ℕ → ℕ

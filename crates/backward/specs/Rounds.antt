@@ -2,8 +2,8 @@
 use Prim.Native.Nat.{ℕ, _^_, _≤_, _<_}
 use mathlib.Core.Path.{_≡_}
 use mathlib.Core.Bool.{Bool, true, false}
-use mathlib.Core.List.{List, [], _∷_, _++_, List·Memᴰ}
-use lib.ListN.{length, drop, set, replicate}
+use mathlib.Core.List.{List, [], _∷_, List·Memᴰ}
+use lib.ListN.{length, set}
 use Rattle.bits.specs.Bits.{union, difference}
 use Rattle.tables.specs.Tables.{item}
 
@@ -42,7 +42,3 @@ pub data Round (next : ℕ → List ℕ) (gens kills : List ℕ) (n p : ℕ) (fi
   rests : ((q : ℕ) → p ≤ q → q < n → setAt next gens kills first q ≡ item first q) → Round next gens kills n p first false first
   changes : {sets : List ℕ} (q : ℕ) → Writes next gens kills n first sets → Unstable next gens kills n q sets
       → Round next gens kills n p first true (set sets q (setAt next gens kills sets q))
-
--- the first n entries are 0
-unfoldable pub cleared : ℕ → List ℕ → List ℕ
-cleared n l = replicate n 0 ++ drop n l

@@ -6,7 +6,7 @@ ghost use Rattle.model.specs.Task.{Func};
 ghost use Rattle.model.specs.Walk.{leadsFrom, leads};
 ghost use Rattle.tables.specs.Tables.{pointAt, pointsOf, function};
 ghost use Rattle.backward.specs.Backward.{Given, Solved};
-ghost use Rattle.backward.specs.Rounds.{joined, setFrom, There, Round, cleared};
+ghost use Rattle.backward.specs.Rounds.{joined, setFrom, There, Round};
 use model::Point;
 
 // What comes to point p from the points to which it leads.
@@ -54,23 +54,11 @@ fn round(work: &[u32], base: usize, n: usize, gens: &[u64], kills: &[u64], sets:
     changed
 }
 
-// The first n sets are empty.
-fn clear(sets: &mut [u64], n: usize)
-    requires { ⌜ n ≤ length (now sets) ⌝ }
-    ensures { λ r. ⌜ now (sets .exit) ≡ cleared n (now (sets .entry)) ⌝ }
-{
-    let mut i = 0;
-    while i < n {
-        sets[i] = 0;
-        i += 1;
-    }
-}
-
 // For the n points of work from base on: which bits some walk from each meets. The first n entries of sets are the answer, whatever they held.
 pub fn backward(work: &[u32], base: usize, n: usize, gens: &[u64], kills: &[u64], sets: &mut [u64])
     requires { ⌜ Given n (now work) base (now gens) (now kills) × (n ≤ length (now sets)) ⌝ }
     ensures { λ r. ⌜ ((x : Func) → x .points ≡ pointsOf (now (work .entry)) base n → Solved (leads x) n (now (gens .entry)) (now (kills .entry)) (now (sets .exit))) ⌝ }
 {
-    clear(sets, n);
+    bits::clear_sets(sets, n);
     while round(work, base, n, gens, kills, sets) {}
 }

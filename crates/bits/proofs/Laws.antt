@@ -8,7 +8,10 @@ use mathlib.Core.Path.{_≡_, refl, ap, sym, _∙_}
 use lib.Bits.{bitAnd, bitOr, and-step, or-step, or-add-and, and-le-r, and-mask}
 use lib.Count.{leadingZeros, trailingZeros, under, leading-length}
 use lib.Pow.{pow-pos, shl-exact, shr-shr}
-use Rattle.bits.specs.Bits.{bit, Single, Low, Top, Lowest, union, difference}
+use Rattle.bits.specs.Bits.{bit, Single, Low, Top, Lowest, union, difference, cleared}
+use lib.ListN.{length, getD, set, drop, replicate, length-append, length-drop, length-replicate, List·getD-append, getD-replicate}
+use borrow.Author.Fill.{fill-none, fill-more}
+use mathlib.Core.List.{List}
 
 pub bit-le : (m j : ℕ) → bit m j ≤ 1
 unfolding bit
@@ -224,3 +227,21 @@ lowest-none m k h =
       below = λ j i. trailing-below 64 m j (omega arith);
       attained = λ i. absurd (omega arith);
     }
+
+-- a cleared table, entry by entry
+pub cleared-none : (l : List ℕ) → l ≡ cleared 0 l
+unfolding cleared
+cleared-none l = fill-none l 0
+
+pub cleared-more : (n : ℕ) (l : List ℕ) → n < length l → set (cleared n l) n 0 ≡ cleared (n + 1) l
+unfolding cleared
+cleared-more n l h = fill-more n 0 l h
+
+pub length-cleared : (n : ℕ) (l : List ℕ) → n ≤ length l → length (cleared n l) ≡ length l
+unfolding cleared
+length-cleared n l h = simp (length-append, length-replicate, length-drop) (omega arith)
+
+pub item-cleared : (n p : ℕ) (l : List ℕ) → p < n → getD (cleared n l) p 0 ≡ 0
+unfolding cleared
+item-cleared n p l h =
+    List·getD-append (replicate n 0) (drop n l) 0 p (rw (length-replicate {A = ℕ} n 0) h) ∙ getD-replicate n p 0 0 h

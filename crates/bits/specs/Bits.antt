@@ -1,7 +1,9 @@
 -- A number as a set: its bits, counted from the lowest.
 use Prim.Native.Nat.{ℕ, zero, suc, _-_, _/_, _%_, _≤_, _<_}
+use mathlib.Core.List.{List, _++_}
 use mathlib.Core.Path.{_≡_}
 use lib.Bits.{bitAnd, bitOr}
+use lib.ListN.{drop, replicate}
 
 -- bit j of m, 0 or 1
 unfoldable pub bit : ℕ → ℕ → ℕ
@@ -36,3 +38,7 @@ union a b = bitOr a b
 
 unfoldable pub difference : ℕ → ℕ → ℕ
 difference a b = bitAnd a (18446744073709551615 - b)
+
+-- the first n entries of a table are 0
+unfoldable pub cleared : ℕ → List ℕ → List ℕ
+cleared n l = replicate n 0 ++ drop n l

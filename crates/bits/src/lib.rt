@@ -1,7 +1,8 @@
 // Sets of 64 bits: one bit, the lowest bits, the reading of a bit, the highest and the lowest bit, and the operators by name. The laws of bits are in proofs/Laws.antt.
 ghost use mathlib.Core.Path.{_≡_};
 ghost use Prim.Native.Nat.{_<_, _≤_};
-ghost use Rattle.bits.specs.Bits.{bit, Single, Low, Top, Lowest, union, difference};
+ghost use lib.ListN.{length};
+ghost use Rattle.bits.specs.Bits.{bit, Single, Low, Top, Lowest, union, difference, cleared};
 
 pub fn single_bit(o: u32) -> u64
     requires { ⌜ o < 64 ⌝ }
@@ -52,4 +53,16 @@ pub fn difference_of(a: u64, b: u64) -> u64
     ensures { λ r. ⌜ r ≡ difference a b ⌝ }
 {
     a & !b
+}
+
+// The first n sets of a table are emptied.
+pub fn clear_sets(sets: &mut [u64], n: usize)
+    requires { ⌜ n ≤ length (now sets) ⌝ }
+    ensures { λ r. ⌜ now (sets .exit) ≡ cleared n (now (sets .entry)) ⌝ }
+{
+    let mut i = 0;
+    while i < n {
+        sets[i] = 0;
+        i += 1;
+    }
 }

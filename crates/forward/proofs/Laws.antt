@@ -1,4 +1,4 @@
--- Laws of the definitions: sums, cleared tables, sets as bits, and where the points of a function lead.
+-- Laws of the definitions: sums, sets as bits, and where the points of a function lead.
 use Prim.Native.Nat.{ℕ, zero, suc, _+_, _-_, _^_, _≤_, _<_, min, max}
 use native.Mathlib.Omega.{arith}
 use native.Mathlib.Decide.{ℕ-discrete}
@@ -7,19 +7,18 @@ use mathlib.Core.Path.{_≡_, refl, ap, sym, _∙_}
 use mathlib.Core.Bool.{true, true≢false}
 use mathlib.Core.List.{List, [], _∷_, List·Memᴰ, List·Memᴰ·head, List·Memᴰ·tail, List·Memᴰ·cases-cons}
 use mathlib.Core.Logic.{_↔_, ⊎-elim}
-use lib.ListN.{length, getD, set, drop, replicate, length-append, length-drop, length-replicate, List·getD-append, getD-replicate}
-use borrow.Author.Fill.{fill-none, fill-more}
+use lib.ListN.{set}
 use Rattle.bits.specs.Bits.{bit, union, difference}
 use Rattle.bits.proofs.Laws.{bit-union, bit-difference}
 use Rattle.model.specs.declared.Point.{Point}
 use Rattle.model.specs.declared.Point.the-variants.{Load, Store, Call, Ensure, Goto, Either, Return}
 use Rattle.model.specs.Task.{Func}
 use Rattle.model.specs.Walk.{leadsFrom, leads}
-use Rattle.tables.specs.Tables.{isAccess, pointsOf}
-use Rattle.tables.proofs.Laws.{point-there}
+use Rattle.tables.specs.Tables.{isAccess, pointsOf, sum}
+use Rattle.tables.proofs.Laws.{point-there, leads-same}
 use Rattle.forward.specs.Forward.{Inside}
 use Rattle.tables.specs.Tables.{item, function}
-use Rattle.forward.specs.Worklist.{turned, order, nextAt, transfer, Progress, progress, listed, Raised, Propagated, targets, cleared, sum, waiting}
+use Rattle.forward.specs.Worklist.{turned, order, nextAt, transfer, Progress, progress, listed, Raised, Propagated, targets, waiting}
 use Rattle.forward.specs.declared.Next.{Next}
 use Rattle.forward.specs.declared.Next.the-variants.{Nowhere, To, Fork}
 
@@ -62,21 +61,7 @@ module _ (m : ℕ) (next : Next) where
   pub propagated-two : (q p : ℕ) (x y z : Progress) → next ≡ Fork q p → Raised q m x y → Raised p m y z → Propagated m (targets next) x z
   propagated-two q p x y z e r s = rw e (Propagated.more r (Propagated.more s Propagated.none))
 
--- sums: of the same terms, of terms that differ at q alone, and of terms of which each is at most 1
-sum-same : (f g : ℕ → ℕ) (n : ℕ) → ((p : ℕ) → p < n → f p ≡ g p) → sum f n ≡ sum g n
-unfolding sum
-sum-same f g zero e = refl
-sum-same f g (suc n) e = omega (arith, sum-same f g n (λ p h. e p (omega arith)), e n (omega arith))
-
-pub sum-but : (f g : ℕ → ℕ) (q n : ℕ) → q < n → ((p : ℕ) → (p ≡ q → ⊥) → f p ≡ g p) → sum f n + g q ≡ sum g n + f q
-unfolding sum
-sum-but f g q zero h e = absurd (omega arith)
-sum-but f g q (suc n) h e =
-    elim (ℕ-discrete n q) [
-      | yes d ↦ omega (arith, ap f d, ap g d, sum-same f g n (λ p k. e p (omega arith)))
-      | no d ↦ omega (arith, sum-but f g q n (omega arith) e, e n d)
-    ]
-
+-- sums, and sums of terms of which each is at most 1
 pub sum-at : (f : ℕ → ℕ) (p n : ℕ) → p < n → f p ≤ sum f n
 unfolding sum
 sum-at f p zero h = absurd (omega arith)
@@ -130,24 +115,6 @@ unfolding transfer
 bit-transfer s kill gen j h l =
     bit-union (difference s kill) gen j ∙ ap (λ (x : ℕ). max x (bit gen j)) (bit-difference s kill j h l)
 
--- a cleared table, entry by entry
-pub cleared-none : (l : List ℕ) → l ≡ cleared 0 l
-unfolding cleared
-cleared-none l = fill-none l 0
-
-pub cleared-more : (n : ℕ) (l : List ℕ) → n < length l → set (cleared n l) n 0 ≡ cleared (n + 1) l
-unfolding cleared
-cleared-more n l h = fill-more n 0 l h
-
-pub length-cleared : (n : ℕ) (l : List ℕ) → n ≤ length l → length (cleared n l) ≡ length l
-unfolding cleared
-length-cleared n l h = simp (length-append, length-replicate, length-drop) (omega arith)
-
-pub item-cleared : (n p : ℕ) (l : List ℕ) → p < n → item (cleared n l) p ≡ 0
-unfolding cleared
-item-cleared n p l h =
-    List·getD-append (replicate n 0) (drop n l) 0 p (rw (length-replicate {A = ℕ} n 0) h) ∙ getD-replicate n p 0 0 h
-
 -- where the points of a function lead, in the order of the visits
 pub order-there : (w : List ℕ) (b n p : ℕ) → p < n → order (function w b n) p ≡ nextAt w b p
 unfolding leads order nextAt
@@ -168,10 +135,6 @@ order-mem x p = turned-mem (leads x p)
 
 pub order-inside : (x : Func) (n : ℕ) → Inside (leads x) n → Inside (order x) n
 order-inside x n i p q h m = i p q h (order-mem x p .1 m)
-
-pub leads-same : (x y : Func) → x .points ≡ y .points → leads x ≡ leads y
-unfolding leads
-leads-same x y e = λ i p. leadsFrom p (getD (e i) p Return)
 
 pub inside-as : (w : List ℕ) (b n : ℕ) (x : Func) → x .points ≡ pointsOf w b n → Inside (leads x) n → Inside (leads (function w b n)) n
 inside-as w b n x e h = rw (leads-same (function w b n) x (sym e)) h

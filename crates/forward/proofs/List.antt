@@ -7,13 +7,14 @@ use mathlib.Core.List.{List, List·Memᴰ, List·Memᴰ·head, List·Memᴰ·tai
 use lib.ListN.{length, set, length-set}
 use lib.Seq.{getD-set-same, getD-set-other}
 use Rattle.forward.specs.Forward.{Inside, Given}
-use Rattle.tables.specs.Tables.{item, function}
+use Rattle.tables.specs.Tables.{item, function, sum}
 use Rattle.bits.specs.Bits.{union}
 use Rattle.bits.proofs.Laws.{union-ge}
-use Rattle.forward.specs.Worklist.{order, targets, nextAt, transfer, Progress, progress, listed, last, taken, Ended, Ends, Raised, Propagated, Visited, Visits, sum, waiting, Listed, Fits, FitsAll, Ready}
+use Rattle.forward.specs.Worklist.{order, targets, nextAt, transfer, Progress, progress, listed, last, taken, Ended, Ends, Raised, Propagated, Visited, Visits, waiting, Listed, Fits, FitsAll, Ready}
 use Rattle.forward.specs.declared.Next.{Next}
 use Rattle.forward.specs.declared.Next.the-variants.{To, Fork}
-use Rattle.forward.proofs.Laws.{sum-but, sum-le, sum-short, waiting-le, waiting-two, waiting-other, order-there, order-inside}
+use Rattle.forward.proofs.Laws.{sum-le, sum-short, waiting-le, waiting-two, waiting-other, order-there, order-inside}
+use Rattle.tables.proofs.Laws.{sum-but}
 
 -- a table after a store: at the place, and elsewhere
 pub here : (l : List ℕ) (q v : ℕ) → q < length l → item (set l q v) q ≡ v

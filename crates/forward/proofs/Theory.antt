@@ -6,14 +6,14 @@ use mathlib.Core.Path.{_≡_, refl, ap, sym, _∙_}
 use mathlib.Core.List.{List, [], _∷_, List·Memᴰ, List·Memᴰ·head, List·Memᴰ·tail, List·Memᴰ·cases-cons, List·Memᴰ·not-nil}
 use mathlib.Core.Logic.{⊎-elim}
 use lib.ListN.{length}
-use Rattle.bits.specs.Bits.{bit, union}
-use Rattle.bits.proofs.Laws.{bit-le, bit-zero, bit-union}
+use Rattle.bits.specs.Bits.{bit, union, cleared}
+use Rattle.bits.proofs.Laws.{bit-le, bit-zero, bit-union, length-cleared, item-cleared}
 use Rattle.model.specs.Task.{Func}
 use Rattle.model.specs.Walk.{Walk, never, leads}
 use Rattle.forward.specs.Forward.{Inside, Carried, Solved}
 use Rattle.tables.specs.Tables.{item}
-use Rattle.forward.specs.Worklist.{order, transfer, Progress, progress, listed, last, taken, Raised, Propagated, Visited, Visits, cleared, waiting, Listed}
-use Rattle.forward.proofs.Laws.{sum-at, sum-zero, waiting-two, waiting-other, bit-transfer, length-cleared, item-cleared, order-mem}
+use Rattle.forward.specs.Worklist.{order, transfer, Progress, progress, listed, last, taken, Raised, Propagated, Visited, Visits, waiting, Listed}
+use Rattle.forward.proofs.Laws.{sum-at, sum-zero, waiting-two, waiting-other, bit-transfer, order-mem}
 use Rattle.forward.proofs.List.{here, else, listed-put, listed-raised, last-within, last-waits, listed-taken, listed-visited}
 
 -- ---- what comes to a point

@@ -1,12 +1,12 @@
 -- The worklist algorithm, step by step: what each function of the crate does to the sets, the states and the list.
 use Prim.Native.Nat.{ℕ, zero, suc, _+_, _-_, _^_, _≤_, _<_}
 use mathlib.Core.Path.{_≡_}
-use mathlib.Core.List.{List, [], _∷_, _++_, List·Memᴰ}
-use lib.ListN.{length, drop, set, replicate}
+use mathlib.Core.List.{List, [], _∷_, List·Memᴰ}
+use lib.ListN.{length, set}
 use Rattle.model.specs.Task.{Func}
 use Rattle.model.specs.Walk.{leadsFrom, leads}
 use Rattle.bits.specs.Bits.{union, difference}
-use Rattle.tables.specs.Tables.{item, pointAt}
+use Rattle.tables.specs.Tables.{item, pointAt, sum}
 use Rattle.forward.specs.Forward.{Given}
 use Rattle.forward.specs.declared.Last.{Last}
 use Rattle.forward.specs.declared.Next.{Next}
@@ -45,10 +45,6 @@ pub record Progress : Type 0 where
 
 abbrev pub progress : List ℕ → List ℕ → List ℕ → ℕ → Progress
 progress s t l c = record { sets = s; state = t; todo = l; count = c }
-
--- the first n entries are 0
-unfoldable pub cleared : ℕ → List ℕ → List ℕ
-cleared n l = replicate n 0 ++ drop n l
 
 -- point q has the set m and is at the end of the list
 abbrev pub listed : ℕ → ℕ → Progress → Progress
@@ -108,11 +104,7 @@ pub data Visits (next : ℕ → List ℕ) (gen kill : List ℕ) (x : Progress) :
   none : Visits next gen kill x x
   more : {y z : Progress} → Visits next gen kill x y → 0 < y .count → Visited next gen kill y z → Visits next gen kill x z
 
--- the sum of f over the numbers below n; 1 for the state of a point in the list
-unfoldable pub sum : (ℕ → ℕ) → ℕ → ℕ
-sum f zero = 0
-sum f (suc n) = sum f n + f n
-
+-- 1 for the state of a point in the list
 unfoldable pub waiting : ℕ → ℕ
 waiting zero = 0
 waiting (suc zero) = 0

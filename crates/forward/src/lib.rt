@@ -4,9 +4,10 @@ ghost use Prim.Native.Nat.{_+_, _<_, _≤_};
 ghost use lib.ListN.{length, set};
 ghost use Rattle.model.specs.Task.{Func};
 ghost use Rattle.model.specs.Walk.{leadsFrom, leads};
+ghost use Rattle.bits.specs.Bits.{cleared};
 ghost use Rattle.tables.specs.Tables.{item, function, pointsOf};
 ghost use Rattle.forward.specs.Forward.{Given, Solved};
-ghost use Rattle.forward.specs.Worklist.{targets, turned, order, nextAt, transfer, progress, cleared, listed, Ended, Ends, Raised, Propagated, Visited, Visits, Listed, Fits, FitsAll, Ready};
+ghost use Rattle.forward.specs.Worklist.{targets, turned, order, nextAt, transfer, progress, listed, Ended, Ends, Raised, Propagated, Visited, Visits, Listed, Fits, FitsAll, Ready};
 use model::Point;
 
 // Where a point leads, in the order in which a set comes there.
@@ -248,18 +249,7 @@ fn drain(
     }
 }
 
-// The first n entries are cleared.
-fn clear_sets(sets: &mut [u64], n: usize)
-    requires { ⌜ n ≤ length (now sets) ⌝ }
-    ensures { λ r. ⌜ now (sets .exit) ≡ cleared n (now (sets .entry)) ⌝ }
-{
-    let mut i = 0;
-    while i < n {
-        sets[i] = 0;
-        i += 1;
-    }
-}
-
+// The first n marks are cleared.
 fn clear_state(state: &mut [u8], n: usize)
     requires { ⌜ n ≤ length (now state) ⌝ }
     ensures { λ r. ⌜ now (state .exit) ≡ cleared n (now (state .entry)) ⌝ }
@@ -287,7 +277,7 @@ fn solve(
     ensures { λ r. ⌜ Solved (leads (function (now (work .entry)) base n)) n entry (now (gens .entry)) (now (kills .entry))
         (now (sets .exit)) (now (state .exit)) ⌝ }
 {
-    clear_sets(sets, n);
+    bits::clear_sets(sets, n);
     clear_state(state, n);
     let count = add_to_list(sets, state, todo, 0, 0, entry);
     drain(work, base, n, gens, kills, sets, state, todo, count);

@@ -2,12 +2,11 @@
 use Prim.Native.Nat.{ℕ, _+_, _<_}
 use native.Mathlib.Omega.{arith}
 use native.Mathlib.Numerals.{add-one}
-use mathlib.Core.Path.{_≡_, ap}
+use mathlib.Core.Path.{_≡_}
 use mathlib.Core.List.{List}
 use lib.ListN.{length, set, length-set}
-use Rattle.model.specs.Walk.{leadsFrom, leads}
 use Rattle.tables.specs.Tables.{pointAt}
-use Rattle.tables.proofs.Laws.{point-there}
+use Rattle.tables.proofs.Laws.{point-there, leads-there}
 use Rattle.sweep.specs.declared.Step.{Step}
 use Rattle.sweep.specs.declared.Step.the-variants.{Falls, Leaves}
 use Rattle.sweep.specs.Steps.{Space, Most, Inside, Joined, Stepped, Points, Swept}
@@ -44,11 +43,6 @@ module _
       → Sweeping (function w b n) n entry mark (p + 1) c′ sets′ marks′
   turn-leaves e d a =
       rw (d, add-one) (sweeping-leaves g i l s (rw (point-there w b n p i) (rw e at v)) (rw add-one at a))
-
--- where the points of a function lead
-leads-there : (w : List ℕ) (b n p : ℕ) → p < n → leads (function w b n) p ≡ leadsFrom p (pointAt w (b + p))
-unfolding leads
-leads-there w b n p h = ap (leadsFrom p) (point-there w b n p h)
 
 pub turns-end : {w : List ℕ} {b n entry mark p c : ℕ} {sets marks : List ℕ} → Points w b n → Sweeping (function w b n) n entry mark p c sets marks
     → p ≡ n → Swept (function w b n) n entry sets × Most mark marks

@@ -1,7 +1,7 @@
 -- Laws of the tables: what is read back after a write, and the task that the tables hold, point by point.
 use Prim.Native.Nat.{ℕ, zero, suc, _+_, _*_, _≤_, _<_}
 use native.Mathlib.Omega.{arith}
-use native.Mathlib.Decide.{decLt}
+use native.Mathlib.Decide.{decLt, ℕ-discrete}
 use mathlib.Core.Path.{_≡_, refl, ap, sym, _∙_}
 use mathlib.Core.Bool.{Bool, true, false}
 use mathlib.Core.List.{List, [], _∷_, _++_}
@@ -15,8 +15,8 @@ use Rattle.model.specs.declared.Point.{Point}
 use Rattle.model.specs.declared.Point.the-variants.{Load, Store, Call, Ensure, Goto, Either, Return}
 use Rattle.model.specs.Basic.{if_then_else_, sumOf}
 use Rattle.model.specs.Task.{Func, size, func, point, empty, inAll, funcLine, offsetFits}
-use Rattle.model.specs.Walk.{loaded}
-use Rattle.tables.specs.Tables.{pointOf, kindOf, isAccess, firstArgument, secondArgument, pointAt, frameAt, baseAt, sizeAt, pointsOf, funcOf, funcsOf, taskOf, Stacked, none, more}
+use Rattle.model.specs.Walk.{loaded, leadsFrom, leads}
+use Rattle.tables.specs.Tables.{pointOf, kindOf, isAccess, firstArgument, secondArgument, pointAt, frameAt, baseAt, sizeAt, pointsOf, funcOf, funcsOf, taskOf, Stacked, none, more, function, sum}
 
 -- a point survives being written as numbers
 pub point-back : (p : Point) → pointOf (kindOf p) (firstArgument p) (secondArgument p) ≡ p
@@ -87,6 +87,15 @@ point-there w b (suc n) p h =
           let e : p ≡ n = omega arith in
           rw e (getD-at (pointsOf w b n) (pointAt w (b + n)) [] Return n (length-points w b n))
     ]
+
+-- where the points of a function lead
+pub leads-there : (w : List ℕ) (b n p : ℕ) → p < n → leads (function w b n) p ≡ leadsFrom p (pointAt w (b + p))
+unfolding leads
+leads-there w b n p h = ap (leadsFrom p) (point-there w b n p h)
+
+pub leads-same : (x y : Func) → x .points ≡ y .points → leads x ≡ leads y
+unfolding leads
+leads-same x y e = λ i p. leadsFrom p (getD (e i) p Return)
 
 -- the functions of a task, counted and one by one
 pub length-funcs : (w : List ℕ) (n : ℕ) → length (funcsOf w n) ≡ n
@@ -165,3 +174,18 @@ sum-before {w} (more {n} {m} k e) f h =
 pub line-is : {w : List ℕ} {n m : ℕ} (s : ℕ) → Stacked w n m → (f : ℕ) → f < n → funcLine (taskOf w s n) f ≡ 2 + 2 * f + baseAt w f
 unfolding funcLine
 line-is s k f h = rw (sum-before k f h)
+
+-- sums: of the same terms, and of terms that differ at q alone
+sum-same : (f g : ℕ → ℕ) (n : ℕ) → ((p : ℕ) → p < n → f p ≡ g p) → sum f n ≡ sum g n
+unfolding sum
+sum-same f g zero e = refl
+sum-same f g (suc n) e = omega (arith, sum-same f g n (λ p h. e p (omega arith)), e n (omega arith))
+
+pub sum-but : (f g : ℕ → ℕ) (q n : ℕ) → q < n → ((p : ℕ) → (p ≡ q → ⊥) → f p ≡ g p) → sum f n + g q ≡ sum g n + f q
+unfolding sum
+sum-but f g q zero h e = absurd (omega arith)
+sum-but f g q (suc n) h e =
+    elim (ℕ-discrete n q) [
+      | yes d ↦ omega (arith, ap f d, ap g d, sum-same f g n (λ p k. e p (omega arith)))
+      | no d ↦ omega (arith, sum-but f g q n (omega arith) e, e n d)
+    ]

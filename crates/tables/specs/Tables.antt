@@ -57,6 +57,11 @@ secondArgument Return = 0
 abbrev pub item : List ℕ → ℕ → ℕ
 item l p = getD l p 0
 
+-- the sum of f over the numbers below n
+unfoldable pub sum : (ℕ → ℕ) → ℕ → ℕ
+sum f zero = 0
+sum f (suc n) = sum f n + f n
+
 -- a load or a store
 abbrev pub isAccess : Point → Bool
 isAccess (Load o) = true

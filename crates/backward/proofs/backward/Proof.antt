@@ -4,10 +4,10 @@ use lib.ListN.{length}
 use denote.Ref.{now}
 use Rattle.model.specs.Walk.{leads}
 use Rattle.tables.specs.Tables.{function}
-use Rattle.backward.proofs.Laws.{leads-same}
 use Rattle.backward.proofs.Theory.{cost, Right, right-cleared, right-round, cost-round, solved-round}
 use Rattle.backward.proofs.backward.Statement.{statement}
 use Rattle.backward.proofs.backward.Tie as tie
+use Rattle.tables.proofs.Laws.{leads-same}
 
 abbrev Inv-loop : tie.InvT-loop
 Inv-loop work base n gens kills sets₀ sets =
@@ -16,11 +16,11 @@ Inv-loop work base n gens kills sets₀ sets =
 abbrev μ-loop : tie.MeasureT-loop
 μ-loop work base n gens kills sets₀ sets = cost n sets
 
-clear-requires : tie.Need-clear-requires Inv-loop μ-loop
-clear-requires c κs = c .before .before .before .before .before .pre .1
+clear-sets-requires : tie.Need-clear-sets-requires Inv-loop μ-loop
+clear-sets-requires c κs = c .before .before .before .before .before .pre .1
 
 loop-holds : tie.Need-loop-holds Inv-loop μ-loop
-loop-holds c = (right-cleared _ _ _ _ _ _ (c .before .before .before .before .before .before .before .before .pre .1) (c .before .before .clear .ensures), refl)
+loop-holds c = (right-cleared _ _ _ _ _ _ (c .before .before .before .before .before .before .before .before .pre .1) (c .before .before .clear-sets .ensures), refl)
 
 round-requires : tie.Need-round-requires Inv-loop μ-loop
 round-requires c κs = (c .before .before .before .before .before .before .before .before .before .before .pre .0, c .before .loop .inv .0 .long)
@@ -41,7 +41,7 @@ same-length : tie.Need-same-length Inv-loop μ-loop
 same-length c =
     c .before .before .before .round .kept .1 .1 .1 .1 .1 .0
     ∙ c .before .before .before .before .before .loop .inv .1
-    ∙ c .before .before .before .before .before .before .before .before .clear .kept .0
+    ∙ c .before .before .before .before .before .before .before .before .clear-sets .kept .0
 
 returns : tie.Need-returns Inv-loop μ-loop
 returns c =
@@ -55,7 +55,7 @@ backward-spec =
     (tie.spec
     Inv-loop
     μ-loop
-    clear-requires
+    clear-sets-requires
     loop-holds
     round-requires
     loop-less

@@ -4,10 +4,10 @@ use native.Mathlib.Omega.{arith}
 use mathlib.Core.Path.{_≡_, refl, ap, _∙_}
 use mathlib.Core.List.{List}
 use lib.ListN.{length, set, length-set}
-use Rattle.forward.specs.Worklist.{cleared}
-use Rattle.forward.proofs.Laws.{cleared-none, cleared-more}
 use Rattle.forward.proofs.clear_state.Statement.{statement}
 use Rattle.forward.proofs.clear_state.Tie as tie
+use Rattle.bits.specs.Bits.{cleared}
+use Rattle.bits.proofs.Laws.{cleared-none, cleared-more}
 
 abbrev Inv-loop : tie.InvT-loop
 Inv-loop state₀ n i₀ state i = (i ≤ n) × (state ≡ cleared i state₀) × (length state ≡ length state₀)

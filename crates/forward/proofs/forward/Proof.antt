@@ -2,9 +2,9 @@
 use borrow.Author.Needs.{needs}
 use denote.Ref.{now}
 use Rattle.tables.specs.Tables.{function}
-use Rattle.forward.proofs.Laws.{leads-same}
 use Rattle.forward.proofs.forward.Statement.{statement}
 use Rattle.forward.proofs.forward.Tie as tie
+use Rattle.tables.proofs.Laws.{leads-same}
 
 returns : tie.Need-returns
 returns c =

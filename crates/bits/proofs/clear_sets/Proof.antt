@@ -4,10 +4,10 @@ use native.Mathlib.Omega.{arith}
 use mathlib.Core.Path.{_≡_, refl, ap, _∙_}
 use mathlib.Core.List.{List}
 use lib.ListN.{length, set, length-set}
-use Rattle.forward.specs.Worklist.{cleared}
-use Rattle.forward.proofs.Laws.{cleared-none, cleared-more}
-use Rattle.forward.proofs.clear_sets.Statement.{statement}
-use Rattle.forward.proofs.clear_sets.Tie as tie
+use Rattle.bits.specs.Bits.{cleared}
+use Rattle.bits.proofs.Laws.{cleared-none, cleared-more}
+use Rattle.bits.proofs.clear_sets.Statement.{statement}
+use Rattle.bits.proofs.clear_sets.Tie as tie
 
 abbrev Inv-loop : tie.InvT-loop
 Inv-loop sets₀ n i₀ sets i = (i ≤ n) × (sets ≡ cleared i sets₀) × (length sets ≡ length sets₀)
