@@ -1,5 +1,5 @@
-// Judges a read and linked task in the tables by refusals 11 and 13. One pass of the forward kernel over each function marks the points
-// that walks reach, and brings to each point the offsets that some walk has not stored before it.
+// Judges a read and linked task in the tables by refusals 11 and 13. Functions that pass the sweep have neither. From the first that does not
+// pass on, the forward kernel marks the points that walks reach, and brings to each point the offsets that some walk has not stored before it.
 ghost use mathlib.Core.Path.{_≡_};
 ghost use mathlib.Core.Bool.{true, false};
 ghost use Prim.Native.Nat.{ℕ, _+_, _<_, _≤_};
