@@ -1,4 +1,4 @@
--- Laws of the definitions: tables after a write, sets as bits, and where the points of a function lead.
+-- Laws of the definitions: sets as bits, and where the points of a function lead.
 use Prim.Native.Nat.{ℕ, zero, suc, _+_, _-_, _/_, _^_, _≤_, _<_, min, max}
 use native.Mathlib.Nat.{pow-suc}
 use native.Mathlib.Omega.{arith}
@@ -6,8 +6,7 @@ use native.Mathlib.Decide.{ℕ-discrete}
 use mathlib.Core.Path.{_≡_, refl, ap, sym, _∙_}
 use mathlib.Core.List.{List, [], _∷_, List·Memᴰ, List·Memᴰ·head, List·Memᴰ·tail, List·Memᴰ·not-nil, List·Memᴰ·cases-cons}
 use mathlib.Core.Logic.{⊎-elim}
-use lib.ListN.{length, set}
-use lib.Seq.{getD-set-same, getD-set-other}
+use lib.ListN.{length}
 use Rattle.bits.specs.Bits.{bit, union, difference}
 use Rattle.bits.proofs.Laws.{bit-le, bit-zero, bit-union, bit-difference}
 use Rattle.model.specs.declared.Point.{Point}
@@ -16,13 +15,6 @@ use Rattle.tables.specs.Tables.{item, pointAt, function}
 use Rattle.tables.proofs.Laws.{leads-there}
 use Rattle.backward.specs.Backward.{Given}
 use Rattle.backward.specs.Rounds.{joined, setFrom, setAt, There}
-
--- a table after a write: at the place, and elsewhere
-pub here : (l : List ℕ) (q v : ℕ) → q < length l → item (set l q v) q ≡ v
-here l q v h = getD-set-same l q v 0 h
-
-pub else : (l : List ℕ) (q p v : ℕ) → (p ≡ q → ⊥) → item (set l q v) p ≡ item l p
-else l q p v h = getD-set-other l q p v 0 h
 
 -- fewer members, no larger number
 pub le-bits : (k a b : ℕ) → a < 2 ^ k → ((j : ℕ) → j < k → bit a j ≤ bit b j) → a ≤ b

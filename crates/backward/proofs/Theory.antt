@@ -14,8 +14,8 @@ use Rattle.model.specs.Walk.{Walk, Met}
 use Rattle.tables.specs.Tables.{item, sum}
 use Rattle.backward.specs.Backward.{has, Solved}
 use Rattle.backward.specs.Rounds.{joined, setAt, Unstable, Writes, Round}
-use Rattle.backward.proofs.Laws.{here, else, le-bits, bit-set, joined-some, joined-all}
-use Rattle.tables.proofs.Laws.{sum-but}
+use Rattle.backward.proofs.Laws.{le-bits, bit-set, joined-some, joined-all}
+use Rattle.tables.proofs.Laws.{sum-but, here, elsewhere}
 
 -- how much the first n sets can still grow
 unfoldable pub cost : ℕ → List ℕ → ℕ
@@ -113,7 +113,7 @@ module _
     at-q = here sets q (setAt next gens kills sets q) (omega (arith, o .below, r .long))
 
     other : (p : ℕ) → (p ≡ q → ⊥) → item (set sets q (setAt next gens kills sets q)) p ≡ item sets p
-    other p d = else sets q p (setAt next gens kills sets q) d
+    other p d = elsewhere sets q p (setAt next gens kills sets q) d
 
     -- what is so of the set that is written and of every other set is so of all
     all : (P : ℕ → ℕ → Type 0) → P q (setAt next gens kills sets q) → ((p : ℕ) → p < n → P p (item sets p)) → (p : ℕ) → p < n

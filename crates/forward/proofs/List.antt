@@ -5,7 +5,6 @@ use native.Mathlib.Decide.{decLt}
 use mathlib.Core.Path.{_≡_, refl, ap, sym, _∙_, subst}
 use mathlib.Core.List.{List, List·Memᴰ, List·Memᴰ·head, List·Memᴰ·tail}
 use lib.ListN.{length, set, length-set}
-use lib.Seq.{getD-set-same, getD-set-other}
 use Rattle.forward.specs.Forward.{Inside, Given}
 use Rattle.tables.specs.Tables.{item, function, sum}
 use Rattle.bits.specs.Bits.{union}
@@ -14,14 +13,7 @@ use Rattle.forward.specs.Worklist.{order, targets, nextAt, transfer, Pro
 use Rattle.forward.specs.declared.Next.{Next}
 use Rattle.forward.specs.declared.Next.the-variants.{To, Fork}
 use Rattle.forward.proofs.Laws.{sum-le, sum-short, waiting-le, waiting-two, waiting-other, order-there, order-inside}
-use Rattle.tables.proofs.Laws.{sum-but}
-
--- a table after a store: at the place, and elsewhere
-pub here : (l : List ℕ) (q v : ℕ) → q < length l → item (set l q v) q ≡ v
-here l q v h = getD-set-same l q v 0 h
-
-pub else : (l : List ℕ) (q p v : ℕ) → (p ≡ q → ⊥) → item (set l q v) p ≡ item l p
-else l q p v h = getD-set-other l q p v 0 h
+use Rattle.tables.proofs.Laws.{sum-but, here, elsewhere}
 
 -- ---- the list
 
@@ -50,13 +42,13 @@ module _ (n : ℕ) (x : Progress) (q m : ℕ) (l : Listed n x) (h : q < n) (k : 
       q
       n
       h
-      (λ p d. ap waiting (else (x .state) q p 2 d))
+      (λ p d. ap waiting (elsewhere (x .state) q p 2 d))
       in
       omega (arith, l .counted, waiting-two (item (set (x .state) q 2) q) two, waiting-other (item (x .state) q) k)
 
   -- the entries of the list: the old ones, and q
   old : (i : ℕ) → i < x .count → item (set (x .todo) (x .count) q) i ≡ item (x .todo) i
-  old i d = else (x .todo) (x .count) i q (omega arith)
+  old i d = elsewhere (x .todo) (x .count) i q (omega arith)
 
   new : (i : ℕ) → i ≡ x .count → item (set (x .todo) (x .count) q) i ≡ q
   new i d = rw d (here (x .todo) (x .count) q (list-room n x q l h k))
@@ -74,7 +66,7 @@ module _ (n : ℕ) (x : Progress) (q m : ℕ) (l : Listed n x) (h : q < n) (k : 
   put-waits : (i : ℕ) → i < x .count + 1 → item (set (x .state) q 2) (item (set (x .todo) (x .count) q) i) ≡ 2
   put-waits i d =
       elim (decLt i (x .count)) [
-        | yes j ↦ rw (old i j) (else (x .state) q (item (x .todo) i) 2 (other i j) ∙ l .waits i j)
+        | yes j ↦ rw (old i j) (elsewhere (x .state) q (item (x .todo) i) 2 (other i j) ∙ l .waits i j)
         | no j ↦ rw (new i (omega arith)) (here (x .state) q 2 (omega (arith, l .state-long)))
       ]
 
@@ -207,7 +199,7 @@ module _ (n : ℕ) (x : Progress) (l : Listed n x) (h : 0 < x .count) where
       (last x)
       n
       last-within
-      (λ p d. ap waiting (else (x .state) (last x) p 1 d))
+      (λ p d. ap waiting (elsewhere (x .state) (last x) p 1 d))
       in
       let z = waiting-other (item (set (x .state) (last x) 1) (last x)) (λ d. omega arith) in
       omega (arith, l .counted, waiting-two (item (x .state) (last x)) last-waits)
@@ -221,7 +213,7 @@ module _ (n : ℕ) (x : Progress) (l : Listed n x) (h : 0 < x .count) where
         counted = taken-counted;
         within = λ i d. l .within i (omega arith);
         waits = λ i d.
-            else (x .state) (last x) (item (x .todo) i) 1 (l .apart i (x .count - 1) d (omega arith))
+            elsewhere (x .state) (last x) (item (x .todo) i) 1 (l .apart i (x .count - 1) d (omega arith))
             ∙ l .waits i (omega arith);
         apart = λ i j a b. l .apart i j a (omega arith);
       }
@@ -326,8 +318,8 @@ cost-listed n q u x l h d =
     x
     (listed q u x)
     h
-    (λ p k. else (x .state) q p 2 k)
-    (λ p k. else (x .sets) q p u k)
+    (λ p k. elsewhere (x .state) q p 2 k)
+    (λ p k. elsewhere (x .sets) q p u k)
     ∙ rw (here (x .state) q 2 (omega (arith, l .state-long)), here (x .sets) q u (omega (arith, l .sets-long)))
     in
     omega arith
@@ -346,7 +338,7 @@ cost-raised n q m x y l h (Raised.grows s b) =
     (progress (set (x .sets) q u) (x .state) (x .todo) (x .count))
     h
     (λ p k. refl)
-    (λ p k. else (x .sets) q p u k)
+    (λ p k. elsewhere (x .sets) q p u k)
     ∙ rw (here (x .sets) q u (omega (arith, l .sets-long)))
     in
     omega (arith, room-less (item (x .state) q) (item (x .sets) q) u (union-ge (item (x .sets) q) m))
@@ -384,7 +376,7 @@ cost-taken n x l h =
     let
     e : room n (taken x) + room-at 2 (item (x .sets) p) ≡ room n x + room-at 1 (item (x .sets) p) =
     ap (λ (s : ℕ). room n (taken x) + room-at s (item (x .sets) p)) (sym (last-waits n x l h))
-    ∙ room-but n p x (taken x) b (λ a k. else (x .state) p a 1 k) (λ a k. refl)
+    ∙ room-but n p x (taken x) b (λ a k. elsewhere (x .state) p a 1 k) (λ a k. refl)
     ∙ rw (here (x .state) p 1 (omega (arith, b, l .state-long)))
     in
     omega arith

@@ -14,7 +14,8 @@ use Rattle.forward.specs.Forward.{Inside, Carried, Solved}
 use Rattle.tables.specs.Tables.{item}
 use Rattle.forward.specs.Worklist.{order, transfer, Progress, progress, listed, last, taken, Raised, Propagated, Visited, Visits, waiting, Listed}
 use Rattle.forward.proofs.Laws.{sum-at, sum-zero, waiting-two, waiting-other, bit-transfer, order-mem}
-use Rattle.forward.proofs.List.{here, else, listed-put, listed-raised, last-within, last-waits, listed-taken, listed-visited}
+use Rattle.forward.proofs.List.{listed-put, listed-raised, last-within, last-waits, listed-taken, listed-visited}
+use Rattle.tables.proofs.Laws.{here, elsewhere}
 
 -- ---- what comes to a point
 
@@ -34,8 +35,8 @@ effect-listed : (n q m : ℕ) (x : Progress) → Listed n x → q < n → Effect
 effect-listed n q m x l h =
     let two = here (x .state) q 2 (omega (arith, l .state-long)) in
     record {
-      state-else = λ p d. else (x .state) q p 2 d;
-      sets-else = λ p d. else (x .sets) q p (union (item (x .sets) q) m) d;
+      state-else = λ p d. elsewhere (x .state) q p 2 d;
+      sets-else = λ p d. elsewhere (x .sets) q p (union (item (x .sets) q) m) d;
       set-here = here (x .sets) q (union (item (x .sets) q) m) (omega (arith, l .sets-long));
       seen = λ e. omega arith;
       still = λ d. absurd (d two);
@@ -53,7 +54,7 @@ effect n q m x y l h (Raised.rests s e) =
 effect n q m x y l h (Raised.grows s b) =
     record {
       state-else = λ p d. refl;
-      sets-else = λ p d. else (x .sets) q p (union (item (x .sets) q) m) d;
+      sets-else = λ p d. elsewhere (x .sets) q p (union (item (x .sets) q) m) d;
       set-here = here (x .sets) q (union (item (x .sets) q) m) (omega (arith, l .sets-long));
       seen = λ e. omega arith;
       still = λ d. absurd (d s);
@@ -225,14 +226,14 @@ module _ (next : ℕ → List ℕ) (n entry : ℕ) (gen kill : List ℕ) where
     seen-taken a s =
         elim (ℕ-discrete a (last x)) [
           | yes d ↦ rw d (λ e. omega (arith, one))
-          | no d ↦ rw (else (x .state) (last x) a 1 d) s
+          | no d ↦ rw (elsewhere (x .state) (last x) a 1 d) s
         ]
 
     was-seen : (a : ℕ) → (item (taken x .state) a ≡ 0 → ⊥) → item (x .state) a ≡ 0 → ⊥
     was-seen a s =
         elim (ℕ-discrete a (last x)) [
           | yes d ↦ rw d (λ e. omega (arith, last-waits n x l h))
-          | no d ↦ rw (else (x .state) (last x) a 1 d) at s
+          | no d ↦ rw (elsewhere (x .state) (last x) a 1 d) at s
         ]
 
     right-taken : Right next n entry gen kill (last x) (next (last x)) (taken x)
@@ -248,13 +249,13 @@ module _ (next : ℕ → List ℕ) (n entry : ℕ) (gen kill : List ℕ) where
                 | no d ↦
                     seen-taken
                     b
-                    (r .led a b c (was-seen a s) (rw (else (x .state) (last x) a 1 d) at t) k (λ e m. List·Memᴰ·not-nil m))
+                    (r .led a b c (was-seen a s) (rw (elsewhere (x .state) (last x) a 1 d) at t) k (λ e m. List·Memᴰ·not-nil m))
               ];
           passed = λ a b j c s t k g i e.
               elim (ℕ-discrete a (last x)) [
                 | yes d ↦ absurd (g d (rw d at k))
                 | no d ↦
-                    r .passed a b j c (was-seen a s) (rw (else (x .state) (last x) a 1 d) at t) k (λ e m. List·Memᴰ·not-nil m) i e
+                    r .passed a b j c (was-seen a s) (rw (elsewhere (x .state) (last x) a 1 d) at t) k (λ e m. List·Memᴰ·not-nil m) i e
               ];
         }
 
@@ -407,7 +408,7 @@ module _ (n entry : ℕ) (x : Progress) (b : Blank n x) (some : 1 ≤ n) where
     first-other a h s =
         elim (ℕ-discrete a 0) [
           | yes d ↦ d
-          | no d ↦ absurd (s (else (x .state) 0 a 2 d ∙ b .state-zero a h))
+          | no d ↦ absurd (s (elsewhere (x .state) 0 a 2 d ∙ b .state-zero a h))
         ]
 
     first-carried : (a j : ℕ) → a < n → j < 64 → bit (item (listed 0 entry x .sets) a) j ≡ 1 → Carried next entry (item gen) (item kill) j a
@@ -415,7 +416,7 @@ module _ (n entry : ℕ) (x : Progress) (b : Blank n x) (some : 1 ≤ n) where
         elim (ℕ-discrete a 0) [
           | yes d ↦ rw d (Carried.enter (ap (λ (v : ℕ). bit v j) (sym first-set) ∙ rw d at e))
           | no d ↦
-              let z : item (listed 0 entry x .sets) a ≡ 0 = else (x .sets) 0 a entry d ∙ b .sets-zero a h in
+              let z : item (listed 0 entry x .sets) a ≡ 0 = elsewhere (x .sets) 0 a entry d ∙ b .sets-zero a h in
               let g : bit 0 j ≡ 1 = rw z at e in
               absurd (omega (arith, bit-zero j))
         ]

@@ -8,21 +8,15 @@ use mathlib.Core.List.{List, [], _∷_, List·Memᴰ, List·Memᴰ·head, List·
 use mathlib.Core.Logic.{_⊎_, inl, inr, ⊎-elim}
 use lib.Dec.{T}
 use lib.ListN.{length, set}
-use lib.Seq.{getD-set-same, getD-set-other}
 use Rattle.bits.specs.Bits.{bit}
 use Rattle.model.specs.Task.{Func, point}
 use Rattle.model.specs.Walk.{Walk, leads, loads, stores, never}
 use Rattle.theory.proofs.Walks.{walk-trans}
 use Rattle.sweep.specs.Steps.{Covers, Most, Joined, Holds, Moved, FallsOn, LeavesTo, Swept}
 use Rattle.tables.specs.Tables.{item}
+use Rattle.tables.proofs.Laws.{here, elsewhere}
 
--- entries after a store
-here : (l : List ℕ) (p v : ℕ) → p < length l → item (set l p v) p ≡ v
-here l p v h = getD-set-same l p v 0 h
-
-else : (l : List ℕ) (p q v : ℕ) → (q ≡ p → ⊥) → item (set l p v) q ≡ item l q
-else l p q v d = getD-set-other l p q v 0 d
-
+-- an equal set has the same bits
 bit-same : {a b : ℕ} (j : ℕ) → a ≡ b → bit b j ≡ 1 → bit a j ≡ 1
 bit-same j e h = ap (λ (v : ℕ). bit v j) e ∙ h
 
@@ -74,15 +68,15 @@ module _ {mark p m : ℕ} where
         → Moved mark p (q ∷ []) m sets marks (set sets q u) (set marks q mark)
     moved-above u l i k s =
         record {
-          low = λ a h. else sets q a u (λ e. omega arith);
-          kept = λ r e. elim (ℕ-discrete r q) [ yes d ↦ ap (item (set marks q mark)) d ∙ here marks q mark k | no d ↦ else marks q r mark d ∙ e ];
+          low = λ a h. elsewhere sets q a u (λ e. omega arith);
+          kept = λ r e. elim (ℕ-discrete r q) [ yes d ↦ ap (item (set marks q mark)) d ∙ here marks q mark k | no d ↦ elsewhere marks q r mark d ∙ e ];
           grows = λ r e j b. elim (ℕ-discrete r q) [
             | yes d ↦
                 bit-same j (ap (item (set sets q u)) d ∙ here sets q u i)
                 (s .stays (ap (item marks) (sym d) ∙ e) j (bit-same j (ap (item sets) (sym d)) b))
-            | no d ↦ bit-same j (else sets q r u d) b
+            | no d ↦ bit-same j (elsewhere sets q r u d) b
           ];
-          found = λ r e. elim (ℕ-discrete r q) [ yes d ↦ inr (List·Memᴰ·head d) | no d ↦ inl (sym (else marks q r mark d) ∙ e) ];
+          found = λ r e. elim (ℕ-discrete r q) [ yes d ↦ inr (List·Memᴰ·head d) | no d ↦ inl (sym (elsewhere marks q r mark d) ∙ e) ];
           brought = λ r j n b.
               let d = one-member n in (
                 inr (ap (item (set marks q mark)) d ∙ here marks q mark k),
@@ -90,7 +84,7 @@ module _ {mark p m : ℕ} where
               );
           most = λ h r. elim (ℕ-discrete r q) [
             | yes d ↦ omega (arith, ap (item (set marks q mark)) d ∙ here marks q mark k)
-            | no d ↦ omega (arith, else marks q r mark d, h r)
+            | no d ↦ omega (arith, elsewhere marks q r mark d, h r)
           ];
         }
 
@@ -144,7 +138,7 @@ has-stored {mark} {p} {c} {m} {sets} {marks} l s q j h =
     elim (ℕ-discrete q p) [
       | yes d ↦ (inl (omega arith), bit-same j (ap (item (set sets p m)) d ∙ here sets p m l) (at d h))
       | no d ↦ ⊎-elim
-          (λ (k : Holds mark p sets marks q j). (⊎-elim (λ (i : q < p). inl (omega arith)) (λ e. inr e) (k .0), bit-same j (else sets p q m d) (k .1)))
+          (λ (k : Holds mark p sets marks q j). (⊎-elim (λ (i : q < p). inl (omega arith)) (λ e. inr e) (k .0), bit-same j (elsewhere sets p q m d) (k .1)))
           (λ k. absurd (d (k .0)))
           h
     ]
@@ -168,7 +162,7 @@ module _
     at-point = v .low p (omega arith) ∙ here sets p m l
 
     before : (a : ℕ) → a < p → item sets′ a ≡ item sets a
-    before a h = v .low a (omega arith) ∙ else sets p a m (λ e. omega arith)
+    before a h = v .low a (omega arith) ∙ elsewhere sets p a m (λ e. omega arith)
 
     stands : (q j : ℕ) → Has mark p c sets marks q j → Holds mark (suc p) sets′ marks′ q j
     stands q j h = moved-holds v q j (has-stored l s q j h)

@@ -6,17 +6,17 @@ use mathlib.Core.Path.{_≡_, refl, ap, sym, _∙_}
 use mathlib.Core.Bool.{Bool, true, false}
 use mathlib.Core.List.{List, [], _∷_, _++_}
 use mathlib.Core.Option.{some}
-use lib.ListN.{length, getD, take, length-append}
+use lib.ListN.{length, getD, take, length-append, set}
 use lib.ListN.{List·getD-append}
 use lib.Dec.{T, ltb, eqb, ltb→lt, lt→ltb}
 use borrow.Author.Tests.{ne-eqb, le-ltb}
-use lib.Seq.{getD-at, take-append-le, take-all}
+use lib.Seq.{getD-at, take-append-le, take-all, getD-set-same, getD-set-other}
 use Rattle.model.specs.declared.Point.{Point}
 use Rattle.model.specs.declared.Point.the-variants.{Load, Store, Call, Ensure, Goto, Either, Return}
 use Rattle.model.specs.Basic.{if_then_else_, sumOf}
 use Rattle.model.specs.Task.{Func, size, func, point, empty, inAll, funcLine, offsetFits}
 use Rattle.model.specs.Walk.{loaded, leadsFrom, leads}
-use Rattle.tables.specs.Tables.{pointOf, kindOf, isAccess, firstArgument, secondArgument, pointAt, frameAt, baseAt, sizeAt, pointsOf, funcOf, funcsOf, taskOf, Stacked, none, more, function, sum}
+use Rattle.tables.specs.Tables.{pointOf, kindOf, isAccess, firstArgument, secondArgument, pointAt, frameAt, baseAt, sizeAt, pointsOf, funcOf, funcsOf, taskOf, Stacked, none, more, function, sum, item}
 
 -- a point survives being written as numbers
 pub point-back : (p : Point) → pointOf (kindOf p) (firstArgument p) (secondArgument p) ≡ p
@@ -189,3 +189,10 @@ sum-but f g q (suc n) h e =
       | yes d ↦ omega (arith, ap f d, ap g d, sum-same f g n (λ p k. e p (omega arith)))
       | no d ↦ omega (arith, sum-but f g q n (omega arith) e, e n d)
     ]
+
+-- a table after a write: the entry there, and every other one
+pub here : (l : List ℕ) (q v : ℕ) → q < length l → item (set l q v) q ≡ v
+here l q v h = getD-set-same l q v 0 h
+
+pub elsewhere : (l : List ℕ) (q p v : ℕ) → (p ≡ q → ⊥) → item (set l q v) p ≡ item l p
+elsewhere l q p v h = getD-set-other l q p v 0 h
