@@ -92,43 +92,68 @@ store o v c =
       memory = c .memory;
     }
 
--- a preemption at a point with these figures: the blocks from the lowest live offset up are saved, the other task leaves v in every
--- block, and as many come back as the point needs
+-- a preemption at a point with these figures: with e the lowest live offset, at most the occupancy, the blocks from e up go out, and as
+-- many come back as the point needs
 abbrev pub savedFrom : ℕ → ℕ → ℕ
 savedFrom dead n = min n dead
 
 abbrev pub resumed : ℕ → ℕ → ℕ → ℕ
 resumed dead need n = min n (max dead need)
 
-unfoldable pub preemptMoves : ℕ → ℕ → ℕ → ℕ
-preemptMoves dead need n = n - savedFrom dead n + (resumed dead need n - savedFrom dead n)
+abbrev pub saveMoves : ℕ → ℕ → ℕ
+saveMoves dead n = n - savedFrom dead n
 
-unfoldable pub savedMemory : ℕ → Core → List ℕ
-savedMemory dead c =
-    spilled
-    (c .cache)
-    (c .memory)
-    (c .st + savedFrom dead (c .occupancy))
-    (c .occupancy - savedFrom dead (c .occupancy))
+abbrev pub resumeMoves : ℕ → ℕ → ℕ → ℕ
+resumeMoves dead need n = resumed dead need n - savedFrom dead n
 
-unfoldable pub preempt : ℕ → ℕ → ℕ → Core → Moved
-preempt dead need v c =
+-- its first half: what goes out. ST and the occupancy are set aside
+unfoldable pub save : ℕ → Core → Moved
+save dead c =
+    record {
+      core = record {
+        st = c .st;
+        occupancy = c .occupancy;
+        cache = c .cache;
+        memory =
+            spilled
+            (c .cache)
+            (c .memory)
+            (c .st + savedFrom dead (c .occupancy))
+            (saveMoves dead (c .occupancy));
+      };
+      blocks = saveMoves dead (c .occupancy);
+    }
+
+-- between the halves others use the cache
+abbrev pub withCache : List ℕ → Core → Core
+withCache cache c = record { st = c .st; occupancy = c .occupancy; cache = cache; memory = c .memory }
+
+-- its second half: what comes back, whatever the cache holds
+unfoldable pub resume : ℕ → ℕ → Core → Moved
+resume dead need c =
     record {
       core = record {
         st = c .st;
         occupancy = resumed dead need (c .occupancy);
         cache =
             filled
-            (savedMemory dead c)
-            (replicate (length (c .cache)) v)
+            (c .memory)
+            (c .cache)
             (c .st + savedFrom dead (c .occupancy))
-            (resumed dead need (c .occupancy) - savedFrom dead (c .occupancy));
-        memory = savedMemory dead c;
+            (resumeMoves dead need (c .occupancy));
+        memory = c .memory;
       };
-      blocks = preemptMoves dead need (c .occupancy);
+      blocks = resumeMoves dead need (c .occupancy);
     }
 
--- a fresh start: ST is the length of the memory, nothing is cached, and function 0 with frame k is entered
-unfoldable pub fresh : ℕ → List ℕ → List ℕ → Core
-fresh k cache memory =
-    reserve k (record { st = length memory; occupancy = 0; cache = cache; memory = memory }) .core
+-- both, others having left this cache
+abbrev pub preempt : ℕ → ℕ → List ℕ → Core → Core
+preempt dead need cache c = resume dead need (withCache cache (save dead c .core)) .core
+
+-- one other task, which left v in every block
+abbrev pub filledWith : ℕ → Core → List ℕ
+filledWith v c = replicate (length (c .cache)) v
+
+-- a core before its task: ST is the length of the memory, and nothing is cached
+abbrev pub idle : List ℕ → List ℕ → Core
+idle cache memory = record { st = length memory; occupancy = 0; cache = cache; memory = memory }

@@ -1,5 +1,6 @@
--- The figures of a task, all in blocks. The walks run inside one function; displacements go from callees to callers, the entry
--- occupancy and the chain from callers to callees. Calls lead to later functions, which bounds the depth of both.
+-- The figures of a task that come from its walks and its calls, in blocks; Sheet puts cost together from them. The walks run inside one
+-- function; displacements go from callees to callers, the entry occupancy and the chain from callers to callees. Calls lead to later
+-- functions, which bounds the depth of both.
 use Prim.Native.Nat.{ℕ, zero, suc, pred, _+_, _-_, _*_, min, max}
 use mathlib.Core.Bool.{Bool, _&&_}
 use mathlib.Core.List.{List, [], _∷_}
@@ -115,13 +116,14 @@ spill t f = entry t f + func t f .frame - t .stack
 abbrev pub kept : Task → ℕ → ℕ → ℕ
 kept t f p = func t f .frame - fill t f p
 
--- chain: the delayed fills of the callers, what their first ensures may have to fill above their fill, along the dearest chain of calls
-unfoldable pub chainTo : Task → ℕ → ℕ → ℕ
-chainTo t zero f = 0
-chainTo t (suc n) f = overCalls t f (λ h p. chainTo t n h + kept t h (suc p))
+-- chain: the delayed fills of the callers, what their first ensures may have to fill above their fill, along the dearest chain of calls.
+-- Each is priced (in document 01 a price of n blocks is n)
+unfoldable pub chainTo : (ℕ → ℕ) → Task → ℕ → ℕ → ℕ
+chainTo price t zero f = 0
+chainTo price t (suc n) f = overCalls t f (λ h p. chainTo price t n h + price (kept t h (suc p)))
 
-unfoldable pub chain : Task → ℕ → ℕ
-chain t f = chainTo t f f
+unfoldable pub chain : (ℕ → ℕ) → Task → ℕ → ℕ
+chain price t f = chainTo price t f f
 
 -- q: the largest such part over the first ensures on walks from p, p included
 unfoldable pub firstEnsure : Func → ℕ → ℕ → Bool
@@ -129,17 +131,3 @@ firstEnsure x e p = someWalk x (isEnsure x) (λ q. eqb e q && isEnsure x q) p
 
 unfoldable pub keptNext : Task → ℕ → ℕ → ℕ
 keptNext t f p = largest (kept t f) (select (λ e. firstEnsure (func t f) e p) (upTo (size (func t f))))
-
--- the preemption cost (cache-related preemption delay, in blocks) and its parts: save and reload at the preemption itself, later and chain the
--- delayed fills of the running frame and of its callers
-unfoldable pub save : Task → ℕ → ℕ → ℕ
-save t f p = high t f p - dead (func t f) p
-
-unfoldable pub reload : Task → ℕ → ℕ → ℕ
-reload t f p = need (func t f) p - dead (func t f) p
-
-unfoldable pub later : Task → ℕ → ℕ → ℕ
-later t f p = keptNext t f p - need (func t f) p
-
-unfoldable pub cost : Task → ℕ → ℕ → ℕ
-cost t f p = save t f p + reload t f p + later t f p + chain t f

@@ -19,6 +19,14 @@ pub record Event : Type 0 where
   pub kind : ℕ
   pub value : ℕ
 
+-- what an event that is not refused asks for: a step with a value, or a preemption by a task that leaves a value
+pub data Act : Type 0 where
+  takes : ℕ → Act
+  preempted : ℕ → Act
+
+unfoldable pub act : Event → Act
+act e = if eqb (e .kind) 0 then takes (e .value) else preempted (e .value)
+
 -- the events of a list of numbers, two numbers each
 unfoldable pub eventsOf : List ℕ → List Event
 eventsOf [] = []
@@ -53,10 +61,10 @@ stepped t x fs (Either q r) v = movedTo (if eqb v 0 then q else r) x ∷ fs
 stepped t x fs Return v = fs
 
 -- the frames after an event that is not refused: a preemption changes nothing
-unfoldable pub afterEvent : Task → List Frame → Event → List Frame
-afterEvent t [] e = []
-afterEvent t (x ∷ fs) e =
-    if eqb (e .kind) 0 then stepped t x fs (point (func t (x .fn)) (x .at)) (e .value) else x ∷ fs
+unfoldable pub afterEvent : Task → List Frame → Act → List Frame
+afterEvent t [] a = []
+afterEvent t (x ∷ fs) (takes v) = stepped t x fs (point (func t (x .fn)) (x .at)) v
+afterEvent t (x ∷ fs) (preempted v) = x ∷ fs
 
 -- the answer of such an event: the number loaded, else 0
 abbrev pub loadedFrom : List ℕ → Point → ℕ
@@ -68,9 +76,10 @@ loadedFrom l (Goto p) = 0
 loadedFrom l (Either p q) = 0
 loadedFrom l Return = 0
 
-unfoldable pub answerOf : Task → List Frame → Event → ℕ
-answerOf t [] e = 0
-answerOf t (x ∷ fs) e = if eqb (e .kind) 0 then loadedFrom (x .numbers) (point (func t (x .fn)) (x .at)) else 0
+unfoldable pub answerOf : Task → List Frame → Act → ℕ
+answerOf t [] a = 0
+answerOf t (x ∷ fs) (takes v) = loadedFrom (x .numbers) (point (func t (x .fn)) (x .at))
+answerOf t (x ∷ fs) (preempted v) = 0
 
 -- what the plain stack gives: how it ended, how many events were done, and the answer of each
 pub record Plain : Type 0 where
@@ -88,8 +97,8 @@ plainFrom t i fs [] = record { ending = AllDone; done = 0; answers = [] }
 plainFrom t i fs (e ∷ es) =
     orPlain
     (eventRows i (e .kind) (e .value) (running t fs))
-    (answerOf t fs e)
-    (plainFrom t (suc i) (afterEvent t fs e) es)
+    (answerOf t fs (act e))
+    (plainFrom t (suc i) (afterEvent t fs (act e)) es)
 
 -- function 0 has been entered, its frame all zeros
 abbrev pub plain : Task → List Event → Plain

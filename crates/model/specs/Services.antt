@@ -13,6 +13,7 @@ use Rattle.model.specs.Basic.{if_then_else_}
 use Rattle.model.specs.Task.{Judged, refused, task}
 use Rattle.model.specs.Sheet.{sheetOf, reportText}
 use Rattle.model.specs.Refusal.{workLength, judge, checkRows, reportRows, runRows, packed}
+use Rattle.model.specs.Core.{idle}
 use Rattle.model.specs.Plain.{Event, eventsOf}
 use Rattle.model.specs.Run.{Ran, ran, allowed}
 
@@ -91,7 +92,7 @@ runAs (refused r) work es answers cache memory =
       memory = memory;
     }
 runAs (task t) work es answers cache memory =
-    servedAs (ran t (sheetOf t) cache memory es) (allowed t (sheetOf t) es) work answers
+    servedAs (ran t (sheetOf t) (idle cache memory) es) (allowed t (sheetOf t) es) work answers
 
 unfoldable pub runOf : List ℕ → List ℕ → List ℕ → List ℕ → List ℕ → List ℕ → AfterRun
 runOf text work events answers cache memory =

@@ -1,5 +1,5 @@
--- The preemption sheet: the figures as one record, and the bytes of the report.
-use Prim.Native.Nat.{ℕ, zero, suc, _+_, _/_, _%_}
+-- The preemption sheet: the figures as one record, the formulas of the cost and its parts, and the bytes of the report.
+use Prim.Native.Nat.{ℕ, zero, suc, _+_, _-_, _/_, _%_}
 use mathlib.Core.List.{List, [], _∷_, _++_}
 use lib.Dec.{ltb}
 use Rattle.model.specs.Basic.{if_then_else_, joined, upTo}
@@ -19,28 +19,58 @@ pub record Figured : Type 0 where
   pub cost : ℕ
   pub fill : ℕ
 
--- a sheet: what runs are measured against. Any rule for the figures gives one
+-- a sheet: what runs are measured against. Both sides count a move of n blocks by its price, which in document 01 is n itself. Any rule for
+-- the figures gives a sheet
 pub record Sheet : Type 0 where
+  pub price : ℕ → ℕ
   pub spill : ℕ → ℕ
+  pub chain : ℕ → ℕ
   pub at : ℕ → ℕ → Figured
 
--- the sheet of a task
-unfoldable pub figured : Task → ℕ → ℕ → Figured
-figured t f p =
+-- the preemption cost (cache-related preemption delay) and its parts, from the figures that walks give: save and reload at the preemption
+-- itself, later and chain the delayed fills of the running frame and of its callers. next is q, and fill is in blocks
+unfoldable pub costed : (ℕ → ℕ) → (high dead need next chain fill : ℕ) → Figured
+costed price high dead need next chain fill =
     record {
-      high = Figures.high t f p;
-      dead = Figures.dead (func t f) p;
-      need = Figures.need (func t f) p;
-      save = Figures.save t f p;
-      reload = Figures.reload t f p;
-      later = Figures.later t f p;
-      chain = Figures.chain t f;
-      cost = Figures.cost t f p;
-      fill = Figures.fill t f p;
+      high = high;
+      dead = dead;
+      need = need;
+      save = price (high - dead);
+      reload = price (need - dead);
+      later = price (next - need);
+      chain = chain;
+      cost = price (high - dead) + price (need - dead) + price (next - need) + chain;
+      fill = price fill;
     }
 
+-- the sheet of a task, for dead and need of each point
+abbrev pub sheetWith : (ℕ → ℕ) → Task → (ℕ → ℕ → ℕ) → (ℕ → ℕ → ℕ) → Sheet
+sheetWith price t dead need =
+    record {
+      price = price;
+      spill = λ f. price (Figures.spill t f);
+      chain = Figures.chain price t;
+      at = λ f p.
+          costed
+          price
+          (Figures.high t f p)
+          (dead f p)
+          (need f p)
+          (Figures.keptNext t f p)
+          (Figures.chain price t f)
+          (Figures.fill t f p);
+    }
+
+-- with those of its own walks
+abbrev pub pricedSheet : (ℕ → ℕ) → Task → Sheet
+pricedSheet price t = sheetWith price t (λ f. Figures.dead (func t f)) (λ f. Figures.need (func t f))
+
+-- document 01: a price of n blocks is n
+abbrev pub inBlocks : ℕ → ℕ
+inBlocks n = n
+
 abbrev pub sheetOf : Task → Sheet
-sheetOf t = record { spill = Figures.spill t; at = figured t }
+sheetOf t = pricedSheet inBlocks t
 
 -- a number in decimal, by at most n digits
 unfoldable pub decimalTo : ℕ → ℕ → List ℕ
@@ -56,16 +86,16 @@ decimal m = decimalTo (suc m) m
 unfoldable pub row : List ℕ → List ℕ → List ℕ
 row word numbers = word ++ (joined (λ m. bytes " " ++ decimal m) numbers ++ bytes ")\n")
 
-unfoldable pub funcRow : Task → ℕ → List ℕ
-funcRow t f =
+unfoldable pub funcRow : Task → Sheet → ℕ → List ℕ
+funcRow t s f =
     row
     (bytes "  (func")
     (f
     ∷ func t f .frame
     ∷ Figures.shortest t f
     ∷ Figures.longest t f
-    ∷ Figures.spill t f
-    ∷ Figures.chain t f
+    ∷ s .spill f
+    ∷ s .chain f
     ∷ [])
 
 unfoldable pub pointRow : ℕ → Figured → List ℕ
@@ -85,8 +115,11 @@ pointRow p x =
     ∷ [])
 
 -- a function's lines, and the report
-unfoldable pub funcRows : Task → ℕ → List ℕ
-funcRows t f = funcRow t f ++ joined (λ p. pointRow p (figured t f p)) (upTo (size (func t f)))
+unfoldable pub funcRows : Task → Sheet → ℕ → List ℕ
+funcRows t s f = funcRow t s f ++ joined (λ p. pointRow p (s .at f p)) (upTo (size (func t f)))
 
-unfoldable pub reportText : Task → List ℕ
-reportText t = bytes "(report\n" ++ (joined (funcRows t) (upTo (count t)) ++ bytes ")\n")
+unfoldable pub reportWith : Task → Sheet → List ℕ
+reportWith t s = bytes "(report\n" ++ (joined (funcRows t s) (upTo (count t)) ++ bytes ")\n")
+
+abbrev pub reportText : Task → List ℕ
+reportText t = reportWith t (sheetOf t)

@@ -191,9 +191,9 @@ module _ (t : Task) (later : CallsLater t) where
   entry-is f = callers-is (λ h p e. highFrom t h e p) (entryTo t) (λ f. refl) (λ n f. refl) f
 
   -- chain: the largest sum over the points that call f of the caller's chain and the part kept after the call
-  pub chain-is : (f : ℕ) → chain t f ≡ overCalls t f (λ h p. chain t h + kept t h (suc p))
+  pub chain-is : (price : ℕ → ℕ) (f : ℕ) → chain price t f ≡ overCalls t f (λ h p. chain price t h + price (kept t h (suc p)))
   unfolding chain chainTo
-  chain-is f = callers-is (λ h p c. c + kept t h (suc p)) (chainTo t) (λ f. refl) (λ n f. refl) f
+  chain-is price f = callers-is (λ h p c. c + price (kept t h (suc p))) (chainTo price t) (λ f. refl) (λ n f. refl) f
 
 -- E of function 0
 pub entry-zero : (t : Task) → entry t 0 ≡ 0
@@ -201,6 +201,6 @@ unfolding entry entryTo
 entry-zero t = refl
 
 -- the chain of function 0
-pub chain-zero : (t : Task) → chain t 0 ≡ 0
+pub chain-zero : (price : ℕ → ℕ) (t : Task) → chain price t 0 ≡ 0
 unfolding chain chainTo
-chain-zero t = refl
+chain-zero price t = refl

@@ -1,7 +1,7 @@
 -- What cache and memory hold over a run: at the address of each live offset of each frame, the number that the plain stack has there.
 -- So a run answers every event as the plain stack does.
 use Prim.Native.Nat.{ℕ, suc, _+_, _-_, _≤_, _<_}
-use mathlib.Core.Bool.{Bool, true, false, not}
+use mathlib.Core.Bool.{false, not}
 use mathlib.Core.List.{List, [], _∷_, List·Memᴰ, List·Memᴰ·head, List·Memᴰ·tail}
 use mathlib.Core.Logic.{inl}
 use mathlib.Core.Path.{_≡_, refl, ap, sym, _∙_}
@@ -12,23 +12,23 @@ use lib.ListN.{length, getD, set}
 use lib.Seq.{getD-set-same, getD-set-other}
 use Rattle.model.specs.declared.Point.{Point}
 use Rattle.model.specs.declared.Point.the-variants.{Load, Store, Call, Ensure, Goto, Either, Return}
-use Rattle.model.specs.Basic.{if_then_else_}
 use Rattle.model.specs.Task.{Task, count, func, point}
-use Rattle.model.specs.Walk.{leads, loaded, called, stores, touches}
-use Rattle.model.specs.Core.{Core, reserve, free, ensure, load, store, preempt, fresh}
-use Rattle.model.specs.Figures.{uninitialised, live, dead, need}
-use Rattle.model.specs.Sheet.{sheetOf}
-use Rattle.model.specs.Plain.{Event, Frame, entered, movedTo, stepped, afterEvent, loadedFrom, answerOf}
-use Rattle.model.specs.Run.{stepTurn, preemptTurn, turn}
+use Rattle.model.specs.Walk.{leads, loaded, called, stores}
+use Rattle.model.specs.Core.{Core, reserve, free, ensure, load, store, save, resume}
+use Rattle.model.specs.Figures.{uninitialised, live}
+use Rattle.model.specs.Sheet.{Sheet}
+use Rattle.model.specs.Plain.{Frame, entered, movedTo, stepped, loadedFrom}
+use Rattle.model.specs.Run.{stepTurn}
 use Rattle.theory.proofs.Lists.{by-test, or-holds}
 use Rattle.theory.proofs.Accepted.{WellFormed}
 use Rattle.theory.proofs.Links.{is-holds, callee-later}
 use Rattle.theory.proofs.Figures.{walk-inside, uninitialised-walk, live-met}
-use Rattle.theory.proofs.Rules.{dead-frame, dead-live, live-load, need-touch, live-along}
-use Rattle.theory.proofs.Sheet.{closed-in, in-frame}
-use Rattle.theory.proofs.Frames.{places, In, Below, Standing, total, Needed, Window, coreAfter}
-use Rattle.theory.proofs.Window.{by-core, room-below, ensures-frame}
-use Rattle.theory.proofs.Numbers.{numberAt, number-cached, reserve-keeps, free-keeps, ensure-keeps, store-keeps, store-at, preempt-keeps}
+use Rattle.theory.proofs.Rules.{live-load, live-along}
+use Rattle.theory.proofs.Sheet.{closed-in}
+use Rattle.theory.proofs.Sound.{Sound}
+use Rattle.theory.proofs.Frames.{places, In, Below, total, Window}
+use Rattle.theory.proofs.Window.{room-below, touched-cached, ensures-frame}
+use Rattle.theory.proofs.Numbers.{numberAt, number-cached, reserve-keeps, free-keeps, ensure-keeps, store-keeps, store-at, save-keeps, resume-brings}
 
 -- a frame that starts at address a: the number at each live offset is the frame's; number gives what stands at an address
 abbrev pub FrameHolds : Task → (ℕ → ℕ) → ℕ → Frame → Type 0
@@ -44,6 +44,10 @@ HoldsFrom t number a (x ∷ fs) = FrameHolds t number a x × HoldsFrom t number 
 abbrev pub Holds : Task → List Frame → Core → Type 0
 Holds t fs c = HoldsFrom t (numberAt c) (c .st) fs
 
+-- the memory alone holds them: so it is while the task waits, whoever has the cache
+abbrev pub Stored : Task → List Frame → Core → Type 0
+Stored t fs c = HoldsFrom t (λ a. getD (c .memory) a 0) (c .st) fs
+
 -- a move that keeps the number at each address of the frames
 holds-same : (t : Task) (before now : ℕ → ℕ) (a : ℕ) (fs : List Frame)
     → ((b : ℕ) → a ≤ b → b < a + total t fs → now b ≡ before b) → HoldsFrom t before a fs → HoldsFrom t now a fs
@@ -54,7 +58,7 @@ holds-same t before now a (x ∷ fs) same h = (
   holds-same t before now (a + func t (x .fn) .frame) fs (λ b l m. same b (omega arith) (omega arith)) (h .1),
 )
 
-module _ (t : Task) (w : WellFormed t) where
+module _ (t : Task) (s : Sheet) (w : WellFormed t) (r : Sound t s) where
   -- nothing is live at the first point of a function
   live-first : (f o : ℕ) → f < count t → T (live (func t f) o 0) → ⊥
   live-first f o h l =
@@ -69,37 +73,29 @@ module _ (t : Task) (w : WellFormed t) where
   holds-along : (x : Frame) (fs : List Frame) (number : ℕ → ℕ) (a q : ℕ) → In t x → List·Memᴰ q (leads (func t (x .fn)) (x .at))
       → ((o : ℕ) → T (not (stores (func t (x .fn)) o (x .at)))) → HoldsFrom t number a (x ∷ fs) → HoldsFrom t number a (movedTo q x ∷ fs)
   unfolding HoldsFrom
-  holds-along x fs number a q i m s h = (
-    λ o l v. h .0 o l (live-along (func t (x .fn)) (closed-in w (x .fn) (i .fn-in)) (x .at) (i .at-in) q m o (s o) v),
+  holds-along x fs number a q i m j h = (
+    λ o l v. h .0 o l (live-along (func t (x .fn)) (closed-in w (x .fn) (i .fn-in)) (x .at) (i .at-in) q m o (j o) v),
     h .1,
   )
 
-  -- what the running frame touches is cached
-  touched-cached : (x : Frame) (fs : List Frame) (c : Core) (o : ℕ) → In t x → T (touches (func t (x .fn)) o (x .at)) → Window t (x ∷ fs) c
-      → (o < func t (x .fn) .frame) × (o < c .occupancy)
-  unfolding Needed
-  touched-cached x fs c o i h u =
-      let l = in-frame w (x .fn) (i .fn-in) o (x .at) (i .at-in) h in
-      (l, omega (arith, u .needed, need-touch (func t (x .fn)) (closed-in w (x .fn) (i .fn-in)) (x .at) (i .at-in) o l h))
-
   -- what each move of the core leaves
   holds-store : (x : Frame) (fs : List Frame) (c : Core) (o v : ℕ) → point (func t (x .fn)) (x .at) ≡ Store o → In t x
-      → Window t (x ∷ fs) c → Holds t (x ∷ fs) c
+      → Window t s (x ∷ fs) c → Holds t (x ∷ fs) c
       → Holds t (record { fn = x .fn; at = suc (x .at); numbers = set (x .numbers) o v } ∷ fs) (store o v c)
   unfolding HoldsFrom store leads
   holds-store x fs c o v e i u h =
-      let k = touched-cached x fs c o i (rw e (eqb-refl o)) u in
-      let r : c .occupancy ≤ length (c .cache) = omega (arith, u .fits, u .blocks) in (
+      let k = touched-cached t s w r x fs c o i (rw e (eqb-refl o)) u in
+      let z : c .occupancy ≤ length (c .cache) = omega (arith, u .fits, u .blocks) in (
         λ a l live-after. elim (ℕ-discrete a o) [
-          | yes z ↦ rw z (store-at c o v (k .1) r ∙ sym (getD-set-same (x .numbers) o v 0 (omega (arith, k .0, i .whole))))
-          | no z ↦
-              store-keeps c (c .st + a) o v (k .1) r (omega arith) (λ y. z (omega arith))
+          | yes y ↦ rw y (store-at c o v (k .1) z ∙ sym (getD-set-same (x .numbers) o v 0 (omega (arith, k .0, i .whole))))
+          | no n ↦
+              store-keeps c (c .st + a) o v (k .1) z (omega arith) (λ y. n (omega arith))
               ∙ h .0 a l (live-along (func t (x .fn)) (closed-in w (x .fn) (i .fn-in)) (x .at) (i .at-in) (suc (x .at))
-              (rw e (List·Memᴰ·head refl)) a (rw e (not-T (eqb a o) (λ s. z (eqb→eq a o s)))) live-after)
-              ∙ sym (getD-set-other (x .numbers) o a v 0 z)
+              (rw e (List·Memᴰ·head refl)) a (rw e (not-T (eqb a o) (λ j. n (eqb→eq a o j)))) live-after)
+              ∙ sym (getD-set-other (x .numbers) o a v 0 n)
         ],
         holds-same t (numberAt c) (numberAt (store o v c)) (c .st + func t (x .fn) .frame) fs
-            (λ b l m. store-keeps c b o v (k .1) r (omega arith) (λ y. omega (arith, k .0))) (h .1),
+            (λ b l m. store-keeps c b o v (k .1) z (omega arith) (λ y. omega (arith, k .0))) (h .1),
       )
 
   holds-reserve : (fs : List Frame) (c : Core) (g : ℕ) → g < count t → func t g .frame ≤ c .st
@@ -118,7 +114,7 @@ module _ (t : Task) (w : WellFormed t) where
       holds-same t (numberAt c) (numberAt (free (func t (x .fn) .frame) c)) (c .st + func t (x .fn) .frame) fs
       (λ b l m. free-keeps c b (func t (x .fn) .frame) l) (h .1)
 
-  holds-ensure : (x : Frame) (fs : List Frame) (c : Core) → In t x → Window t (x ∷ fs) c → Holds t (x ∷ fs) c
+  holds-ensure : (x : Frame) (fs : List Frame) (c : Core) → In t x → Window t s (x ∷ fs) c → Holds t (x ∷ fs) c
       → Holds t (x ∷ fs) (ensure (func t (x .fn) .frame) c .core)
   unfolding ensure
   holds-ensure x fs c i u =
@@ -126,81 +122,72 @@ module _ (t : Task) (w : WellFormed t) where
       (λ b l m. ensure-keeps c b (func t (x .fn) .frame) (omega (arith, u .blocks, w .shaped .frames (x .fn) (i .fn-in)))
       (omega (arith, u .fits, u .blocks)) l)
 
-  holds-preempt : (x : Frame) (fs : List Frame) (c : Core) (n v : ℕ) → Window t (x ∷ fs) c → Holds t (x ∷ fs) c
-      → Holds t (x ∷ fs) (preempt (dead (func t (x .fn)) (x .at)) n v c .core)
-  unfolding HoldsFrom total preempt
-  holds-preempt x fs c n v u h =
-      let d = dead (func t (x .fn)) (x .at) in
-      let r : c .occupancy ≤ length (c .cache) = omega (arith, u .fits, u .blocks) in (
-        λ o l k.
-            preempt-keeps c (c .st + o) d n v r (omega (arith, dead-live (func t (x .fn)) (x .at) o l k)) (omega (arith, u .top)) ∙ h .0 o l k,
-        holds-same t (numberAt c) (numberAt (preempt d n v c .core)) (c .st + func t (x .fn) .frame) fs
-            (λ b l m. preempt-keeps c b d n v r (omega (arith, dead-frame (func t (x .fn)) (x .at))) (omega (arith, u .top))) (h .1),
+  -- what keeps the number at each address from the lowest live one up keeps the contents
+  holds-above : (x : Frame) (fs : List Frame) (before now : ℕ → ℕ) (a : ℕ) → In t x
+      → ((b : ℕ) → a + s .at (x .fn) (x .at) .dead ≤ b → b < a + total t (x ∷ fs) → now b ≡ before b)
+      → HoldsFrom t before a (x ∷ fs) → HoldsFrom t now a (x ∷ fs)
+  unfolding HoldsFrom total
+  holds-above x fs before now a i same h =
+      let k = r .at (x .fn) (x .at) (i .fn-in) (i .at-in) in (
+        λ o l v. same (a + o) (omega (arith, k .marked .dead-live o l v)) (omega arith) ∙ h .0 o l v,
+        holds-same t before now (a + func t (x .fn) .frame) fs (λ b l m. same b (omega (arith, k .marked .dead-frame)) (omega arith)) (h .1),
       )
 
+  -- the halves of a preemption: the first leaves in memory all that is live, and the second needs no more, whatever the cache holds
+  pub holds-save : (x : Frame) (fs : List Frame) (c : Core) → In t x → Window t s (x ∷ fs) c → Holds t (x ∷ fs) c
+      → Stored t (x ∷ fs) (save (s .at (x .fn) (x .at) .dead) c .core)
+  holds-save x fs c i u h =
+      unfold save in holds-above x fs (numberAt c) (λ a. getD (save (s .at (x .fn) (x .at) .dead) c .core .memory) a 0) (c .st) i
+      (λ b l m. save-keeps c b (s .at (x .fn) (x .at) .dead) (omega (arith, l)) (omega (arith, m, u .top))) h
+
+  pub holds-resume : (x : Frame) (fs : List Frame) (c : Core) (n : ℕ) → In t x → Window t s (x ∷ fs) c → Stored t (x ∷ fs) c
+      → Holds t (x ∷ fs) (resume (s .at (x .fn) (x .at) .dead) n c .core)
+  holds-resume x fs c n i u h =
+      unfold resume in holds-above x fs (λ a. getD (c .memory) a 0) (numberAt (resume (s .at (x .fn) (x .at) .dead) n c .core)) (c .st) i
+      (λ b l m. resume-brings c b (s .at (x .fn) (x .at) .dead) n (omega (arith, u .fits, u .blocks)) (omega (arith, l))) h
+
   -- a step, by the point at which the running frame stands
-  holds-step : (x : Frame) (fs : List Frame) (c : Core) (y : Point) (v : ℕ) → point (func t (x .fn)) (x .at) ≡ y → In t x → Below t (x .fn) fs
-      → Window t (x ∷ fs) c → Holds t (x ∷ fs) c → Holds t (stepped t x fs y v) (stepTurn t (x .fn) (x .at) (places fs) c y v .state .core)
+  pub holds-step : (x : Frame) (fs : List Frame) (c : Core) (y : Point) (v : ℕ) → point (func t (x .fn)) (x .at) ≡ y → In t x → Below t (x .fn) fs
+      → Window t s (x ∷ fs) c → Holds t (x ∷ fs) c → Holds t (stepped t x fs y v) (stepTurn t (x .fn) (x .at) (places fs) c y v .state .core)
   unfolding leads total
   holds-step x fs c (Load o) v e i b u h = holds-along x fs (numberAt c) (c .st) (suc (x .at)) i (rw e (List·Memᴰ·head refl)) (λ o. rw e tt) h
   holds-step x fs c (Store o) v e i b u h = holds-store x fs c o v e i u h
   holds-step x fs c (Call g) v e i b u h =
       let l = callee-later (w .linked) (x .fn) (x .at) g (i .fn-in) (i .at-in) (ap called e) in
       let m : List·Memᴰ (suc (x .at)) (leads (func t (x .fn)) (x .at)) = rw e (List·Memᴰ·head refl) in
-      holds-reserve (movedTo (suc (x .at)) x ∷ fs) c g (l .1) (room-below t w x fs c g i b e u) (u .top)
+      holds-reserve (movedTo (suc (x .at)) x ∷ fs) c g (l .1) (room-below t s w r x fs c g i b e u) (u .top)
       (holds-along x fs (numberAt c) (c .st) (suc (x .at)) i m (λ o. rw e tt) h)
   holds-step x fs c (Ensure k) v e i b u h =
       holds-along x fs (numberAt (ensure k c .core)) (ensure k c .core .st) (suc (x .at)) i (rw e (List·Memᴰ·head refl)) (λ o. rw e tt)
       (rw (ensures-frame t w x k i e) (holds-ensure x fs c i u h))
   holds-step x fs c (Goto q) v e i b u h = holds-along x fs (numberAt c) (c .st) q i (rw e (List·Memᴰ·head refl)) (λ o. rw e tt) h
-  holds-step x fs c (Either q r) v e i b u h =
-      by-test (λ (p : ℕ). Holds t (movedTo p x ∷ fs) c) (eqb v 0)
+  holds-step x fs c (Either q p) v e i b u h =
+      by-test (λ (a : ℕ). Holds t (movedTo a x ∷ fs) c) (eqb v 0)
       (λ z. holds-along x fs (numberAt c) (c .st) q i (rw e (List·Memᴰ·head refl)) (λ o. rw e tt) h)
-      (λ z. holds-along x fs (numberAt c) (c .st) r i (rw e (List·Memᴰ·tail (List·Memᴰ·head refl))) (λ o. rw e tt) h)
+      (λ z. holds-along x fs (numberAt c) (c .st) p i (rw e (List·Memᴰ·tail (List·Memᴰ·head refl))) (λ o. rw e tt) h)
   holds-step x fs c Return v e i b u h = holds-free x fs c h
 
-  -- every event keeps the contents
-  pub holds-after : (fs : List Frame) (c : Core) (e : Event) → Standing t fs → Window t fs c → Holds t fs c
-      → Holds t (afterEvent t fs e) (coreAfter t fs c e)
-  unfolding turn places afterEvent
-  holds-after [] c e s u h = h
-  holds-after (x ∷ fs) c e (Standing.runs i b) u h =
-      by-core t x fs c e (Holds t) (holds-step x fs c (point (func t (x .fn)) (x .at)) (e .value) refl i b u h)
-      (holds-preempt x fs c (need (func t (x .fn)) (x .at)) (e .value) u h)
-
   -- a fresh start holds nothing that is live
-  pub holds-start : (cache memory : List ℕ) → Holds t (entered t 0 ∷ []) (fresh (func t 0 .frame) cache memory)
+  pub holds-start : (c : Core) → Holds t (entered t 0 ∷ []) (reserve (func t 0 .frame) c .core)
   unfolding HoldsFrom
-  holds-start cache memory = (λ o l v. absurd (live-first 0 o (w .shaped .some) v), tt)
+  holds-start c = (λ o l v. absurd (live-first 0 o (w .shaped .some) v), tt)
 
   -- a load answers the number of the plain stack
-  load-same : (x : Frame) (fs : List Frame) (c : Core) (o : ℕ) → point (func t (x .fn)) (x .at) ≡ Load o → In t x → Window t (x ∷ fs) c
+  load-same : (x : Frame) (fs : List Frame) (c : Core) (o : ℕ) → point (func t (x .fn)) (x .at) ≡ Load o → In t x → Window t s (x ∷ fs) c
       → Holds t (x ∷ fs) c → load o c ≡ getD (x .numbers) o 0
   unfolding HoldsFrom load
   load-same x fs c o e i u h =
-      let k = touched-cached x fs c o i (rw e (or-holds (eqb o o) false .1 (inl (eqb-refl o)))) u in
+      let k = touched-cached t s w r x fs c o i (rw e (or-holds (eqb o o) false .1 (inl (eqb-refl o)))) u in
       sym (number-cached c (c .st + o) _ (omega (arith, k .1)) refl)
       ∙ h .0 o (k .0) (live-load (func t (x .fn)) (closed-in w (x .fn) (i .fn-in)) (x .at) (i .at-in) o (rw e (eqb-refl o)))
 
-  -- a run answers every event as the plain stack does
-  pub answer-same : (fs : List Frame) (c : Core) (e : Event) → Standing t fs → Window t fs c → Holds t fs c
-      → turn t (sheetOf t) (record { frames = places fs; core = c }) e .answer ≡ answerOf t fs e
-  unfolding turn places answerOf
-  answer-same [] c e s u h = refl
-  answer-same (x ∷ fs) c e (Standing.runs i b) u h = go (eqb (e .kind) 0)
-    where
-      step : (y : Point) → point (func t (x .fn)) (x .at) ≡ y
-          → stepTurn t (x .fn) (x .at) (places fs) c y (e .value) .answer ≡ loadedFrom (x .numbers) y
-      step (Load o) z = load-same x fs c o z i u h
-      step (Store o) z = refl
-      step (Call g) z = refl
-      step (Ensure k) z = refl
-      step (Goto q) z = refl
-      step (Either q r) z = refl
-      step Return z = refl
-
-      go : (k : Bool)
-          → (if k then stepTurn t (x .fn) (x .at) (places fs) c (point (func t (x .fn)) (x .at)) (e .value) else preemptTurn (sheetOf t) (x .fn) (x .at) (places fs) c (e .value)) .answer
-          ≡ (if k then loadedFrom (x .numbers) (point (func t (x .fn)) (x .at)) else 0)
-      go true = step (point (func t (x .fn)) (x .at)) refl
-      go false = refl
+  -- a step answers as on the plain stack
+  pub answer-step : (x : Frame) (fs : List Frame) (c : Core) (y : Point) (v : ℕ) → point (func t (x .fn)) (x .at) ≡ y → In t x
+      → Window t s (x ∷ fs) c → Holds t (x ∷ fs) c → stepTurn t (x .fn) (x .at) (places fs) c y v .answer ≡ loadedFrom (x .numbers) y
+  answer-step x fs c (Load o) v e i u h = load-same x fs c o e i u h
+  answer-step x fs c (Store o) v e i u h = refl
+  answer-step x fs c (Call g) v e i u h = refl
+  answer-step x fs c (Ensure k) v e i u h = refl
+  answer-step x fs c (Goto q) v e i u h = refl
+  answer-step x fs c (Either q p) v e i u h = refl
+  answer-step x fs c Return v e i u h = refl

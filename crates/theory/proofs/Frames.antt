@@ -1,6 +1,5 @@
--- The frames of a run and of the plain stack stay the same: functions, points and callers. No figure and no core is mentioned.
+-- The frames of a run and of the plain stack stay the same: functions, points and callers. And where the stack stands.
 use Prim.Native.Nat.{ℕ, suc, _+_, _≤_, _<_}
-use mathlib.Core.Bool.{Bool, true, false}
 use mathlib.Core.List.{List, [], _∷_, List·Memᴰ, List·Memᴰ·head, List·Memᴰ·tail}
 use mathlib.Core.Option.{some}
 use mathlib.Core.Path.{_≡_, refl, ap, _∙_}
@@ -8,14 +7,13 @@ use lib.Dec.{T, eqb}
 use lib.ListN.{length, length-set, length-replicate}
 use Rattle.model.specs.declared.Point.{Point}
 use Rattle.model.specs.declared.Point.the-variants.{Load, Store, Call, Ensure, Goto, Either, Return}
-use Rattle.model.specs.Basic.{if_then_else_}
 use Rattle.model.specs.Task.{Task, size, count, func, point}
 use Rattle.model.specs.Walk.{leads, called, isCall}
 use Rattle.model.specs.Core.{Core}
-use Rattle.model.specs.Figures.{need, longest}
-use Rattle.model.specs.Sheet.{Sheet, sheetOf}
-use Rattle.model.specs.Plain.{Event, Frame, entered, movedTo, running, stepped, afterEvent}
-use Rattle.model.specs.Run.{Place, Turn, runningPlace, stepTurn, preemptTurn, turn, stepBound, eventBound}
+use Rattle.model.specs.Figures.{longest}
+use Rattle.model.specs.Sheet.{Sheet}
+use Rattle.model.specs.Plain.{Frame, entered, movedTo, running, stepped}
+use Rattle.model.specs.Run.{Place, runningPlace, stepTurn}
 use Rattle.theory.proofs.Lists.{by-test}
 use Rattle.theory.proofs.Accepted.{WellFormed}
 use Rattle.theory.proofs.Links.{closed, callee-later, ensure-after-call}
@@ -34,27 +32,17 @@ unfolding places
 running-same t [] = refl
 running-same t (x ∷ fs) = refl
 
--- an event changes the frames of a run as it changes those of the plain stack
-pub frames-after : (t : Task) (s : Sheet) (fs : List Frame) (c : Core) (e : Event)
-    → turn t s (record { frames = places fs; core = c }) e .state .frames ≡ places (afterEvent t fs e)
-unfolding places turn afterEvent
-frames-after t s [] c e = refl
-frames-after t s (x ∷ fs) c e = go (eqb (e .kind) 0)
-  where
-    step : (y : Point) → stepTurn t (x .fn) (x .at) (places fs) c y (e .value) .state .frames ≡ places (stepped t x fs y (e .value))
-    step (Load o) = refl
-    step (Store o) = refl
-    step (Call g) = refl
-    step (Ensure k) = refl
-    step (Goto q) = refl
-    step (Either q r) = refl
-    step Return = refl
-
-    go : (b : Bool)
-        → (if b then stepTurn t (x .fn) (x .at) (places fs) c (point (func t (x .fn)) (x .at)) (e .value) else preemptTurn s (x .fn) (x .at) (places fs) c (e .value)) .state .frames
-        ≡ places (if b then stepped t x fs (point (func t (x .fn)) (x .at)) (e .value) else x ∷ fs)
-    go true = step (point (func t (x .fn)) (x .at))
-    go false = refl
+-- a step changes the frames of a run as it changes those of the plain stack
+pub frames-step : (t : Task) (x : Frame) (fs : List Frame) (c : Core) (y : Point) (v : ℕ)
+    → stepTurn t (x .fn) (x .at) (places fs) c y v .state .frames ≡ places (stepped t x fs y v)
+unfolding places
+frames-step t x fs c (Load o) v = refl
+frames-step t x fs c (Store o) v = refl
+frames-step t x fs c (Call g) v = refl
+frames-step t x fs c (Ensure k) v = refl
+frames-step t x fs c (Goto q) v = refl
+frames-step t x fs c (Either q r) v = refl
+frames-step t x fs c Return v = refl
 
 -- a frame is at a point of a function of the task
 pub record In (t : Task) (x : Frame) : Type 0 where
@@ -95,7 +83,8 @@ module _ (t : Task) (w : WellFormed t) where
   in-moved x q i m =
       record { fn-in = i .fn-in; at-in = closed (w .linked) (x .fn) (x .at) q (i .fn-in) (i .at-in) m; whole = i .whole }
 
-  standing-step : (x : Frame) (fs : List Frame) (y : Point) (v : ℕ) → point (func t (x .fn)) (x .at) ≡ y → In t x → Below t (x .fn) fs
+  -- a step keeps the frames at points of their functions
+  pub standing-step : (x : Frame) (fs : List Frame) (y : Point) (v : ℕ) → point (func t (x .fn)) (x .at) ≡ y → In t x → Below t (x .fn) fs
       → Standing t (stepped t x fs y v)
   unfolding leads
   standing-step x fs (Load o) v e i b = Standing.runs (in-moved x (suc (x .at)) i (rw e (List·Memᴰ·head refl))) b
@@ -117,13 +106,6 @@ module _ (t : Task) (w : WellFormed t) where
       (λ h. Standing.runs (in-moved x r i (rw e (List·Memᴰ·tail (List·Memᴰ·head refl)))) b)
   standing-step x fs Return v e i b = below-stands b
 
-  -- every event keeps the frames at points of their functions
-  pub standing-after : (fs : List Frame) (e : Event) → Standing t fs → Standing t (afterEvent t fs e)
-  unfolding afterEvent
-  standing-after [] e s = s
-  standing-after (x ∷ fs) e (Standing.runs i b) =
-      by-test (Standing t) (eqb (e .kind) 0) (λ h. standing-step x fs (point (func t (x .fn)) (x .at)) (e .value) refl i b) (λ h. Standing.runs i b)
-
 -- ---- where the stack stands
 
 -- the blocks of these frames together
@@ -132,49 +114,15 @@ total t [] = 0
 total t (x ∷ fs) = func t (x .fn) .frame + total t fs
 
 -- what the running frame needs is among the n cached blocks
-unfoldable pub Needed : Task → List Frame → ℕ → Type 0
-Needed t [] n = Unit
-Needed t (x ∷ fs) n = need (func t (x .fn)) (x .at) ≤ n
+unfoldable pub Needed : Sheet → List Frame → ℕ → Type 0
+Needed s [] n = Unit
+Needed s (x ∷ fs) n = s .at (x .fn) (x .at) .need ≤ n
 
 -- the frames fill the memory from ST up, and the occupancy covers no more than the frames and the cache, and no less than is needed
-pub record Window (t : Task) (fs : List Frame) (c : Core) : Type 0 where
+pub record Window (t : Task) (s : Sheet) (fs : List Frame) (c : Core) : Type 0 where
   pub top : c .st + total t fs ≡ length (c .memory)
   pub blocks : length (c .cache) ≡ t .stack
   pub room : longest t 0 ≤ length (c .memory)
   pub inside : c .occupancy ≤ total t fs
   pub fits : c .occupancy ≤ t .stack
-  pub needed : Needed t fs (c .occupancy)
-
--- an event on the core of a run
-abbrev pub coreAfter : Task → List Frame → Core → Event → Core
-coreAfter t fs c e = turn t (sheetOf t) (record { frames = places fs; core = c }) e .state .core
-
--- ---- an event is a step or a preemption
-
--- what is so of a step and of a preemption is so of an event: of the frames after it, what it does to the core, and what the sheet allows it
-pub by-event : (t : Task) (s : Sheet) (x : Frame) (fs : List Frame) (c : Core) (e : Event) (P : List Frame → Turn → ℕ → Type 0)
-    → P
-    (stepped t x fs (point (func t (x .fn)) (x .at)) (e .value))
-    (stepTurn t (x .fn) (x .at) (places fs) c (point (func t (x .fn)) (x .at)) (e .value))
-    (stepBound s (x .fn) (x .at) (point (func t (x .fn)) (x .at)))
-    → P (x ∷ fs) (preemptTurn s (x .fn) (x .at) (places fs) c (e .value)) (s .at (x .fn) (x .at) .cost)
-    → P
-    (afterEvent t (x ∷ fs) e)
-    (turn t s (record { frames = places (x ∷ fs); core = c }) e)
-    (eventBound t s (x ∷ fs) e)
-unfolding places turn afterEvent eventBound
-by-event t s x fs c e P step preempted = go (eqb (e .kind) 0)
-  where
-    go : (b : Bool)
-        → P
-        (if b then stepped t x fs (point (func t (x .fn)) (x .at)) (e .value) else x ∷ fs)
-        (if b then stepTurn t (x .fn) (x .at) (places fs) c (point (func t (x .fn)) (x .at)) (e .value) else preemptTurn s (x .fn) (x .at) (places fs) c (e .value))
-        (if b then stepBound s (x .fn) (x .at) (point (func t (x .fn)) (x .at)) else s .at (x .fn) (x .at) .cost)
-    go true = step
-    go false = preempted
-
--- the state after an event has the frames of the plain stack
-pub state-after : (t : Task) (fs : List Frame) (c : Core) (e : Event)
-    → turn t (sheetOf t) (record { frames = places fs; core = c }) e .state
-    ≡ record { frames = places (afterEvent t fs e); core = coreAfter t fs c e }
-state-after t fs c e = λ j. record { frames = frames-after t (sheetOf t) fs c e j; core = coreAfter t fs c e }
+  pub needed : Needed s fs (c .occupancy)

@@ -4,11 +4,16 @@
 --   Reading, Accepted, Links what acceptance says of a task
 --   Places, Decimal          the place of a refusal fits 16 bits; numbers in decimal
 --   Figures, Between, Rules  each figure, within a function, between functions, and along a lead
+--   Sound                    the rules that a sheet has to obey; from here to Fair nothing else is known of it
 --   Frames, Window           the frames of a run are those of the plain stack, and where the stack stands
 --   Blocks, Numbers          what moves between cache and memory keep
---   Contents, Answers        a run answers as the plain stack does
+--   Contents                 cache and memory hold the numbers of the plain stack, between the halves of a preemption the memory alone
 --   Occupancy                the occupancy is at most high
---   Potential, Bound         an event moves at most what it is allowed and what the potential falls by; so does a list of events
+--   Potential                a step, and a preemption, moves at most what it is allowed and what the potential falls by
+--   Fair                     the state of a task that runs and of one that waits; every event is fair, and so is every list of events
+--   Lawful                   the figures of document 01 obey the rules
+--   Prices                   a count of blocks is a price, and the figures counted so are those of document 01
+--   Faithful                 demand 3, of every sheet that obeys the rules and of the sheet of every text that run accepts
 pub mod Lists
 pub mod Firsts
 pub mod Walks
@@ -22,13 +27,15 @@ pub mod Figures
 pub mod Between
 pub mod Rules
 pub mod Sheet
+pub mod Sound
 pub mod Frames
 pub mod Blocks
 pub mod Window
 pub mod Numbers
 pub mod Contents
-pub mod Answers
 pub mod Occupancy
 pub mod Potential
-pub mod Bound
+pub mod Fair
+pub mod Lawful
+pub mod Prices
 pub mod Faithful

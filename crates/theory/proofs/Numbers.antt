@@ -1,14 +1,14 @@
 -- The number that the core holds at an address, in the cache or in memory, and at which addresses each move of the core keeps it.
-use Prim.Native.Nat.{ℕ, _+_, _-_, _%_, _≤_, _<_}
+use Prim.Native.Nat.{ℕ, _+_, _-_, _%_, _≤_, _<_, max}
 use mathlib.Core.Path.{_≡_, refl, ap, sym, _∙_}
 use native.Mathlib.Decide.{decLt}
 use native.Mathlib.Nat.{mod-lt}
 use native.Mathlib.Omega.{arith}
 use lib.Dec.{ltb, ltb→lt, nltb→le}
-use lib.ListN.{length, getD, replicate, length-set, length-replicate}
+use lib.ListN.{length, getD, length-set}
 use lib.Seq.{getD-set-same, getD-set-other}
 use Rattle.model.specs.Basic.{if_then_else_}
-use Rattle.model.specs.Core.{Core, block, reserved, reserveMoves, ensuredTo, ensureMoves, savedFrom, resumed, reserve, free, ensure, store, savedMemory, preempt}
+use Rattle.model.specs.Core.{Core, block, spilled, reserved, reserveMoves, ensuredTo, ensureMoves, savedFrom, saveMoves, resumed, resumeMoves, reserve, free, ensure, store, save, resume}
 use Rattle.theory.proofs.Lists.{by-test}
 use Rattle.theory.proofs.Blocks.{apart, length-filled, spilled-in, spilled-out, filled-in, filled-out}
 
@@ -33,18 +33,24 @@ number-stored c a h =
     (λ l. refl)
 
 module _ (c : Core) (a : ℕ) where
+  -- the memory has the number of each address from some one up, once the core has written back from there up to MT
+  written-keeps : (from k : ℕ) → from + k ≡ max from (c .st + c .occupancy) → (a < c .st + c .occupancy → from ≤ a) → a < length (c .memory)
+      → getD (spilled (c .cache) (c .memory) from k) a 0 ≡ numberAt c a
+  written-keeps from k e h m =
+      elim (decLt a (c .st + c .occupancy)) [
+        | yes j ↦ spilled-in (c .cache) (c .memory) from k a (h j) (omega arith) m ∙ sym (number-cached c a _ j refl)
+        | no j ↦ spilled-out (c .cache) (c .memory) from k a (λ g. omega arith) ∙ sym (number-stored c a (omega arith))
+      ]
+
   -- a reserve keeps the number of each address from ST up
   pub reserve-keeps : (k : ℕ) → k ≤ c .st → c .st ≤ a → a < length (c .memory) → numberAt (reserve k c .core) a ≡ numberAt c a
   unfolding reserve
   reserve-keeps k h l m =
       elim (decLt a (c .st - k + reserved (length (c .cache)) k (c .occupancy))) [
         | yes i ↦ number-cached (reserve k c .core) a _ i refl ∙ sym (number-cached c a _ (omega arith) refl)
-        | no i ↦ number-stored (reserve k c .core) a (omega arith) ∙ elim (decLt a (c .st + c .occupancy)) [
-          | yes j ↦ spilled-in (c .cache) (c .memory) (c .st - k + length (c .cache)) (reserveMoves (length (c .cache)) k (c .occupancy)) a (omega arith) (omega arith) m
-              ∙ sym (number-cached c a _ j refl)
-          | no j ↦ spilled-out (c .cache) (c .memory) (c .st - k + length (c .cache)) (reserveMoves (length (c .cache)) k (c .occupancy)) a (λ g. omega arith)
-              ∙ sym (number-stored c a (omega arith))
-        ]
+        | no i ↦
+            number-stored (reserve k c .core) a (omega arith)
+            ∙ written-keeps (c .st - k + length (c .cache)) (reserveMoves (length (c .cache)) k (c .occupancy)) (omega arith) (λ g. omega arith) m
       ]
 
   -- a free keeps the number of each address from the ST after it up
@@ -88,33 +94,23 @@ module _ (c : Core) (a : ℕ) where
         | no i ↦ number-stored (store o v c) a (omega arith) ∙ sym (number-stored c a (omega arith))
       ]
 
-  -- a preemption saves the number of each address from the lowest live one up
-  saved-keeps : (d : ℕ) → c .st + savedFrom d (c .occupancy) ≤ a → a < length (c .memory) → getD (savedMemory d c) a 0 ≡ numberAt c a
-  unfolding savedMemory
-  saved-keeps d h m =
-      elim (decLt a (c .st + c .occupancy)) [
-        | yes i ↦
-            spilled-in (c .cache) (c .memory) (c .st + savedFrom d (c .occupancy)) (c .occupancy - savedFrom d (c .occupancy)) a h (omega arith) m
-            ∙ sym (number-cached c a _ i refl)
-        | no i ↦
-            spilled-out (c .cache) (c .memory) (c .st + savedFrom d (c .occupancy)) (c .occupancy - savedFrom d (c .occupancy)) a (λ g. omega arith)
-            ∙ sym (number-stored c a (omega arith))
-      ]
+  -- the first half of a preemption leaves in memory the number of each address from the lowest live one up
+  pub save-keeps : (d : ℕ) → c .st + savedFrom d (c .occupancy) ≤ a → a < length (c .memory) → getD (save d c .core .memory) a 0 ≡ numberAt c a
+  unfolding save
+  save-keeps d h m = written-keeps (c .st + savedFrom d (c .occupancy)) (saveMoves d (c .occupancy)) (omega arith) (λ g. h) m
 
-  -- and keeps it
-  pub preempt-keeps : (d n v : ℕ) → c .occupancy ≤ length (c .cache) → c .st + savedFrom d (c .occupancy) ≤ a → a < length (c .memory)
-      → numberAt (preempt d n v c .core) a ≡ numberAt c a
-  unfolding preempt
-  preempt-keeps d n v l h m =
-      let area = replicate (length (c .cache)) v in
+  -- the second half brings back what memory has there, whatever the cache holds
+  pub resume-brings : (d n : ℕ) → c .occupancy ≤ length (c .cache) → c .st + savedFrom d (c .occupancy) ≤ a
+      → numberAt (resume d n c .core) a ≡ getD (c .memory) a 0
+  unfolding resume
+  resume-brings d n l h =
       let from = c .st + savedFrom d (c .occupancy) in
-      let k = resumed d n (c .occupancy) - savedFrom d (c .occupancy) in
+      let k = resumeMoves d n (c .occupancy) in
       elim (decLt a (c .st + resumed d n (c .occupancy))) [
         | yes i ↦
-            number-cached (preempt d n v c .core) a _ i (length-filled area (savedMemory d c) from k)
-            ∙ filled-in area (savedMemory d c) from k a (omega (arith, length-replicate (length (c .cache)) v)) h (omega arith)
-            ∙ saved-keeps d h m
-        | no i ↦ number-stored (preempt d n v c .core) a (omega arith) ∙ saved-keeps d h m
+            number-cached (resume d n c .core) a _ i (length-filled (c .cache) (c .memory) from k)
+            ∙ filled-in (c .cache) (c .memory) from k a (omega arith) h (omega arith)
+        | no i ↦ number-stored (resume d n c .core) a (omega arith)
       ]
 
 -- a store to a cached offset leaves its number there

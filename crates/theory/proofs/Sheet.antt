@@ -53,14 +53,15 @@ pub record OverWalksOf (t : Task) (f : ℕ) : Type 0 where
   pub entry : Largest
       (λ m. (h p : ℕ) × (h < count t) × (p < size (func t h)) × T (calls (func t h) f p) × (m ≡ model.high t h p))
       (model.entry t f)
-  pub chain : Largest
-      (λ m. (h p : ℕ) × (h < count t) × (p < size (func t h)) × T (calls (func t h) f p) × (m ≡ model.chain t h + kept t h (suc p)))
-      (model.chain t f)
+  pub chain : (price : ℕ → ℕ)
+      → Largest
+      (λ m. (h p : ℕ) × (h < count t) × (p < size (func t h)) × T (calls (func t h) f p) × (m ≡ model.chain price t h + price (kept t h (suc p))))
+      (model.chain price t f)
 
 pub record OverWalks (t : Task) : Type 0 where
   pub of : (f : ℕ) → f < count t → OverWalksOf t f
   pub entry-zero : model.entry t 0 ≡ 0
-  pub chain-zero : model.chain t 0 ≡ 0
+  pub chain-zero : (price : ℕ → ℕ) → model.chain price t 0 ≡ 0
 
 -- an offset that a point touches is below the frame
 offset-below : (k o : ℕ) (x : Point) → T (offsetFits k x) → T (is o (loaded x) || is o (stored x)) → o < k
@@ -104,7 +105,7 @@ module _ {t : Task} (w : WellFormed t) where
         shortest-free = shortest-free t calls-later f h c n;
         shortest-calls = shortest-calls t calls-later f h c n;
         entry = rw (entry-is t calls-later f) (overCalls-is t f (model.high t));
-        chain = rw (chain-is t calls-later f) (overCalls-is t f (λ h p. model.chain t h + kept t h (suc p)));
+        chain = λ price. rw (chain-is t calls-later price f) (overCalls-is t f (λ h p. model.chain price t h + price (kept t h (suc p))));
       }
 
 -- the top theorem: whatever buffers are lent, the figures of an accepted text are about all walks
@@ -113,5 +114,5 @@ over-walks further work text t e =
     record {
       of = walks-of (accepted further work text t e .formed);
       entry-zero = entry-zero t;
-      chain-zero = chain-zero t;
+      chain-zero = λ price. chain-zero price t;
     }
