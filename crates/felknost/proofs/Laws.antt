@@ -4,13 +4,14 @@ use mathlib.Core.Path.{_≡_}
 use mathlib.Core.List.{List}
 use native.Mathlib.Omega.{arith}
 use Rattle.model.specs.declared.Verdict.{Verdict}
-use Rattle.model.specs.Refusal.{judge, checkRows, verdictPlace, packed}
+use Rattle.model.specs.Rows.{verdictPlace, packed}
+use Rattle.model.specs.Refusal.{judged}
 use Rattle.model.specs.Services.{verdictOf, checkNumber}
-use Rattle.theory.proofs.Places.{check-place}
+use Rattle.theory.proofs.Places.{judged-place}
 
-module _ (text : List ℕ) {v : Verdict} (e : v ≡ verdictOf (judge checkRows 16384 text)) where
+module _ (text : List ℕ) {v : Verdict} (e : v ≡ verdictOf (judged text)) where
   pub fits : verdictPlace v ≤ 65535
-  fits = rw e (omega (arith, check-place 16384 text))
+  fits = rw e (omega (arith, judged-place text))
 
   pub numbered : {n : ℕ} → n ≡ packed v → n ≡ checkNumber text
   unfolding checkNumber

@@ -6,24 +6,26 @@ use mathlib.Core.Option.{Option, none, some}
 use lib.ListN.{length}
 use borrow.Author.Tests.{lt-ltb, le-ltb}
 use Rattle.model.specs.declared.Refusal.{Refusal}
-use Rattle.model.specs.declared.Refusal.the-variants.{TextTooLong}
+use Rattle.model.specs.declared.Row.the-variants.{TextTooLong}
+use Rattle.model.specs.Rows.{refuse}
 use Rattle.model.specs.declared.Verdict.{Verdict}
 use Rattle.model.specs.declared.Verdict.the-variants.{Accepted, Refused}
 use Rattle.model.specs.Basic.{_orElse_}
 use Rattle.model.specs.Task.{Task, Judged, refused, task, readText}
-use Rattle.model.specs.Refusal.{judge, checkRows, taskRows, orTask, firstPoint, reachRow, loadRow}
+use Rattle.model.specs.Refusal.{judged, linkRows, callRows, taskRows, orTask, firstPoint, reachRow, loadRow}
 use Rattle.model.specs.Services.{verdictOf}
 use Rattle.tables.specs.Tables.{taskOf}
 use Rattle.task.specs.declared.Tables.{Tables}
 use Rattle.task.specs.declared.Read.{Read}
 use Rattle.task.specs.declared.Read.the-variants as read
 use Rattle.task.specs.Reading.{Holds, Kept, readAs}
-use Rattle.links.specs.Links.{rowVerdict, linkRows, callRows}
+use Rattle.links.specs.Links.{rowVerdict}
 use Rattle.links.proofs.Search.{verdict-none, verdict-some}
 use Rattle.walks.specs.declared.Flow.the-variants.{Reach, Load, Fine}
 use Rattle.walks.specs.Flow.{flowOf, taskFlow}
 use Rattle.theory.proofs.Reading.{read-shaped}
-use Rattle.theory.proofs.Accepted.{Linked, links-none}
+use Rattle.model.specs.WellFormed.{Linked}
+use Rattle.theory.proofs.Accepted.{links-none}
 use Rattle.judge.specs.Rows.{walkRows, lastOf, Shown}
 
 -- 11, then 12, then 13: a, b and c are the first refusals of each
@@ -80,21 +82,21 @@ pub shown : (text : List ℕ) {w : List ℕ} {tb : Tables} → readText text ≡
 shown text {w} {tb} e h = record { holds = h; shaped = read-shaped text (taskOf w (tb .stack) (tb .funcs)) e }
 
 -- the verdict on a text
-rows-verdict : (t : Task) (a : Option Refusal) → rowVerdict a ≡ verdictOf (orTask (a orElse none) t)
+rows-verdict : (t : Task) (a : Option Refusal) → rowVerdict a ≡ verdictOf (orTask a t)
 unfolding verdictOf
 rows-verdict t none = refl
 rows-verdict t (some r) = refl
 
 module _ (text : List ℕ) where
-  pub text-long : 32768 < length text → Refused TextTooLong ≡ verdictOf (judge checkRows 16384 text)
-  unfolding judge verdictOf
+  pub text-long : 32768 < length text → Refused (refuse TextTooLong 0) ≡ verdictOf (judged text)
+  unfolding judged verdictOf
   text-long h = rw (lt-ltb 32768 (length text) h)
 
-  pub text-refused : length text ≤ 32768 → (r : Refusal) → readText text ≡ refused r → Refused r ≡ verdictOf (judge checkRows 16384 text)
-  unfolding judge verdictOf
+  pub text-refused : length text ≤ 32768 → (r : Refusal) → readText text ≡ refused r → Refused r ≡ verdictOf (judged text)
+  unfolding judged verdictOf
   text-refused h r e = rw (le-ltb 32768 (length text) h, e)
 
   pub text-task : length text ≤ 32768 → (t : Task) → readText text ≡ task t → (v : Verdict) → v ≡ rowVerdict (taskRows t)
-      → v ≡ verdictOf (judge checkRows 16384 text)
-  unfolding judge
+      → v ≡ verdictOf (judged text)
+  unfolding judged
   text-task h t e v i = rw (le-ltb 32768 (length text) h, e) (i ∙ rows-verdict t (taskRows t))

@@ -1,22 +1,21 @@
 -- The rows of a task by the passes that find them, and what each pass is given.
-use Prim.Native.Nat.{ℕ, _-_}
+use Prim.Native.Nat.{ℕ}
 use mathlib.Core.List.{List}
 use mathlib.Core.Option.{Option}
 use Rattle.model.specs.declared.Refusal.{Refusal}
 use Rattle.model.specs.declared.Verdict.{Verdict}
 use Rattle.model.specs.declared.Verdict.the-variants.{Accepted, Refused}
-use Rattle.model.specs.Basic.{_orElse_, firstOf, countFrom}
-use Rattle.model.specs.Task.{Task, count}
-use Rattle.model.specs.Refusal.{firstPoint, reachRow, callRow, loadRow}
+use Rattle.model.specs.Basic.{_orElse_}
+use Rattle.model.specs.Task.{Task}
+use Rattle.model.specs.Refusal.{reachRows, callRows, loadRows}
 use Rattle.tables.specs.Tables.{taskOf}
 use Rattle.task.specs.declared.Tables.{Tables}
 use Rattle.task.specs.Reading.{Holds}
-use Rattle.theory.proofs.Reading.{Shaped}
-use Rattle.theory.proofs.Accepted.{Linked}
+use Rattle.model.specs.WellFormed.{Shaped, Linked}
 
 -- 11, 12 and 13, each by line
 abbrev pub walkRows : Task → Option Refusal
-walkRows t = firstPoint t (reachRow t) orElse firstOf (callRow t) (countFrom 1 (count t - 1)) orElse firstPoint t (loadRow t)
+walkRows t = reachRows t orElse callRows t orElse loadRows t
 
 -- a verdict, or the refusal r where it accepts
 abbrev pub lastOf : Verdict → Refusal → Verdict

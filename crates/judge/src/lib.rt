@@ -2,13 +2,14 @@
 ghost use mathlib.Core.Path.{_≡_};
 ghost use Prim.Native.Nat.{_≤_};
 ghost use lib.ListN.{length};
-ghost use Rattle.model.specs.Refusal.{judge, checkRows, taskRows};
+ghost use Rattle.model.specs.Refusal.{judged, taskRows};
 ghost use Rattle.model.specs.Services.{verdictOf};
 ghost use Rattle.tables.specs.Tables.{taskOf};
 ghost use Rattle.task.specs.Reading.{Kept};
 ghost use Rattle.links.specs.Links.{rowVerdict};
 ghost use Rattle.judge.specs.Rows.{walkRows, lastOf, Shown, Walkable};
 use model::Refusal;
+use model::Row;
 use model::Verdict;
 use task::Read;
 use task::Tables;
@@ -53,10 +54,13 @@ fn task_rows(work: &[u32], tb: Tables) -> Verdict
 // The verdict on a text. The tables are left in the working space, and everything past them is as it was.
 pub fn judge_text(text: &[u8], work: &mut [u32]) -> Verdict
     requires { ⌜ 3264 ≤ length (now work) ⌝ }
-    ensures { λ r. ⌜ (r ≡ verdictOf (judge checkRows 16384 (now (text .entry)))) × Kept (now (work .entry)) (now (work .exit)) ⌝ }
+    ensures { λ r. ⌜ (r ≡ verdictOf (judged (now (text .entry)))) × Kept (now (work .entry)) (now (work .exit)) ⌝ }
 {
     if 32768 < text.len() {
-        return Verdict::Refused(Refusal::TextTooLong);
+        return Verdict::Refused(Refusal {
+            row: Row::TextTooLong,
+            place: 0,
+        });
     }
     match task::read_task(text, work) {
         Read::Refused(r) => Verdict::Refused(r),

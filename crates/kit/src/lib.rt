@@ -5,6 +5,7 @@ ghost use Prim.Native.Nat.{_≤_};
 ghost use lib.ListN.{length, drop, replicate};
 ghost use Rattle.model.specs.Services.{checkOf};
 use model::Refusal;
+use model::Row;
 use model::Verdict;
 
 // The first 16,384 numbers become 0.
@@ -21,13 +22,16 @@ fn clear(work: &mut [u32])
 
 // Check: the verdict on a text, and the working space cleared.
 //
-//     check(b"(stack 65)\n", &mut work) is Verdict::Refused(Refusal::StackSize(1))
+//     check(b"(stack 65)\n", &mut work) is Verdict::Refused(Refusal { row: Row::StackSize, place: 1 })
 pub fn check(text: &[u8], work: &mut [u32]) -> Verdict
     ensures verdict { λ r. ⌜ r ≡ checkOf (now (text .entry)) (now (work .entry)) .verdict ⌝ }
     ensures work { λ r. ⌜ now (work .exit) ≡ checkOf (now (text .entry)) (now (work .entry)) .work ⌝ }
 {
     if work.len() < 16384 {
-        return Verdict::Refused(Refusal::WorkTooSmall);
+        return Verdict::Refused(Refusal {
+            row: Row::WorkTooSmall,
+            place: 16384,
+        });
     }
     let verdict = judge::judge_text(text, work);
     clear(work);

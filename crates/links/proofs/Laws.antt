@@ -16,18 +16,19 @@ use borrow.Author.Tests.{not-true, not-false, lt-ltb, le-ltb, le-leb, eq-eqb, ne
 use Rattle.model.specs.declared.Point.{Point}
 use Rattle.model.specs.declared.Point.the-variants.{Load, Store, Call, Ensure, Goto, Either, Return}
 use Rattle.model.specs.declared.Refusal.{Refusal}
-use Rattle.model.specs.declared.Refusal.the-variants.{Callee, Pairing, Target, LastPoint, Uncalled}
+use Rattle.model.specs.declared.Row.the-variants.{Callee, Pairing, Target, LastPoint, Uncalled}
+use Rattle.model.specs.Rows.{refuse}
 use Rattle.model.specs.declared.Verdict.the-variants.{Accepted, Refused}
 use Rattle.model.specs.Basic.{unless, _orElse_, firstOf, any, countFrom, upTo}
 use Rattle.model.specs.Task.{Func, Task, size, count, func, point, funcLine}
 use Rattle.model.specs.Walk.{called, ensured, present, is, calls, isCall, isEnsure}
-use Rattle.model.specs.Refusal.{calleeFits, ensureFits, paired, targetFits, targetsFit, mayEnd, endFits, isCalled, linkRow, callRow, firstPoint}
+use Rattle.model.specs.Refusal.{calleeFits, ensureFits, paired, targetFits, targetsFit, mayEnd, endFits, isCalled, linkRow, callRow, firstPoint, linkRows, callRows}
 use Rattle.tables.specs.Tables.{isAccess, pointAt, baseAt, sizeAt, pointsOf, funcOf, taskOf, Stacked, none, more}
 use Rattle.tables.proofs.Laws.{length-points, point-there, length-funcs, func-is, size-is, stacked-within, line-is}
 use Rattle.links.specs.declared.Named.{Named}
 use Rattle.links.specs.declared.Named.the-variants.{Number}
 use Rattle.links.specs.declared.Span.{Span}
-use Rattle.links.specs.Links.{rowVerdict, optionOf, funcRow, linkRows, callRows, spanAt, funcIn, Held, Settled, callsAt, markOf}
+use Rattle.links.specs.Links.{rowVerdict, optionOf, funcRow, spanAt, funcIn, Held, Settled, callsAt, markOf}
 use Rattle.links.proofs.Search.{count-more, count-end, Rest, any-add, any-last, any-same, any-shift}
 
 -- the code branches on `not b`, where the definitions have b
@@ -141,10 +142,10 @@ module _ (y : Func) (p : ℕ) {n : ℕ} (e : n ≡ size y) where
 -- 7 to 10 at point p of function f: the four tests, in this order
 abbrev pub rowOf : Bool → Bool → Bool → Bool → ℕ → Option Refusal
 rowOf callee pairing target last line =
-    unless callee (Callee line)
-    orElse unless pairing (Pairing line)
-    orElse unless target (Target line)
-    orElse unless last (LastPoint line)
+    unless callee (refuse Callee line)
+    orElse unless pairing (refuse Pairing line)
+    orElse unless target (refuse Target line)
+    orElse unless last (refuse LastPoint line)
 
 -- the function that lies in the span of f is function f of the task
 pub func-in : (w : List ℕ) (stack n f : ℕ) → f < n → {s : Span} → s ≡ spanAt w f → funcIn w s ≡ func (taskOf w stack n) f
@@ -313,10 +314,10 @@ module _ {w : List ℕ} {n m : ℕ} (k : Stacked w n m) (stack f : ℕ) (h : f <
   pub row-called : not c ≡ false → Accepted ≡ rowVerdict (callRow (taskOf w stack n) f)
   unfolding callRow
   row-called d =
-      ap (λ (b : Bool). rowVerdict (unless b (Uncalled (funcLine (taskOf w stack n) f)))) (passed c d ∙ e)
+      ap (λ (b : Bool). rowVerdict (unless b (refuse Uncalled (funcLine (taskOf w stack n) f)))) (passed c d ∙ e)
 
-  pub row-uncalled : not c ≡ true → {b : ℕ} → b ≡ baseAt w f → {l : ℕ} → l ≡ 2 + 2 * f + b → Refused (Uncalled l) ≡ rowVerdict (callRow (taskOf w stack n) f)
+  pub row-uncalled : not c ≡ true → {b : ℕ} → b ≡ baseAt w f → {l : ℕ} → l ≡ 2 + 2 * f + b → Refused (refuse Uncalled l) ≡ rowVerdict (callRow (taskOf w stack n) f)
   unfolding callRow
   row-uncalled d u v =
       let line = v ∙ (ap (λ (b : ℕ). 2 + 2 * f + b) u ∙ sym (line-is stack k f h)) in
-      λ i. rowVerdict (unless ((failed c d ∙ e) i) (Uncalled (line i)))
+      λ i. rowVerdict (unless ((failed c d ∙ e) i) (refuse Uncalled (line i)))

@@ -1,5 +1,5 @@
 -- What the functions of this crate are given, and how a refusal that may be there stands as a verdict.
-use Prim.Native.Nat.{ℕ, _+_, _-_, _≤_}
+use Prim.Native.Nat.{ℕ, _+_, _≤_}
 use mathlib.Core.Bool.{Bool, false}
 use mathlib.Core.List.{List}
 use mathlib.Core.Option.{Option, none, some}
@@ -7,10 +7,10 @@ use lib.ListN.{length, getD}
 use Rattle.model.specs.declared.Refusal.{Refusal}
 use Rattle.model.specs.declared.Verdict.{Verdict}
 use Rattle.model.specs.declared.Verdict.the-variants.{Accepted, Refused}
-use Rattle.model.specs.Basic.{firstOf, upTo, countFrom}
-use Rattle.model.specs.Task.{Func, Task, size, count, func}
+use Rattle.model.specs.Basic.{firstOf, upTo}
+use Rattle.model.specs.Task.{Func, Task, size, func}
 use Rattle.model.specs.Walk.{called, is}
-use Rattle.model.specs.Refusal.{linkRow, callRow, firstPoint}
+use Rattle.model.specs.Refusal.{linkRow}
 use Rattle.tables.specs.Tables.{pointAt, frameAt, baseAt, sizeAt, pointsOf, Stacked}
 use Rattle.links.specs.declared.Named.{Named}
 use Rattle.links.specs.declared.Named.the-variants.{Nothing, Number}
@@ -25,15 +25,9 @@ abbrev pub optionOf : Named → Option ℕ
 optionOf Nothing = none
 optionOf (Number n) = some n
 
--- 7 to 10 in function f, 7 to 10 in a task, 12 in a task
+-- 7 to 10 in function f
 abbrev pub funcRow : Task → ℕ → Option Refusal
 funcRow t f = firstOf (linkRow t f) (upTo (size (func t f)))
-
-abbrev pub linkRows : Task → Option Refusal
-linkRows t = firstPoint t (linkRow t)
-
-abbrev pub callRows : Task → Option Refusal
-callRows t = firstOf (callRow t) (countFrom 1 (count t - 1))
 
 -- what the tables w keep of function f, and the function that lies so in w
 abbrev pub spanAt : List ℕ → ℕ → Span

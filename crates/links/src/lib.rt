@@ -6,11 +6,12 @@ ghost use lib.ListN.{length};
 ghost use Rattle.model.specs.Basic.{any, upTo};
 ghost use Rattle.model.specs.Task.{Func, Task, size, count, point};
 ghost use Rattle.model.specs.Walk.{called, ensured, present, is, isCall, isEnsure};
-ghost use Rattle.model.specs.Refusal.{calleeFits, ensureFits, paired, targetFits, targetsFit, mayEnd, endFits, isCalled, linkRow};
+ghost use Rattle.model.specs.Refusal.{calleeFits, ensureFits, paired, targetFits, targetsFit, mayEnd, endFits, isCalled, linkRow, linkRows, callRows};
 ghost use Rattle.tables.specs.Tables.{taskOf, Stacked};
-ghost use Rattle.links.specs.Links.{optionOf, spanAt, funcIn, Held, Settled, rowVerdict, funcRow, linkRows, callRows, callsAt, markOf};
+ghost use Rattle.links.specs.Links.{optionOf, spanAt, funcIn, Held, Settled, rowVerdict, funcRow, callsAt, markOf};
 use model::Point;
 use model::Refusal;
+use model::Row;
 use model::Verdict;
 
 // What the tables keep of a function: its frame, the number of its first point, and how many points it has.
@@ -201,16 +202,28 @@ fn link_row(work: &[u32], funcs: usize, f: usize, s: Span, p: usize) -> Verdict
     let x = tables::point_at(work, s.base + p);
     let line = tables::point_line(f, s.base, p);
     if !callee_fits(funcs, f, callee_of(x)) {
-        return Verdict::Refused(Refusal::Callee(line));
+        return Verdict::Refused(Refusal {
+            row: Row::Callee,
+            place: line,
+        });
     }
     if !paired(work, s, p, x) {
-        return Verdict::Refused(Refusal::Pairing(line));
+        return Verdict::Refused(Refusal {
+            row: Row::Pairing,
+            place: line,
+        });
     }
     if !targets_fit(work, s, x) {
-        return Verdict::Refused(Refusal::Target(line));
+        return Verdict::Refused(Refusal {
+            row: Row::Target,
+            place: line,
+        });
     }
     if !end_fits(s.size, p, x) {
-        return Verdict::Refused(Refusal::LastPoint(line));
+        return Verdict::Refused(Refusal {
+            row: Row::LastPoint,
+            place: line,
+        });
     }
     Verdict::Accepted
 }
@@ -287,10 +300,10 @@ fn first_unmarked(work: &[u32], funcs: usize, marks: &[bool]) -> Verdict
     let mut f = 1;
     while f < funcs {
         if !marks[f] {
-            return Verdict::Refused(Refusal::Uncalled(tables::func_line(
-                f,
-                tables::base_at(work, f),
-            )));
+            return Verdict::Refused(Refusal {
+                row: Row::Uncalled,
+                place: tables::func_line(f, tables::base_at(work, f)),
+            });
         }
         f += 1;
     }

@@ -3,12 +3,13 @@ use Prim.Native.Nat.{ℕ}
 use mathlib.Core.Path.{_≡_, refl}
 use mathlib.Core.List.{List, [], _∷_, _++_}
 use lib.ListN.{replicate}
-use Rattle.model.specs.declared.Refusal.the-variants.{WorkTooSmall, Form, StackSize, FrameSize, Offset, TooMany, Callee, Pairing, Target, LastPoint, Unreachable, Uncalled, Uninitialised, EventList, AnswersTooSmall, CacheSize, MemoryTooSmall, AfterFinish, Kind, Choice}
+use Rattle.model.specs.declared.Row.the-variants.{WorkTooSmall, Form, StackSize, FrameSize, Offset, TooMany, Callee, Pairing, Target, LastPoint, Unreachable, Uncalled, Uninitialised, EventList, AnswersTooSmall, CacheSize, MemoryTooSmall, AfterFinish, Kind, Choice}
 use Rattle.model.specs.declared.Ending.the-variants.{AllDone, Refused}
 use Rattle.model.specs.Text.{bytes}
 use Rattle.model.specs.Task.{Task, Judged, refused, task}
 use Rattle.model.specs.Sheet.{reportText}
-use Rattle.model.specs.Refusal.{judge, checkRows}
+use Rattle.model.specs.Rows.{refuse}
+use Rattle.model.specs.Refusal.{judged, workRow, judge, noRows}
 use Rattle.model.specs.Services.{runOf}
 use Rattle.model.specs.Opened.{opened}
 use Rattle.model.specs.Examples.{lines, sample}
@@ -27,48 +28,48 @@ the (refused r) = record { stack = 0; funcs = [] }
 
 -- refusals 2 to 13
 pub refusals :
-    (judge checkRows 16384 (lines ([])) ≡ refused (Form 1))
-    × (judge checkRows 16384 (bytes "(stack 1)") ≡ refused (Form 1))
-    × (judge checkRows 16384 (bytes "(st") ≡ refused (Form 1))
-    × (judge checkRows 16384 (lines ("(stack 65)" ∷ "(stack 16)" ∷ "(func 4" ∷ [])) ≡ refused (StackSize 1))
-    × (judge checkRows 16384 (lines ("(stack 5)" ∷ "(func 6" ∷ "  (return)" ∷ ")" ∷ [])) ≡ refused (FrameSize 2))
-    × (judge checkRows 16384 (lines ("(stack 5)" ∷ "(func 5" ∷ "  (store 5)" ∷ [])) ≡ refused (Offset 3))
-    × (judge checkRows 16384 (lines ("(stack 4)" ∷ "(func 1" ∷ (replicate 256 "  (store 0)" ++ ("  (return)" ∷ ")" ∷ []))))
-    ≡ refused (TooMany 259))
-    × (judge checkRows 16384 (lines ("(stack 5)" ∷ "(func 1" ∷ "  (store 0)" ∷ "  (ensure 1)" ∷ "  (either 7 4)" ∷ "  (load 0)"
+    (judged (lines ([])) ≡ refused (refuse Form 1))
+    × (judged (bytes "(stack 1)") ≡ refused (refuse Form 1))
+    × (judged (bytes "(st") ≡ refused (refuse Form 1))
+    × (judged (lines ("(stack 65)" ∷ "(stack 16)" ∷ "(func 4" ∷ [])) ≡ refused (refuse StackSize 1))
+    × (judged (lines ("(stack 5)" ∷ "(func 6" ∷ "  (return)" ∷ ")" ∷ [])) ≡ refused (refuse FrameSize 2))
+    × (judged (lines ("(stack 5)" ∷ "(func 5" ∷ "  (store 5)" ∷ [])) ≡ refused (refuse Offset 3))
+    × (judged (lines ("(stack 4)" ∷ "(func 1" ∷ (replicate 256 "  (store 0)" ++ ("  (return)" ∷ ")" ∷ []))))
+    ≡ refused (refuse TooMany 259))
+    × (judged (lines ("(stack 5)" ∷ "(func 1" ∷ "  (store 0)" ∷ "  (ensure 1)" ∷ "  (either 7 4)" ∷ "  (load 0)"
     ∷ "  (load 0)" ∷ "  (load 0)" ∷ "  (load 0)" ∷ "  (either 9 11)" ∷ "  (load 0)" ∷ "  (store 0)" ∷ "  (return)" ∷ ")"
     ∷ "(func 0" ∷ "  (either 1 1)" ∷ "  (goto 2)" ∷ "  (goto 3)" ∷ "  (goto 4)" ∷ "  (goto 5)" ∷ "  (goto 6)" ∷ "  (return)"
-    ∷ ")" ∷ [])) ≡ refused (Pairing 4))
-    × (judge checkRows 16384 (lines ("(stack 6)" ∷ "(func 5" ∷ "  (store 0)" ∷ "  (store 2)" ∷ "  (store 1)" ∷ "  (store 3)"
+    ∷ ")" ∷ [])) ≡ refused (refuse Pairing 4))
+    × (judged (lines ("(stack 6)" ∷ "(func 5" ∷ "  (store 0)" ∷ "  (store 2)" ∷ "  (store 1)" ∷ "  (store 3)"
     ∷ "  (store 4)" ∷ "  (load 2)" ∷ "  (store 2)" ∷ "  (load 0)" ∷ "  (call 1)" ∷ "  (ensure 5)" ∷ "  (either 11 13)"
     ∷ "  (call 5)" ∷ "  (ensure 5)" ∷ "  (store 0)" ∷ "  (store 1)" ∷ "  (store 2)" ∷ "  (call 1)" ∷ "  (ensure 5)"
     ∷ "  (either 3 19)" ∷ "  (store 1)" ∷ "  (return)" ∷ ")" ∷ "(func 0" ∷ "  (goto 2)" ∷ "  (goto 2)" ∷ "  (either 3 4)"
-    ∷ "  (goto 4)" ∷ "  (goto 5)" ∷ "  (goto 6)" ∷ "  (goto 1)" ∷ ")" ∷ [])) ≡ refused (Callee 14))
-    × (judge checkRows 16384 (lines ("(stack 8)" ∷ "(func 0" ∷ "  (goto 1)" ∷ ")" ∷ [])) ≡ refused (Target 3))
-    × (judge checkRows 16384 (lines ("(stack 1)" ∷ "(func 1" ∷ "  (either 1 1)" ∷ "  (store 0)" ∷ ")" ∷ [])) ≡ refused (LastPoint 4))
-    × (judge checkRows 16384 (lines ("(stack 5)" ∷ "(func 0" ∷ "  (goto 2)" ∷ "  (goto 1)" ∷ "  (return)" ∷ ")" ∷ []))
-    ≡ refused (Unreachable 4))
-    × (judge checkRows 16384 (lines ("(stack 3)" ∷ "(func 1" ∷ "  (call 4)" ∷ "  (ensure 1)" ∷ "  (call 1)" ∷ "  (ensure 1)"
+    ∷ "  (goto 4)" ∷ "  (goto 5)" ∷ "  (goto 6)" ∷ "  (goto 1)" ∷ ")" ∷ [])) ≡ refused (refuse Callee 14))
+    × (judged (lines ("(stack 8)" ∷ "(func 0" ∷ "  (goto 1)" ∷ ")" ∷ [])) ≡ refused (refuse Target 3))
+    × (judged (lines ("(stack 1)" ∷ "(func 1" ∷ "  (either 1 1)" ∷ "  (store 0)" ∷ ")" ∷ [])) ≡ refused (refuse LastPoint 4))
+    × (judged (lines ("(stack 5)" ∷ "(func 0" ∷ "  (goto 2)" ∷ "  (goto 1)" ∷ "  (return)" ∷ ")" ∷ []))
+    ≡ refused (refuse Unreachable 4))
+    × (judged (lines ("(stack 3)" ∷ "(func 1" ∷ "  (call 4)" ∷ "  (ensure 1)" ∷ "  (call 1)" ∷ "  (ensure 1)"
     ∷ "  (store 0)" ∷ "  (call 1)" ∷ "  (ensure 1)" ∷ "  (call 2)" ∷ "  (ensure 1)" ∷ "  (call 1)" ∷ "  (ensure 1)"
     ∷ "  (return)" ∷ ")" ∷ "(func 3" ∷ "  (store 2)" ∷ "  (store 1)" ∷ "  (store 0)" ∷ "  (store 1)" ∷ "  (store 1)"
     ∷ "  (load 2)" ∷ "  (goto 7)" ∷ "  (either 8 8)" ∷ "  (return)" ∷ ")" ∷ "(func 1" ∷ "  (store 0)" ∷ "  (either 2 5)"
     ∷ "  (goto 3)" ∷ "  (load 0)" ∷ "  (store 0)" ∷ "  (either 6 7)" ∷ "  (load 0)" ∷ "  (either 8 10)" ∷ "  (load 0)"
     ∷ "  (either 10 4)" ∷ "  (return)" ∷ ")" ∷ "(func 0" ∷ "  (call 4)" ∷ "  (ensure 0)" ∷ "  (goto 3)" ∷ "  (either 4 4)"
     ∷ "  (call 4)" ∷ "  (ensure 0)" ∷ "  (goto 7)" ∷ "  (call 4)" ∷ "  (ensure 0)" ∷ "  (goto 10)" ∷ "  (either 11 11)"
-    ∷ "  (goto 3)" ∷ ")" ∷ "(func 0" ∷ "  (goto 1)" ∷ "  (return)" ∷ ")" ∷ [])) ≡ refused (Uncalled 40))
-    × (judge checkRows 16384 (lines ("(stack 16)" ∷ "(func 6" ∷ "  (store 3)" ∷ "  (store 2)" ∷ "  (store 0)" ∷ "  (load 1)"
-    ∷ "  (either 1 5)" ∷ "  (return)" ∷ ")" ∷ [])) ≡ refused (Uninitialised 6))
+    ∷ "  (goto 3)" ∷ ")" ∷ "(func 0" ∷ "  (goto 1)" ∷ "  (return)" ∷ ")" ∷ [])) ≡ refused (refuse Uncalled 40))
+    × (judged (lines ("(stack 16)" ∷ "(func 6" ∷ "  (store 3)" ∷ "  (store 2)" ∷ "  (store 0)" ∷ "  (load 1)"
+    ∷ "  (either 1 5)" ∷ "  (return)" ∷ ")" ∷ [])) ≡ refused (refuse Uninitialised 6))
 unfolding opened lines sample
 refusals = (refl, refl, refl, refl, refl, refl, refl, refl, refl, refl, refl, refl, refl, refl)
 
 -- reports: loops and branches; calls in a row; a chain of calls in a small cache
 pub reports :
-    (reportText (the (judge checkRows 16384 (lines ("(stack 4)" ∷ "(func 4" ∷ "  (either 1 3)" ∷ "  (store 0)" ∷ "  (goto 5)"
+    (reportText (the (judged (lines ("(stack 4)" ∷ "(func 4" ∷ "  (either 1 3)" ∷ "  (store 0)" ∷ "  (goto 5)"
     ∷ "  (store 3)" ∷ "  (either 5 1)" ∷ "  (either 6 6)" ∷ "  (either 7 1)" ∷ "  (store 0)" ∷ "  (either 7 4)" ∷ ")" ∷ []))))
     ≡ lines ("(report" ∷ "  (func 0 4 4 4 0 0)" ∷ "  (at 0 4 4 4 0 0 0 0 0 0)" ∷ "  (at 1 4 4 1 0 0 0 0 0 0)"
     ∷ "  (at 2 4 4 1 0 0 0 0 0 0)" ∷ "  (at 3 4 4 4 0 0 0 0 0 0)" ∷ "  (at 4 4 4 1 0 0 0 0 0 0)" ∷ "  (at 5 4 4 1 0 0 0 0 0 0)"
     ∷ "  (at 6 4 4 1 0 0 0 0 0 0)" ∷ "  (at 7 4 4 1 0 0 0 0 0 0)" ∷ "  (at 8 4 4 1 0 0 0 0 0 0)" ∷ ")" ∷ []))
-    × (reportText (the (judge checkRows 16384 (lines ("(stack 6)" ∷ "(func 0" ∷ "  (goto 1)" ∷ "  (call 1)" ∷ "  (ensure 0)"
+    × (reportText (the (judged (lines ("(stack 6)" ∷ "(func 0" ∷ "  (goto 1)" ∷ "  (call 1)" ∷ "  (ensure 0)"
     ∷ "  (goto 4)" ∷ "  (goto 5)" ∷ "  (goto 4)" ∷ ")" ∷ "(func 6" ∷ "  (store 2)" ∷ "  (store 5)" ∷ "  (store 1)"
     ∷ "  (call 2)" ∷ "  (ensure 6)" ∷ "  (call 2)" ∷ "  (ensure 6)" ∷ "  (store 2)" ∷ "  (either 9 9)" ∷ "  (return)" ∷ ")"
     ∷ "(func 5" ∷ "  (store 2)" ∷ "  (store 0)" ∷ "  (goto 2)" ∷ ")" ∷ [])))) ≡ lines ("(report" ∷ "  (func 0 0 11 11 0 0)"
@@ -78,7 +79,7 @@ pub reports :
     ∷ "  (at 5 6 6 0 0 0 1 0 1 0)" ∷ "  (at 6 1 6 0 0 0 1 0 1 5)" ∷ "  (at 7 6 6 3 0 0 0 0 0 0)" ∷ "  (at 8 6 6 0 0 0 0 0 0 0)"
     ∷ "  (at 9 6 6 0 0 0 0 0 0 0)" ∷ "  (func 2 5 5 5 5 1)" ∷ "  (at 0 6 5 3 1 0 0 1 2 0)" ∷ "  (at 1 6 5 1 1 0 0 1 2 0)"
     ∷ "  (at 2 6 5 0 1 0 0 1 2 0)" ∷ ")" ∷ []))
-    × (reportText (the (judge checkRows 16384 (lines ("(stack 2)" ∷ "(func 1" ∷ "  (call 2)" ∷ "  (ensure 1)" ∷ "  (call 2)"
+    × (reportText (the (judged (lines ("(stack 2)" ∷ "(func 1" ∷ "  (call 2)" ∷ "  (ensure 1)" ∷ "  (call 2)"
     ∷ "  (ensure 1)" ∷ "  (call 1)" ∷ "  (ensure 1)" ∷ "  (goto 7)" ∷ "  (call 1)" ∷ "  (ensure 1)" ∷ "  (either 10 10)"
     ∷ "  (store 0)" ∷ "  (return)" ∷ ")" ∷ "(func 1" ∷ "  (either 1 4)" ∷ "  (either 2 4)" ∷ "  (call 2)" ∷ "  (ensure 1)"
     ∷ "  (call 2)" ∷ "  (ensure 1)" ∷ "  (return)" ∷ ")" ∷ "(func 0" ∷ "  (either 1 1)" ∷ "  (return)" ∷ ")" ∷ []))))
@@ -98,7 +99,7 @@ pub runs :
     ∷ 589427096 ∷ 0 ∷ 3997777106 ∷ 0 ∷ 0 ∷ 0 ∷ 0 ∷ []) (373894995 ∷ 2968548144 ∷ 886888172 ∷ 3830429940 ∷ 3190996365
     ∷ []) (898285158 ∷ 1500554193 ∷ 2598987744 ∷ 1007897788 ∷ 1265440252 ∷ []) (858584284 ∷ [])
     ≡ record {
-      result = record { ending = Refused (AfterFinish 3); done = 3; moved = 0; allowed = 0 };
+      result = record { ending = Refused (refuse AfterFinish 3); done = 3; moved = 0; allowed = 0 };
       work = spaceAfter;
       answers = 0
           ∷ 0 ∷ 0 ∷ 3830429940 ∷ 3190996365 ∷ [];
@@ -148,7 +149,7 @@ pub runs :
     ∷ "  (goto 5)" ∷ "  (goto 7)" ∷ "  (return)" ∷ "  (either 5 8)" ∷ "  (goto 6)" ∷ ")" ∷ [])) space (7 ∷ []) ([]) (1138740478
     ∷ 3583472818 ∷ []) (670524004 ∷ 1676998962 ∷ [])
     ≡ record {
-      result = record { ending = Refused EventList; done = 0; moved = 0; allowed = 0 };
+      result = record { ending = Refused (refuse EventList 0); done = 0; moved = 0; allowed = 0 };
       work = spaceAfter;
       answers = [];
       cache = 1138740478
@@ -160,7 +161,7 @@ pub runs :
     ∷ 4174468066 ∷ 2193317402 ∷ 3117858009 ∷ 69215398 ∷ []) (3996965014 ∷ 2450955901 ∷ 4248015098 ∷ 371480247 ∷ 2559686712 ∷ 1
     ∷ []) (2908766338 ∷ 935844569 ∷ 3984743703 ∷ 2776743189 ∷ [])
     ≡ record {
-      result = record { ending = Refused (CacheSize 5); done = 0; moved = 0; allowed = 0 };
+      result = record { ending = Refused (refuse CacheSize 5); done = 0; moved = 0; allowed = 0 };
       work = spaceAfter;
       answers = 344260931
           ∷ 4174468066 ∷ 2193317402 ∷ 3117858009 ∷ 69215398 ∷ [];
@@ -174,19 +175,19 @@ runs = (refl, refl, refl, refl, refl)
 -- where several rows hold: 11 before 12 before 13 whatever the lines; 7 before 8 on one line, 9 before 7 by line, 8 before 10; 4 by
 -- line before 5; 3 before 2 by line; the first of two lines; 15 before all
 pub orders :
-    (judge checkRows 16384 (lines ("(stack 4)" ∷ "(func 2" ∷ "  (load 0)" ∷ "  (return)" ∷ ")" ∷ "(func 1" ∷ "  (goto 2)"
-    ∷ "  (return)" ∷ "  (return)" ∷ ")" ∷ [])) ≡ refused (Unreachable 8))
-    × (judge checkRows 16384 (lines ("(stack 4)" ∷ "(func 2" ∷ "  (load 0)" ∷ "  (return)" ∷ ")" ∷ "(func 1" ∷ "  (return)" ∷ ")"
-    ∷ "(func 1" ∷ "  (return)" ∷ ")" ∷ [])) ≡ refused (Uncalled 6))
-    × (judge checkRows 16384 (lines ("(stack 4)" ∷ "(func 2" ∷ "  (load 0)" ∷ "  (load 1)" ∷ "  (return)" ∷ ")" ∷ []))
-    ≡ refused (Uninitialised 3))
-    × (judge checkRows 16384 (lines ("(stack 4)" ∷ "(func 2" ∷ "  (call 0)" ∷ "  (goto 9)" ∷ ")" ∷ [])) ≡ refused (Callee 3))
-    × (judge checkRows 16384 (lines ("(stack 4)" ∷ "(func 2" ∷ "  (goto 9)" ∷ "  (call 0)" ∷ ")" ∷ [])) ≡ refused (Target 3))
-    × (judge checkRows 16384 (lines ("(stack 4)" ∷ "(func 2" ∷ "  (call 1)" ∷ ")" ∷ "(func 0" ∷ "  (return)" ∷ ")" ∷ []))
-    ≡ refused (Pairing 3))
-    × (judge checkRows 16384 (lines ("(stack 4)" ∷ "(func 5" ∷ "  (load 7)" ∷ "x" ∷ [])) ≡ refused (FrameSize 2))
-    × (judge checkRows 16384 (lines ("(stack 65)" ∷ "x" ∷ [])) ≡ refused (StackSize 1))
-    × (judge checkRows 16383 (lines ("x" ∷ [])) ≡ refused WorkTooSmall)
+    (judged (lines ("(stack 4)" ∷ "(func 2" ∷ "  (load 0)" ∷ "  (return)" ∷ ")" ∷ "(func 1" ∷ "  (goto 2)"
+    ∷ "  (return)" ∷ "  (return)" ∷ ")" ∷ [])) ≡ refused (refuse Unreachable 8))
+    × (judged (lines ("(stack 4)" ∷ "(func 2" ∷ "  (load 0)" ∷ "  (return)" ∷ ")" ∷ "(func 1" ∷ "  (return)" ∷ ")"
+    ∷ "(func 1" ∷ "  (return)" ∷ ")" ∷ [])) ≡ refused (refuse Uncalled 6))
+    × (judged (lines ("(stack 4)" ∷ "(func 2" ∷ "  (load 0)" ∷ "  (load 1)" ∷ "  (return)" ∷ ")" ∷ []))
+    ≡ refused (refuse Uninitialised 3))
+    × (judged (lines ("(stack 4)" ∷ "(func 2" ∷ "  (call 0)" ∷ "  (goto 9)" ∷ ")" ∷ [])) ≡ refused (refuse Callee 3))
+    × (judged (lines ("(stack 4)" ∷ "(func 2" ∷ "  (goto 9)" ∷ "  (call 0)" ∷ ")" ∷ [])) ≡ refused (refuse Target 3))
+    × (judged (lines ("(stack 4)" ∷ "(func 2" ∷ "  (call 1)" ∷ ")" ∷ "(func 0" ∷ "  (return)" ∷ ")" ∷ []))
+    ≡ refused (refuse Pairing 3))
+    × (judged (lines ("(stack 4)" ∷ "(func 5" ∷ "  (load 7)" ∷ "x" ∷ [])) ≡ refused (refuse FrameSize 2))
+    × (judged (lines ("(stack 65)" ∷ "x" ∷ [])) ≡ refused (refuse StackSize 1))
+    × (judge (workRow 16383) noRows (lines ("x" ∷ [])) ≡ refused (refuse WorkTooSmall 16384))
 unfolding opened lines sample
 orders = (refl, refl, refl, refl, refl, refl, refl, refl, refl)
 
@@ -194,31 +195,31 @@ orders = (refl, refl, refl, refl, refl, refl, refl, refl, refl)
 -- store in one branch leaves the other branch live.
 -- Then refusals of events, in their order, and 17 and 19
 pub turns :
-    (reportText (the (judge checkRows 16384 (lines ("(stack 4)" ∷ "(func 2" ∷ "  (store 1)" ∷ "  (call 1)" ∷ "  (ensure 2)"
+    (reportText (the (judged (lines ("(stack 4)" ∷ "(func 2" ∷ "  (store 1)" ∷ "  (call 1)" ∷ "  (ensure 2)"
     ∷ "  (call 2)" ∷ "  (ensure 2)" ∷ "  (load 1)" ∷ "  (return)" ∷ ")" ∷ "(func 4" ∷ "  (return)" ∷ ")" ∷ "(func 0"
     ∷ "  (return)" ∷ ")" ∷ [])))) ≡ lines ("(report" ∷ "  (func 0 2 2 6 0 0)" ∷ "  (at 0 2 2 2 0 0 0 0 0 0)"
     ∷ "  (at 1 2 1 0 1 0 0 0 1 0)" ∷ "  (at 2 0 1 0 0 0 0 0 0 2)" ∷ "  (at 3 2 1 0 1 0 2 0 3 0)" ∷ "  (at 4 2 1 0 1 0 2 0 3 0)"
     ∷ "  (at 5 2 1 2 1 1 0 0 2 0)" ∷ "  (at 6 2 2 0 0 0 0 0 0 0)" ∷ "  (func 1 4 4 4 2 0)" ∷ "  (at 0 4 4 0 0 0 0 0 0 0)"
     ∷ "  (func 2 0 0 0 0 2)" ∷ "  (at 0 2 0 0 2 0 0 2 4 0)" ∷ ")" ∷ []))
-    × (reportText (the (judge checkRows 16384 (lines ("(stack 4)" ∷ "(func 3" ∷ "  (call 1)" ∷ "  (ensure 3)" ∷ "  (return)" ∷ ")"
+    × (reportText (the (judged (lines ("(stack 4)" ∷ "(func 3" ∷ "  (call 1)" ∷ "  (ensure 3)" ∷ "  (return)" ∷ ")"
     ∷ "(func 1" ∷ "  (either 1 3)" ∷ "  (call 2)" ∷ "  (ensure 1)" ∷ "  (return)" ∷ ")" ∷ "(func 2" ∷ "  (return)" ∷ ")"
     ∷ [])))) ≡ lines ("(report" ∷ "  (func 0 3 4 6 0 0)" ∷ "  (at 0 3 3 0 0 0 1 0 1 0)" ∷ "  (at 1 3 3 0 0 0 1 0 1 2)"
     ∷ "  (at 2 3 3 0 0 0 0 0 0 0)" ∷ "  (func 1 1 1 3 0 1)" ∷ "  (at 0 4 1 0 3 0 1 1 5 0)" ∷ "  (at 1 4 1 0 3 0 1 1 5 0)"
     ∷ "  (at 2 2 1 0 1 0 1 1 3 0)" ∷ "  (at 3 4 1 0 3 0 0 1 4 0)" ∷ "  (func 2 2 2 2 2 2)" ∷ "  (at 0 4 2 0 2 0 0 2 4 0)" ∷ ")"
     ∷ []))
-    × (reportText (the (judge checkRows 16384 (lines ("(stack 2)" ∷ "(func 1" ∷ "  (store 0)" ∷ "  (either 2 4)" ∷ "  (store 0)"
+    × (reportText (the (judged (lines ("(stack 2)" ∷ "(func 1" ∷ "  (store 0)" ∷ "  (either 2 4)" ∷ "  (store 0)"
     ∷ "  (goto 4)" ∷ "  (load 0)" ∷ "  (return)" ∷ ")" ∷ [])))) ≡ lines ("(report" ∷ "  (func 0 1 1 1 0 0)"
     ∷ "  (at 0 1 1 1 0 0 0 0 0 0)" ∷ "  (at 1 1 0 1 1 1 0 0 2 0)" ∷ "  (at 2 1 1 1 0 0 0 0 0 0)" ∷ "  (at 3 1 0 1 1 1 0 0 2 0)"
     ∷ "  (at 4 1 0 1 1 1 0 0 2 0)" ∷ "  (at 5 1 1 0 0 0 0 0 0 0)" ∷ ")" ∷ []))
     × (runOf (lines ("(stack 2)" ∷ "(func 1" ∷ "  (store 0)" ∷ "  (either 2 4)" ∷ "  (store 0)" ∷ "  (goto 4)" ∷ "  (load 0)"
     ∷ "  (return)" ∷ ")" ∷ [])) space (0 ∷ 5 ∷ 0 ∷ 2 ∷ []) (replicate 2 0) (replicate 2 0) (replicate 1 0) .result .ending
-    ≡ Refused (Choice 1))
+    ≡ Refused (refuse Choice 1))
     × (runOf (lines ("(stack 2)" ∷ "(func 1" ∷ "  (store 0)" ∷ "  (either 2 4)" ∷ "  (store 0)" ∷ "  (goto 4)" ∷ "  (load 0)"
     ∷ "  (return)" ∷ ")" ∷ [])) space (0 ∷ 5 ∷ 1 ∷ 2 ∷ 0 ∷ 1 ∷ 2 ∷ 0
-    ∷ []) (replicate 4 0) (replicate 2 0) (replicate 1 0) .result .ending ≡ Refused (Kind 3))
+    ∷ []) (replicate 4 0) (replicate 2 0) (replicate 1 0) .result .ending ≡ Refused (refuse Kind 3))
     × (runOf (sample) space (0 ∷ 0 ∷ 0 ∷ 0 ∷ 0 ∷ 0 ∷ 0 ∷ 0 ∷ 0 ∷ 0 ∷ 0 ∷ 0 ∷ 0 ∷ 0 ∷ 0 ∷ 0 ∷ 9 ∷ 9
-    ∷ []) (replicate 9 0) (replicate 5 0) (replicate 6 0) .result .ending ≡ Refused (AfterFinish 8))
-    × (runOf (sample) space (0 ∷ 0 ∷ []) (replicate 0 0) (replicate 5 0) (replicate 6 0) .result .ending ≡ Refused (AnswersTooSmall 1))
-    × (runOf (sample) space (0 ∷ 0 ∷ []) (replicate 1 0) (replicate 5 0) (replicate 5 0) .result .ending ≡ Refused (MemoryTooSmall 6))
+    ∷ []) (replicate 9 0) (replicate 5 0) (replicate 6 0) .result .ending ≡ Refused (refuse AfterFinish 8))
+    × (runOf (sample) space (0 ∷ 0 ∷ []) (replicate 0 0) (replicate 5 0) (replicate 6 0) .result .ending ≡ Refused (refuse AnswersTooSmall 1))
+    × (runOf (sample) space (0 ∷ 0 ∷ []) (replicate 1 0) (replicate 5 0) (replicate 5 0) .result .ending ≡ Refused (refuse MemoryTooSmall 6))
 unfolding opened lines sample
 turns = (refl, refl, refl, refl, refl, refl, refl, refl)

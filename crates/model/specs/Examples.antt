@@ -4,10 +4,11 @@ use Prim.Native.String.{String}
 use mathlib.Core.Path.{_≡_, refl}
 use mathlib.Core.List.{List, [], _∷_, _++_}
 use lib.ListN.{replicate}
-use Rattle.model.specs.declared.Refusal.the-variants.{Form, StackSize, FrameSize, Offset}
+use Rattle.model.specs.declared.Row.the-variants.{Form, StackSize, FrameSize, Offset}
 use Rattle.model.specs.declared.Verdict.the-variants.{Accepted}
 use Rattle.model.specs.declared.Verdict.the-variants as verdict
 use Rattle.model.specs.declared.Ending.the-variants.{AllDone}
+use Rattle.model.specs.Rows.{refuse}
 use Rattle.model.specs.Basic.{joined}
 use Rattle.model.specs.Text.{bytes}
 use Rattle.model.specs.Core.{Core, reserve, ensure, free}
@@ -111,12 +112,12 @@ pub starred :
       memory = 8 ∷ 22 ∷ 6 ∷ 6 ∷ 6 ∷ 6 ∷ 11 ∷ [];
     })
     × (sampleRun [] .result ≡ record { ending = AllDone; done = 0; moved = 0; allowed = 0 })
-    × (verdictOn [] ≡ record { verdict = verdict.Refused (Form 1); work = spaceAfter })
-    × (verdictOn ("(stack 65)" ∷ []) ≡ record { verdict = verdict.Refused (StackSize 1); work = spaceAfter })
+    × (verdictOn [] ≡ record { verdict = verdict.Refused (refuse Form 1); work = spaceAfter })
+    × (verdictOn ("(stack 65)" ∷ []) ≡ record { verdict = verdict.Refused (refuse StackSize 1); work = spaceAfter })
     × (verdictOn ("(stack 5)" ∷ "(func 5" ∷ "  (return)" ∷ ")" ∷ []) ≡ record { verdict = Accepted; work = spaceAfter })
     × (verdictOn ("(stack 5)" ∷ "(func 6" ∷ "  (return)" ∷ ")" ∷ [])
-    ≡ record { verdict = verdict.Refused (FrameSize 2); work = spaceAfter })
+    ≡ record { verdict = verdict.Refused (refuse FrameSize 2); work = spaceAfter })
     × (verdictOn ("(stack 5)" ∷ "(func 0" ∷ "  (load 0)" ∷ "  (return)" ∷ ")" ∷ [])
-    ≡ record { verdict = verdict.Refused (Offset 3); work = spaceAfter })
+    ≡ record { verdict = verdict.Refused (refuse Offset 3); work = spaceAfter })
 unfolding opened lines five sample sampleReport space spaceAfter sevenSteps withPreemption
 starred = (refl, refl, refl, refl, refl, refl, refl, refl, refl, refl, refl, refl, refl, refl)

@@ -1,5 +1,7 @@
 -- Every definition of document 01, in its order. This folder is what a reader has to believe.
 pub mod Basic
+pub mod Limits
+pub mod Rows
 pub mod Text
 pub mod Task
 pub mod Walk
@@ -7,6 +9,7 @@ pub mod Core
 pub mod Figures
 pub mod Sheet
 pub mod Refusal
+pub mod WellFormed
 pub mod Plain
 pub mod Run
 pub mod Services

@@ -100,6 +100,9 @@ plainFrom t i fs (e ∷ es) =
     (answerOf t fs (act e))
     (plainFrom t (suc i) (afterEvent t fs (act e)) es)
 
--- function 0 has been entered, its frame all zeros
+-- at the start function 0 has been entered, its frame all zeros
+abbrev pub firstFrames : Task → List Frame
+firstFrames t = entered t 0 ∷ []
+
 abbrev pub plain : Task → List Event → Plain
-plain t es = plainFrom t 0 (entered t 0 ∷ []) es
+plain t es = plainFrom t 0 (firstFrames t) es

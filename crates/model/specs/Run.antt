@@ -14,7 +14,7 @@ use Rattle.model.specs.Task.{Task, func, point}
 use Rattle.model.specs.Core.{Core, saveMoves, resumeMoves, reserve, free, ensure, load, store, preempt, filledWith}
 use Rattle.model.specs.Sheet.{Sheet}
 use Rattle.model.specs.Refusal.{eventRows}
-use Rattle.model.specs.Plain.{Event, Act, takes, preempted, act, Frame, entered, running, afterEvent, plain}
+use Rattle.model.specs.Plain.{Event, Act, takes, preempted, act, Frame, running, afterEvent, firstFrames, plain}
 
 -- a frame of the run is a function and a point: its numbers are in the cache and the memory
 pub record Place : Type 0 where
@@ -150,7 +150,7 @@ allowedFrom t s i fs (e ∷ es) =
     (allowedFrom t s (suc i) (afterEvent t fs (act e)) es)
 
 abbrev pub allowed : Task → Sheet → List Event → ℕ
-allowed t s es = allowedFrom t s 0 (entered t 0 ∷ []) es
+allowed t s es = allowedFrom t s 0 (firstFrames t) es
 
 -- demand 3, of one run from a fresh start on core c: it ends, counts its events and answers as the plain stack does, and it moves at
 -- most what the sheet allows

@@ -1,20 +1,25 @@
--- What check, report and run return and what every lent buffer holds afterwards, for every input.
-use Prim.Native.Nat.{ℕ}
+-- What check, report and run return and what every lent buffer holds afterwards, for every input; and demand 3 of run.
+use Prim.Native.Nat.{ℕ, _≤_}
 use mathlib.Core.List.{List, [], _++_}
+use mathlib.Core.Option.{Option}
+use mathlib.Core.Path.{_≡_}
 use lib.ListN.{length, drop, replicate}
 use lib.Dec.{ltb}
+use Rattle.model.specs.declared.Refusal.{Refusal}
 use Rattle.model.specs.declared.Verdict.{Verdict}
 use Rattle.model.specs.declared.Verdict.the-variants.{Accepted}
 use Rattle.model.specs.declared.Verdict.the-variants as verdict
 use Rattle.model.specs.declared.Ending.the-variants as ending
-use Rattle.model.specs.declared.ReportResult.{ReportResult}
+use Rattle.model.specs.declared.WriteResult.{WriteResult}
 use Rattle.model.specs.declared.RunResult.{RunResult}
+use Rattle.model.specs.Limits.{workLength}
+use Rattle.model.specs.Rows.{packed}
 use Rattle.model.specs.Basic.{if_then_else_}
-use Rattle.model.specs.Task.{Judged, refused, task}
+use Rattle.model.specs.Task.{Task, Judged, refused, task}
 use Rattle.model.specs.Sheet.{sheetOf, reportText}
-use Rattle.model.specs.Refusal.{workLength, judge, checkRows, reportRows, runRows, packed}
+use Rattle.model.specs.Refusal.{judged, workRow, judge, noRows, outputRows, runRows}
 use Rattle.model.specs.Core.{idle}
-use Rattle.model.specs.Plain.{Event, eventsOf}
+use Rattle.model.specs.Plain.{Event, eventsOf, Plain, plain}
 use Rattle.model.specs.Run.{Ran, ran, allowed}
 
 -- the working space after a service: untouched where it is too small, else its first 16,384 numbers are 0 and the rest is untouched
@@ -35,31 +40,37 @@ pub record AfterCheck : Type 0 where
   pub work : List ℕ
 
 unfoldable pub checkOf : List ℕ → List ℕ → AfterCheck
-checkOf text work = record { verdict = verdictOf (judge checkRows (length work) text); work = cleared work }
+checkOf text work =
+    record { verdict = verdictOf (judge (workRow (length work)) noRows text); work = cleared work }
 
 -- check as C calls it: the text alone, working space of its own, one number
 unfoldable pub checkNumber : List ℕ → ℕ
-checkNumber text = packed (verdictOf (judge checkRows workLength text))
+checkNumber text = packed (verdictOf (judged text))
 
--- report: its result, the working space and the output
-pub record AfterReport : Type 0 where
-  pub result : ReportResult
+-- a service that writes bytes of the task: its result, the working space and the output
+pub record AfterWrite : Type 0 where
+  pub result : WriteResult
   pub work : List ℕ
   pub output : List ℕ
 
-abbrev pub reportedAs : Judged → List ℕ → List ℕ → AfterReport
-reportedAs (refused r) work output =
+abbrev pub writtenAs : (Task → List ℕ) → Judged → List ℕ → List ℕ → AfterWrite
+writtenAs print (refused r) work output =
     record { result = record { verdict = verdict.Refused r; written = 0 }; work = work; output = output }
-reportedAs (task t) work output =
+writtenAs print (task t) work output =
     record {
-      result = record { verdict = Accepted; written = length (reportText t) };
+      result = record { verdict = Accepted; written = length (print t) };
       work = work;
-      output = over (reportText t) output;
+      output = over (print t) output;
     }
 
-unfoldable pub reportOf : List ℕ → List ℕ → List ℕ → AfterReport
-reportOf text work output =
-    reportedAs (judge (reportRows (length output)) (length work) text) (cleared work) output
+-- first: the rows that come before those of the text
+unfoldable pub writtenOf : Option Refusal → (Task → List ℕ) → List ℕ → List ℕ → List ℕ → AfterWrite
+writtenOf first print text work output =
+    writtenAs print (judge first (outputRows print (length output)) text) (cleared work) output
+
+-- report
+abbrev pub reportOf : List ℕ → List ℕ → List ℕ → AfterWrite
+reportOf text work output = writtenOf (workRow (length work)) reportText text work output
 
 -- run: its result, the working space, the answers, the cache and the memory
 pub record AfterRun : Type 0 where
@@ -94,12 +105,33 @@ runAs (refused r) work es answers cache memory =
 runAs (task t) work es answers cache memory =
     servedAs (ran t (sheetOf t) (idle cache memory) es) (allowed t (sheetOf t) es) work answers
 
+-- what is judged before the first event: 15, the text, and the lengths of the buffers
+unfoldable pub runJudged : List ℕ → List ℕ → List ℕ → List ℕ → List ℕ → List ℕ → Judged
+runJudged text work events answers cache memory =
+    judge
+    (workRow (length work))
+    (runRows (length events) (length answers) (length cache) (length memory))
+    text
+
 unfoldable pub runOf : List ℕ → List ℕ → List ℕ → List ℕ → List ℕ → List ℕ → AfterRun
 runOf text work events answers cache memory =
     runAs
-    (judge (runRows (length events) (length answers) (length cache) (length memory)) (length work) text)
+    (runJudged text work events answers cache memory)
     (cleared work)
     (eventsOf events)
     answers
     cache
     memory
+
+-- the plain stack behind the same judgement
+abbrev pub plainAs : Judged → List Event → Plain
+plainAs (refused r) es = record { ending = ending.Refused r; done = 0; answers = [] }
+plainAs (task t) es = plain t es
+
+-- demand 3, of what a run on these buffers has returned and left: it has ended, counted its events and answered as the plain stack does, and it has
+-- moved at most what the sheet allows
+pub record Demand3 (text work events answers cache memory : List ℕ) (after : AfterRun) : Type 0 where
+  pub ending : after .result .ending ≡ plainAs (runJudged text work events answers cache memory) (eventsOf events) .ending
+  pub done : after .result .done ≡ plainAs (runJudged text work events answers cache memory) (eventsOf events) .done
+  pub answered : after .answers ≡ over (plainAs (runJudged text work events answers cache memory) (eventsOf events) .answers) answers
+  pub bounded : after .result .moved ≤ after .result .allowed

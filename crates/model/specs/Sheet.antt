@@ -1,6 +1,6 @@
 -- The preemption sheet: the figures as one record, the formulas of the cost and its parts, and the bytes of the report.
 use Prim.Native.Nat.{ℕ, zero, suc, _+_, _-_, _/_, _%_}
-use mathlib.Core.List.{List, [], _∷_, _++_}
+use mathlib.Core.List.{List, [], _∷_, _++_, map}
 use lib.Dec.{ltb}
 use Rattle.model.specs.Basic.{if_then_else_, joined, upTo}
 use Rattle.model.specs.Text.{bytes}
@@ -72,6 +72,21 @@ inBlocks n = n
 abbrev pub sheetOf : Task → Sheet
 sheetOf t = pricedSheet inBlocks t
 
+-- a record of the report: a point and its figures. Those of a function, and all of them, in the report's order
+pub record Record : Type 0 where
+  pub fn : ℕ
+  pub at : ℕ
+  pub figures : Figured
+
+abbrev pub recordAt : Sheet → ℕ → ℕ → Record
+recordAt s f p = record { fn = f; at = p; figures = s .at f p }
+
+unfoldable pub recordsIn : Task → Sheet → ℕ → List Record
+recordsIn t s f = map (recordAt s f) (upTo (size (func t f)))
+
+unfoldable pub recordsOf : Task → Sheet → List Record
+recordsOf t s = joined (recordsIn t s) (upTo (count t))
+
 -- a number in decimal, by at most n digits
 unfoldable pub decimalTo : ℕ → ℕ → List ℕ
 decimalTo zero m = []
@@ -98,25 +113,26 @@ funcRow t s f =
     ∷ s .chain f
     ∷ [])
 
-unfoldable pub pointRow : ℕ → Figured → List ℕ
-pointRow p x =
+-- the line of a record: all of it but the function, whose line stands above
+unfoldable pub pointRow : Record → List ℕ
+pointRow x =
     row
     (bytes "  (at")
-    (p
-    ∷ x .high
-    ∷ x .dead
-    ∷ x .need
-    ∷ x .save
-    ∷ x .reload
-    ∷ x .later
-    ∷ x .chain
-    ∷ x .cost
-    ∷ x .fill
+    (x .at
+    ∷ x .figures .high
+    ∷ x .figures .dead
+    ∷ x .figures .need
+    ∷ x .figures .save
+    ∷ x .figures .reload
+    ∷ x .figures .later
+    ∷ x .figures .chain
+    ∷ x .figures .cost
+    ∷ x .figures .fill
     ∷ [])
 
 -- a function's lines, and the report
 unfoldable pub funcRows : Task → Sheet → ℕ → List ℕ
-funcRows t s f = funcRow t s f ++ joined (λ p. pointRow p (s .at f p)) (upTo (size (func t f)))
+funcRows t s f = funcRow t s f ++ joined pointRow (recordsIn t s f)
 
 unfoldable pub reportWith : Task → Sheet → List ℕ
 reportWith t s = bytes "(report\n" ++ (joined (funcRows t s) (upTo (count t)) ++ bytes ")\n")

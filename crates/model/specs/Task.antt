@@ -9,7 +9,9 @@ use Rattle.model.specs.declared.Point.the-variants.{Load, Store, Call, E
 use Rattle.model.specs.declared.Line.{Line}
 use Rattle.model.specs.declared.Line.the-variants as line
 use Rattle.model.specs.declared.Refusal.{Refusal}
-use Rattle.model.specs.declared.Refusal.the-variants.{Form, StackSize, FrameSize, Offset, TooMany}
+use Rattle.model.specs.declared.Row.the-variants.{Form, StackSize, FrameSize, Offset, TooMany}
+use Rattle.model.specs.Limits.{mostStack, mostFuncs, mostPoints, mostInAll}
+use Rattle.model.specs.Rows.{refuse}
 use Rattle.model.specs.Basic.{if_then_else_, sumOf}
 use Rattle.model.specs.Text.{linesOf}
 
@@ -27,19 +29,6 @@ pub record Task : Type 0 where
 pub data Judged : Type 0 where
   refused : Refusal → Judged
   task : Task → Judged
-
--- the limits
-abbrev pub mostStack : ℕ
-mostStack = 64
-
-abbrev pub mostFuncs : ℕ
-mostFuncs = 64
-
-abbrev pub mostPoints : ℕ
-mostPoints = 256
-
-abbrev pub mostInAll : ℕ
-mostInAll = 1024
 
 -- how many points, how many functions, how many points in all of these functions
 abbrev pub size : Func → ℕ
@@ -98,39 +87,39 @@ offsetFits k Return = true
 -- line number n where the text has been read as far as the progress: 2 to 6, in this order
 unfoldable pub readLine : ℕ → Progress → Line → Step
 readLine n start (line.Stack s) =
-    if leb 1 s && leb s mostStack then goes (between (record { stack = s; funcs = [] })) else stop (StackSize n)
-readLine n start (line.Func k) = stop (Form n)
-readLine n start (line.At x) = stop (Form n)
-readLine n start line.Close = stop (Form n)
-readLine n start line.Malformed = stop (Form n)
-readLine n (between t) (line.Stack s) = stop (Form n)
+    if leb 1 s && leb s mostStack then goes (between (record { stack = s; funcs = [] })) else stop (refuse StackSize n)
+readLine n start (line.Func k) = stop (refuse Form n)
+readLine n start (line.At x) = stop (refuse Form n)
+readLine n start line.Close = stop (refuse Form n)
+readLine n start line.Malformed = stop (refuse Form n)
+readLine n (between t) (line.Stack s) = stop (refuse Form n)
 readLine n (between t) (line.Func k) =
     if ltb (t .stack) k
-    then stop (FrameSize n)
+    then stop (refuse FrameSize n)
     else
     if leb mostFuncs (count t)
-    then stop (TooMany n)
+    then stop (refuse TooMany n)
     else goes (inside t (record { frame = k; points = [] }))
-readLine n (between t) (line.At x) = stop (Form n)
-readLine n (between t) line.Close = stop (Form n)
-readLine n (between t) line.Malformed = stop (Form n)
-readLine n (inside t x) (line.Stack s) = stop (Form n)
-readLine n (inside t x) (line.Func k) = stop (Form n)
+readLine n (between t) (line.At x) = stop (refuse Form n)
+readLine n (between t) line.Close = stop (refuse Form n)
+readLine n (between t) line.Malformed = stop (refuse Form n)
+readLine n (inside t x) (line.Stack s) = stop (refuse Form n)
+readLine n (inside t x) (line.Func k) = stop (refuse Form n)
 readLine n (inside t x) (line.At p) =
     if not (offsetFits (x .frame) p)
-    then stop (Offset n)
+    then stop (refuse Offset n)
     else
     if leb mostPoints (size x) || leb mostInAll (inAll (t .funcs) + size x)
-    then stop (TooMany n)
+    then stop (refuse TooMany n)
     else goes (inside t (withPoint x p))
-readLine n (inside t x) line.Close = if leb 1 (size x) then goes (between (withFunc t x)) else stop (Form n)
-readLine n (inside t x) line.Malformed = stop (Form n)
+readLine n (inside t x) line.Close = if leb 1 (size x) then goes (between (withFunc t x)) else stop (refuse Form n)
+readLine n (inside t x) line.Malformed = stop (refuse Form n)
 
 -- the text ends before line n: a line that is missing is refused as one of no allowed form
 unfoldable pub readEnd : ℕ → Progress → Judged
-readEnd n start = refused (Form n)
-readEnd n (between t) = if leb 1 (count t) then task t else refused (Form n)
-readEnd n (inside t x) = refused (Form n)
+readEnd n start = refused (refuse Form n)
+readEnd n (between t) = if leb 1 (count t) then task t else refused (refuse Form n)
+readEnd n (inside t x) = refused (refuse Form n)
 
 abbrev pub onward : Step → (Progress → Judged) → Judged
 onward (stop r) go = refused r

@@ -1,5 +1,25 @@
 // The declared types of the kit: what a line, a point, a refusal and a result can be. Nothing runs here; the definitions are in specs/.
 
+// The limits of a task text, and the lengths that bound the buffers.
+pub struct Limits;
+
+impl Limits {
+    // Cache blocks.
+    pub const STACK: u32 = 64;
+
+    pub const FUNCS: usize = 64;
+    // Points of one function, and of all together.
+    pub const POINTS: usize = 256;
+
+    pub const IN_ALL: usize = 1024;
+    // Bytes of a text.
+    pub const BYTES: usize = 32768;
+    // Numbers of the working space that a service uses.
+    pub const WORK: usize = 16384;
+    // Numbers of an event list, two for each event.
+    pub const EVENT_NUMBERS: usize = 131072;
+}
+
 // A point of a function. Offsets, callees, frame sizes and targets are numbers of the text.
 pub enum Point {
     Load(u32),
@@ -21,36 +41,37 @@ pub enum Line {
     Malformed,
 }
 
-// Why a service refuses, with the place that it returns. specs/Refusal.antt gives the number of each.
-pub enum Refusal {
+// A row of document 01's table of refusals. specs/Rows.antt gives the number of each.
+pub enum Row {
     WorkTooSmall,
     TextTooLong,
-    // The place of these is a line, counted from 1.
-    Form(u32),
-    StackSize(u32),
-    FrameSize(u32),
-    Offset(u32),
-    TooMany(u32),
-    Callee(u32),
-    Pairing(u32),
-    Target(u32),
-    LastPoint(u32),
-    Unreachable(u32),
-    Uncalled(u32),
-    Uninitialised(u32),
-    // The length wanted.
-    OutputTooSmall(u32),
+    Form,
+    StackSize,
+    FrameSize,
+    Offset,
+    TooMany,
+    Callee,
+    Pairing,
+    Target,
+    LastPoint,
+    Unreachable,
+    Uncalled,
+    Uninitialised,
+    OutputTooSmall,
     EventList,
-    // The number of events.
-    AnswersTooSmall(u32),
-    // The cache size S of the text.
-    CacheSize(u32),
-    // The longest displacement of function 0.
-    MemoryTooSmall(u32),
-    // The place of these is an event, counted from 0.
-    AfterFinish(u32),
-    Kind(u32),
-    Choice(u32),
+    AnswersTooSmall,
+    CacheSize,
+    MemoryTooSmall,
+    AfterFinish,
+    Kind,
+    Choice,
+}
+
+// Why a service refuses: the row that is met, and its place. That is a line, counted from 1; an event, counted from 0; a length, a number of
+// events or of blocks that would do; or 0.
+pub struct Refusal {
+    pub row: Row,
+    pub place: u32,
 }
 
 // What check and report say of a text and the lent buffers.
@@ -65,8 +86,8 @@ pub enum Ending {
     Refused(Refusal),
 }
 
-// What report returns beside the buffers.
-pub struct ReportResult {
+// What a service that writes bytes returns beside the buffers.
+pub struct WriteResult {
     pub verdict: Verdict,
     pub written: u32,
 }

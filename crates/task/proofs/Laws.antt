@@ -15,7 +15,8 @@ use Rattle.model.specs.declared.Point.{Point}
 use Rattle.model.specs.declared.Line.{Line}
 use Rattle.model.specs.declared.Line.the-variants.{Stack, Func, At, Close, Malformed}
 use Rattle.model.specs.declared.Refusal.{Refusal}
-use Rattle.model.specs.declared.Refusal.the-variants.{Form, StackSize, FrameSize, Offset, TooMany}
+use Rattle.model.specs.declared.Row.the-variants.{Form, StackSize, FrameSize, Offset, TooMany}
+use Rattle.model.specs.Rows.{refuse}
 use Rattle.model.specs.Basic.{if_then_else_}
 use Rattle.model.specs.Text.{linesFrom, linesOf}
 use Rattle.model.specs.Task.{Func as Function}
@@ -73,11 +74,11 @@ module _ {text : List ℕ} {a : ℕ} {l : Line} {k : ℕ} (next : Next text a l 
 
 -- a point line, after the functions of tb and m points
 module _ (w : List ℕ) (tb : Tables) (k m n : ℕ) (x : Point) (holds : Holds w tb) where
-  pub point-offset : offsetFits k x ≡ false → readLine n (insideOf w tb k m) (At x) ≡ stop (Offset n)
+  pub point-offset : offsetFits k x ≡ false → readLine n (insideOf w tb k m) (At x) ≡ stop (refuse Offset n)
   unfolding readLine
   point-offset h = rw h
 
-  pub point-many : offsetFits k x ≡ true → min 256 (1024 - tb .points) ≤ m → readLine n (insideOf w tb k m) (At x) ≡ stop (TooMany n)
+  pub point-many : offsetFits k x ≡ true → min 256 (1024 - tb .points) ≤ m → readLine n (insideOf w tb k m) (At x) ≡ stop (refuse TooMany n)
   unfolding readLine
   point-many h i =
       elim (decLt m 256) [
@@ -109,7 +110,7 @@ module _ (w : List ℕ) (tb : Tables) (k m n : ℕ) (x : Point) (holds : Holds w
       )
 
 -- a closing line
-pub close-empty : (w : List ℕ) (tb : Tables) (k m n : ℕ) → m ≡ 0 → readLine n (insideOf w tb k m) Close ≡ stop (Form n)
+pub close-empty : (w : List ℕ) (tb : Tables) (k m n : ℕ) → m ≡ 0 → readLine n (insideOf w tb k m) Close ≡ stop (refuse Form n)
 unfolding readLine pointsOf
 close-empty w tb k m n e = rw e
 
@@ -118,7 +119,7 @@ unfolding readLine
 close-goes w tb k m n h = rw (length-points w (tb .points) m, le-leb 1 m h)
 
 -- no line, or a line of another form than the progress allows
-pub not-inside : (n : ℕ) (t : Task) (x : Function) (ls : List Line) → firstIs isInside ls ≡ false → readFrom n (inside t x) ls ≡ refused (Form n)
+pub not-inside : (n : ℕ) (t : Task) (x : Function) (ls : List Line) → firstIs isInside ls ≡ false → readFrom n (inside t x) ls ≡ refused (refuse Form n)
 unfolding readFrom readLine readEnd
 not-inside n t x [] h = refl
 not-inside n t x (Stack s ∷ ls) h = refl
@@ -127,7 +128,7 @@ not-inside n t x (At p ∷ ls) h = cc
 not-inside n t x (Close ∷ ls) h = cc
 not-inside n t x (Malformed ∷ ls) h = refl
 
-not-func : (n : ℕ) (t : Task) (ls : List Line) → 0 < length ls → firstIs isFunc ls ≡ false → readFrom n (between t) ls ≡ refused (Form n)
+not-func : (n : ℕ) (t : Task) (ls : List Line) → 0 < length ls → firstIs isFunc ls ≡ false → readFrom n (between t) ls ≡ refused (refuse Form n)
 unfolding readFrom readLine
 not-func n t [] i h = absurd (omega arith)
 not-func n t (Stack s ∷ ls) i h = refl
@@ -136,7 +137,7 @@ not-func n t (At p ∷ ls) i h = refl
 not-func n t (Close ∷ ls) i h = refl
 not-func n t (Malformed ∷ ls) i h = refl
 
-not-stack : (n : ℕ) (ls : List Line) → firstIs isStack ls ≡ false → readFrom n start ls ≡ refused (Form n)
+not-stack : (n : ℕ) (ls : List Line) → firstIs isStack ls ≡ false → readFrom n start ls ≡ refused (refuse Form n)
 unfolding readFrom readLine readEnd
 not-stack n [] h = refl
 not-stack n (Stack s ∷ ls) h = cc
@@ -146,14 +147,14 @@ not-stack n (Close ∷ ls) h = refl
 not-stack n (Malformed ∷ ls) h = refl
 
 -- the line that opens a function
-pub func-none : (text : List ℕ) (a n : ℕ) (t : Task) (r : Num) → funcAs r (take (length text - a) (drop a text)) → r ≡ Nothing → a < length text → readFrom n (between t) (linesOf (drop a text)) ≡ refused (Form n)
+pub func-none : (text : List ℕ) (a n : ℕ) (t : Task) (r : Num) → funcAs r (take (length text - a) (drop a text)) → r ≡ Nothing → a < length text → readFrom n (between t) (linesOf (drop a text)) ≡ refused (refuse Form n)
 func-none text a n t r i e h = not-func n t (linesOf (drop a text)) (some-line text a h) (rw (part-to-end text a) at (rw e at i))
 
-pub func-large : (w : List ℕ) (s f k n : ℕ) → s < k → readLine n (between (taskOf w s f)) (Func k) ≡ stop (FrameSize n)
+pub func-large : (w : List ℕ) (s f k n : ℕ) → s < k → readLine n (between (taskOf w s f)) (Func k) ≡ stop (refuse FrameSize n)
 unfolding readLine
 func-large w s f k n h = rw (lt-ltb s k h)
 
-pub func-many : (w : List ℕ) (s f k n : ℕ) → k ≤ s → 64 ≤ f → readLine n (between (taskOf w s f)) (Func k) ≡ stop (TooMany n)
+pub func-many : (w : List ℕ) (s f k n : ℕ) → k ≤ s → 64 ≤ f → readLine n (between (taskOf w s f)) (Func k) ≡ stop (refuse TooMany n)
 unfolding readLine
 func-many w s f k n h i = rw (le-ltb s k h, length-funcs w f, le-leb 64 f i)
 
@@ -162,14 +163,14 @@ unfolding readLine pointsOf
 func-goes w tb k n h i = rw (le-ltb (tb .stack) k h, length-funcs w (tb .funcs), lt-leb 64 (tb .funcs) i)
 
 -- the stack line
-pub stack-none : (text : List ℕ) (r : Num) → stackAs r (take (length text - 0) (drop 0 text)) → r ≡ Nothing → readText text ≡ refused (Form 1)
+pub stack-none : (text : List ℕ) (r : Num) → stackAs r (take (length text - 0) (drop 0 text)) → r ≡ Nothing → readText text ≡ refused (refuse Form 1)
 stack-none text r i e = not-stack 1 (linesOf text) (rw (part-to-end text 0) at (rw e at i))
 
-pub stack-zero : (s n : ℕ) → s < 1 → readLine n start (Stack s) ≡ stop (StackSize n)
+pub stack-zero : (s n : ℕ) → s < 1 → readLine n start (Stack s) ≡ stop (refuse StackSize n)
 unfolding readLine
 stack-zero s n h = rw (lt-leb 1 s h)
 
-pub stack-large : (s n : ℕ) → 64 < s → readLine n start (Stack s) ≡ stop (StackSize n)
+pub stack-large : (s n : ℕ) → 64 < s → readLine n start (Stack s) ≡ stop (refuse StackSize n)
 unfolding readLine
 stack-large s n h = rw (le-leb 1 s (omega arith), lt-leb s 64 h)
 
@@ -187,7 +188,7 @@ pub text-end : (text : List ℕ) (a n : ℕ) (p : Progress) → length text ≤ 
 unfolding readFrom linesFrom
 text-end text a n p h = rw (drop-of-length-le text h)
 
-pub no-func : (w : List ℕ) (s f n : ℕ) → f ≡ 0 → readEnd n (between (taskOf w s f)) ≡ refused (Form n)
+pub no-func : (w : List ℕ) (s f n : ℕ) → f ≡ 0 → readEnd n (between (taskOf w s f)) ≡ refused (refuse Form n)
 unfolding readEnd funcsOf
 no-func w s f n e = rw e
 

@@ -9,7 +9,8 @@ use borrow.Rule.Slice.PartAt.{part-to-end}
 use Rattle.model.specs.declared.Point.{Point}
 use Rattle.model.specs.declared.Line.the-variants.{At, Close}
 use Rattle.model.specs.declared.Refusal.{Refusal}
-use Rattle.model.specs.declared.Refusal.the-variants.{Form}
+use Rattle.model.specs.declared.Row.the-variants.{Form}
+use Rattle.model.specs.Rows.{refuse}
 use Rattle.model.specs.Text.{linesOf}
 use Rattle.model.specs.Task.{Task, Judged, readFrom}
 use Rattle.tables.specs.Tables.{funcsOf, putFunc, none}
@@ -84,7 +85,7 @@ module _ {text w₀ : List ℕ} {tb : Tables} {k : ℕ} {from : Place} {w : List
   going-close : r ≡ inside.Close → Next text a Close 2
   going-close e = next-line text a Close 2 (g .stands .within) (rw e at i)
 
-  pub going-empty : r ≡ inside.Close → m ≡ 0 → bodyAs (body.Refused (Form (from .n + m))) (rest text from (insideOf w₀ tb k 0)) text w₀ w (from .a) tb k
+  pub going-empty : r ≡ inside.Close → m ≡ 0 → bodyAs (body.Refused (refuse Form (from .n + m))) (rest text from (insideOf w₀ tb k 0)) text w₀ w (from .a) tb k
   going-empty e h = (g .answer ∙ line-stops (going-close e) (from .n + m) (insideOf w tb k m) _ (close-empty w tb k m (from .n + m) h), g .kept)
 
   pub going-end : r ≡ inside.Close → 1 ≤ m → bodyAs (body.Whole (record { n = from .n + m + 1; a = a + 2 }) m) (rest text from (insideOf w₀ tb k 0)) text w₀ w (from .a) tb k
@@ -98,7 +99,7 @@ module _ {text w₀ : List ℕ} {tb : Tables} {k : ℕ} {from : Place} {w : List
         g .room,
       )
 
-  pub going-other : r ≡ inside.Other → bodyAs (body.Refused (Form (from .n + m))) (rest text from (insideOf w₀ tb k 0)) text w₀ w (from .a) tb k
+  pub going-other : r ≡ inside.Other → bodyAs (body.Refused (refuse Form (from .n + m))) (rest text from (insideOf w₀ tb k 0)) text w₀ w (from .a) tb k
   going-other e = (g .answer ∙ not-inside (from .n + m) _ _ (linesOf (drop a text)) (rw (part-to-end text a) at (rw e at i)), g .kept)
 
 -- the function is whole, and is put after those of tb
@@ -149,7 +150,7 @@ module _ {j : Judged} {text w₀ w : List ℕ} {at : Place} {tb : Tables} (b : B
     between-off q e = let h′ = rw e at h in (b .answer ∙ h′ .0, both-kept (b .kept) (h′ .1))
 
   module _ (end : length text ≤ at .a) where
-    pub between-none : tb .funcs ≡ 0 → readAs (read.Refused (Form (at .n))) j w₀ w
+    pub between-none : tb .funcs ≡ 0 → readAs (read.Refused (refuse Form (at .n))) j w₀ w
     between-none e = (b .answer ∙ (text-end text (at .a) (at .n) (betweenOf w tb) end ∙ no-func w (tb .stack) (tb .funcs) (at .n) e), b .kept)
 
     pub between-task : (tb .funcs ≡ 0 → ⊥) → readAs (read.Task tb) j w₀ w

@@ -8,6 +8,7 @@ ghost use Rattle.task.specs.Reading.{Holds, Standing, rest, afterStack, 
 use line::Inside;
 use model::Point;
 use model::Refusal;
+use model::Row;
 use tables::put_func;
 use tables::put_point;
 use words::Num;
@@ -82,10 +83,16 @@ fn take_point(work: &mut [u32], tb: Tables, k: u32, most: usize, m: usize, n: u3
     ensures { λ r. ⌜ tookAs r (now (work .entry)) (now (work .exit)) tb k m n (At x) ⌝ }
 {
     if !offset_fits(k, x) {
-        return Took::Refused(Refusal::Offset(n));
+        return Took::Refused(Refusal {
+            row: Row::Offset,
+            place: n,
+        });
     }
     if most <= m {
-        return Took::Refused(Refusal::TooMany(n));
+        return Took::Refused(Refusal {
+            row: Row::TooMany,
+            place: n,
+        });
     }
     put_point(work, tb.points + m, x);
     Took::Point
@@ -113,12 +120,18 @@ fn read_points(text: &[u8], work: &mut [u32], tb: Tables, k: u32, at: Place) -> 
             }
             Inside::Close => {
                 if m == 0 {
-                    return Body::Refused(Refusal::Form(n));
+                    return Body::Refused(Refusal {
+                        row: Row::Form,
+                        place: n,
+                    });
                 }
                 return Body::Whole(Place { n: n + 1, a: a + 2 }, m);
             }
             Inside::Other => {
-                return Body::Refused(Refusal::Form(n));
+                return Body::Refused(Refusal {
+                    row: Row::Form,
+                    place: n,
+                });
             }
         }
     }
@@ -158,13 +171,22 @@ fn read_func(text: &[u8], work: &mut [u32], tb: Tables, at: Place) -> Reached
     let a = at.a;
     let b = text.len();
     let Num::Value(k, c) = line::func_line(&text[a..b]) else {
-        return Reached::Refused(Refusal::Form(n));
+        return Reached::Refused(Refusal {
+            row: Row::Form,
+            place: n,
+        });
     };
     if tb.stack < k {
-        return Reached::Refused(Refusal::FrameSize(n));
+        return Reached::Refused(Refusal {
+            row: Row::FrameSize,
+            place: n,
+        });
     }
     if 64 <= tb.funcs {
-        return Reached::Refused(Refusal::TooMany(n));
+        return Reached::Refused(Refusal {
+            row: Row::TooMany,
+            place: n,
+        });
     }
     read_body(text, work, tb, k, Place { n: n + 1, a: a + c })
 }
@@ -192,7 +214,10 @@ fn read_funcs(text: &[u8], work: &mut [u32], stack: u32, a: usize) -> Read
         }
     }
     if tb.funcs == 0 {
-        return Read::Refused(Refusal::Form(at.n));
+        return Read::Refused(Refusal {
+            row: Row::Form,
+            place: at.n,
+        });
     }
     Read::Task(tb)
 }
@@ -204,13 +229,22 @@ pub fn read_task(text: &[u8], work: &mut [u32]) -> Read
 {
     let b = text.len();
     let Num::Value(s, c) = line::stack_line(&text[0..b]) else {
-        return Read::Refused(Refusal::Form(1));
+        return Read::Refused(Refusal {
+            row: Row::Form,
+            place: 1,
+        });
     };
     if s < 1 {
-        return Read::Refused(Refusal::StackSize(1));
+        return Read::Refused(Refusal {
+            row: Row::StackSize,
+            place: 1,
+        });
     }
     if 64 < s {
-        return Read::Refused(Refusal::StackSize(1));
+        return Read::Refused(Refusal {
+            row: Row::StackSize,
+            place: 1,
+        });
     }
     read_funcs(text, work, s, c)
 }

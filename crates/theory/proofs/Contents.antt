@@ -17,15 +17,15 @@ use Rattle.model.specs.Walk.{leads, loaded, called, stores}
 use Rattle.model.specs.Core.{Core, reserve, free, ensure, load, store, save, resume}
 use Rattle.model.specs.Figures.{uninitialised, live}
 use Rattle.model.specs.Sheet.{Sheet}
-use Rattle.model.specs.Plain.{Frame, entered, movedTo, stepped, loadedFrom}
+use Rattle.model.specs.Plain.{Frame, entered, movedTo, stepped, loadedFrom, firstFrames}
 use Rattle.model.specs.Run.{stepTurn}
 use Rattle.theory.proofs.Lists.{by-test, or-holds}
-use Rattle.theory.proofs.Accepted.{WellFormed}
+use Rattle.model.specs.WellFormed.{WellFormed}
 use Rattle.theory.proofs.Links.{is-holds, callee-later}
 use Rattle.theory.proofs.Figures.{walk-inside, uninitialised-walk, live-met}
 use Rattle.theory.proofs.Rules.{live-load, live-along}
 use Rattle.theory.proofs.Sheet.{closed-in}
-use Rattle.theory.proofs.Sound.{Sound}
+use Rattle.theory.specs.Sound.{Sound}
 use Rattle.theory.proofs.Frames.{places, In, Below, total, Window}
 use Rattle.theory.proofs.Window.{room-below, touched-cached, ensures-frame}
 use Rattle.theory.proofs.Numbers.{numberAt, number-cached, reserve-keeps, free-keeps, ensure-keeps, store-keeps, store-at, save-keeps, resume-brings}
@@ -168,9 +168,9 @@ module _ (t : Task) (s : Sheet) (w : WellFormed t) (r : Sound t s) where
   holds-step x fs c Return v e i b u h = holds-free x fs c h
 
   -- a fresh start holds nothing that is live
-  pub holds-start : (c : Core) → Holds t (entered t 0 ∷ []) (reserve (func t 0 .frame) c .core)
+  pub holds-start : 0 < count t → (c : Core) → Holds t (firstFrames t) (reserve (func t 0 .frame) c .core)
   unfolding HoldsFrom
-  holds-start c = (λ o l v. absurd (live-first 0 o (w .shaped .some) v), tt)
+  holds-start h c = (λ o l v. absurd (live-first 0 o h v), tt)
 
   -- a load answers the number of the plain stack
   load-same : (x : Frame) (fs : List Frame) (c : Core) (o : ℕ) → point (func t (x .fn)) (x .at) ≡ Load o → In t x → Window t s (x ∷ fs) c

@@ -1,6 +1,6 @@
 -- What is so of a task that runs, and of one that waits between the halves of a preemption. Every event of a run is fair: it goes on as the
 -- plain stack does, answers as it does, and moves at most what the sheet allows and what the potential falls by. So is every list of events.
-use Prim.Native.Nat.{ℕ, suc, _+_, _≤_}
+use Prim.Native.Nat.{ℕ, suc, _+_, _≤_, _<_}
 use mathlib.Core.List.{List, [], _∷_}
 use mathlib.Core.Option.{Option, none, some}
 use mathlib.Core.Path.{_≡_, refl, ap, _∙_}
@@ -8,14 +8,14 @@ use native.Mathlib.Omega.{arith}
 use lib.ListN.{length, length-replicate}
 use Rattle.model.specs.declared.Point.{Point}
 use Rattle.model.specs.declared.Refusal.{Refusal}
-use Rattle.model.specs.Task.{Task, func, point}
+use Rattle.model.specs.Task.{Task, count, func, point}
 use Rattle.model.specs.Core.{Core, save, reserve, withCache, resume, filledWith}
 use Rattle.model.specs.Sheet.{Sheet}
 use Rattle.model.specs.Refusal.{eventRows}
-use Rattle.model.specs.Plain.{Event, Act, takes, preempted, act, Frame, Plain, entered, running, stepped, afterEvent, loadedFrom, answerOf, orPlain, plainFrom, plain}
+use Rattle.model.specs.Plain.{Event, Act, takes, preempted, act, Frame, Plain, entered, running, stepped, afterEvent, loadedFrom, answerOf, orPlain, plainFrom, plain, firstFrames}
 use Rattle.model.specs.Run.{State, Turn, stepTurn, preemptTurn, turn, Ran, orRan, ranFrom, ran, stepBound, eventBound, orBound, allowedFrom, allowed}
-use Rattle.theory.proofs.Accepted.{WellFormed}
-use Rattle.theory.proofs.Sound.{Ground, Sound}
+use Rattle.model.specs.WellFormed.{WellFormed}
+use Rattle.theory.specs.Sound.{Ground, Sound}
 use Rattle.theory.proofs.Frames.{places, running-same, frames-step, In, Below, Standing, standing-start, standing-step, Window, Needed}
 use Rattle.theory.proofs.Window.{window-start, window-step, window-save, window-between, window-resume}
 use Rattle.theory.proofs.Contents.{Holds, Stored, holds-start, holds-step, holds-save, holds-resume, answer-step}
@@ -146,16 +146,16 @@ module _ (t : Task) (s : Sheet) (w : WellFormed t) (r : Sound t s) where
       (fair-from (suc i) es (afterEvent t fs (act e)) (u .state .core) (f .runs)))
 
   -- function 0 has just been entered on a core that had no frames
-  pub runs-start : (c : Core) → Window t s [] c → Running t s (r .ground) (entered t 0 ∷ []) (reserve (func t 0 .frame) c .core)
-  runs-start c u = record {
-    standing = standing-start t w;
-    window = window-start t s w r c u;
-    holds = holds-start t s w r c;
-    occupied = occupied-start t s w r c u;
+  pub runs-start : 0 < count t → (c : Core) → Window t s [] c → Running t s (r .ground) (firstFrames t) (reserve (func t 0 .frame) c .core)
+  runs-start h c u = record {
+    standing = standing-start t w h;
+    window = window-start t s w r h c u;
+    holds = holds-start t s w r h c;
+    occupied = occupied-start t s w r h c u;
   }
 
   -- from a fresh start, whatever cache and memory hold
-  pub fair-run : (c : Core) (es : List Event) → Window t s [] c → FairRun (ran t s c es) (plain t es) (allowed t s es) 0
+  pub fair-run : 0 < count t → (c : Core) (es : List Event) → Window t s [] c → FairRun (ran t s c es) (plain t es) (allowed t s es) 0
   unfolding places
-  fair-run c es u =
-      rw (potential-start t s w r c u) at (fair-from 0 es (entered t 0 ∷ []) (reserve (func t 0 .frame) c .core) (runs-start c u))
+  fair-run h c es u =
+      rw (potential-start t s w r h c u) at (fair-from 0 es (firstFrames t) (reserve (func t 0 .frame) c .core) (runs-start h c u))

@@ -1,6 +1,6 @@
 -- Laws of the first answer that a row, a list or a task gives: when there is none, and which it is.
 use Prim.Native.Nat.{ℕ, zero, suc, _+_, _-_, _≤_, _<_}
-use mathlib.Core.Bool.{Bool, true, false}
+use mathlib.Core.Bool.{Bool, true, false, not}
 use mathlib.Core.List.{List, [], _∷_, List·Memᴰ, List·Memᴰ·head, List·Memᴰ·tail, List·Memᴰ·not-nil, List·Memᴰ·cases-cons}
 use mathlib.Core.Logic.{_↔_, ⊎-elim}
 use mathlib.Core.Option.{Option, none, some}
@@ -83,6 +83,18 @@ module _ {ℓ} {B : Type ℓ} where
         let z : 0 + j ≡ j = omega arith in
         rw s (counted-found 0 j (n - j) (λ i a b. k i (omega arith)) (rw z e) (omega arith))
 
+-- the element that a first answer comes from
+pub first-some : {A : Type 0} (g : A → Option Refusal) (l : List A) (r : Refusal) → firstOf g l ≡ some r
+    → (a : A) × List·Memᴰ a l × (g a ≡ some r)
+unfolding firstOf
+first-some g [] r e = let z : _≡_ {A = ℕ} 0 1 = cc in absurd (omega arith)
+first-some g (a ∷ l) r e = go (λ k. first-some g l r k) (g a) refl
+  where
+    go : (firstOf g l ≡ some r → (b : _) × List·Memᴰ b l × (g b ≡ some r)) → (o : Option Refusal) → g a ≡ o
+        → (b : _) × List·Memᴰ b (a ∷ l) × (g b ≡ some r)
+    go rest none k = let i = rest (rw k at e) in (i .0, List·Memᴰ·tail (i .1), i .2)
+    go rest (some q) k = let j : some q ≡ some r = rw k at e in (a, List·Memᴰ·head refl, k ∙ j)
+
 -- a row refuses no point of a task where it refuses none of the points of each function
 pub points-none : (t : Task) (row : ℕ → ℕ → Option Refusal)
     → (firstPoint t row ≡ none) ↔ ((f p : ℕ) → f < count t → p < size (func t f) → row f p ≡ none)
@@ -100,3 +112,17 @@ unfolding firstPoint
 points-found t row f p h k before below e =
     below-found (λ g. firstOf (row g) (upTo (size (func t g)))) (count t) f h (λ g j. below-none (row g) (size (func t g)) .1 (λ q l. before g q j l))
     (below-found (row f) (size (func t f)) p k below e)
+
+-- the point that a first refusal comes from
+pub points-some : (t : Task) (row : ℕ → ℕ → Option Refusal) (r : Refusal) → firstPoint t row ≡ some r
+    → (f p : ℕ) × (f < count t) × (p < size (func t f)) × (row f p ≡ some r)
+unfolding firstPoint
+points-some t row r e =
+    let i = first-some (λ f. firstOf (row f) (upTo (size (func t f)))) (upTo (count t)) r e in
+    let j = first-some (row (i .0)) (upTo (size (func t (i .0)))) r (i .2) in
+    (i .0, j .0, mem-upTo _ .0 (i .1), mem-upTo _ .0 (j .1), j .2)
+
+-- a row that refuses: its test fails
+pub unless-some : (b : Bool) (q r : Refusal) → unless b q ≡ some r → T (not b) × (r ≡ q)
+unless-some true q r e = let z : _≡_ {A = ℕ} 0 1 = cc in absurd (omega arith)
+unless-some false q r e = (tt, cc)

@@ -12,10 +12,10 @@ use Rattle.model.specs.Walk.{leads, called, isCall}
 use Rattle.model.specs.Core.{Core}
 use Rattle.model.specs.Figures.{longest}
 use Rattle.model.specs.Sheet.{Sheet}
-use Rattle.model.specs.Plain.{Frame, entered, movedTo, running, stepped}
+use Rattle.model.specs.Plain.{Frame, entered, movedTo, running, stepped, firstFrames}
 use Rattle.model.specs.Run.{Place, runningPlace, stepTurn}
 use Rattle.theory.proofs.Lists.{by-test}
-use Rattle.theory.proofs.Accepted.{WellFormed}
+use Rattle.model.specs.WellFormed.{WellFormed}
 use Rattle.theory.proofs.Links.{closed, callee-later, ensure-after-call}
 
 -- a frame of the plain stack without its numbers
@@ -71,10 +71,10 @@ below-stands Below.bottom = Standing.finished
 below-stands (Below.above i s l c b) = Standing.runs i b
 
 -- at the start function 0 stands at its first point
-pub standing-start : (t : Task) → WellFormed t → Standing t (entered t 0 ∷ [])
-standing-start t w =
+pub standing-start : (t : Task) → WellFormed t → 0 < count t → Standing t (firstFrames t)
+standing-start t w h =
     Standing.runs
-    (record { fn-in = w .shaped .some; at-in = w .shaped .nonempty 0 (w .shaped .some); whole = length-replicate {A = ℕ} (func t 0 .frame) 0 })
+    (record { fn-in = h; at-in = w .shaped .nonempty 0 h; whole = length-replicate {A = ℕ} (func t 0 .frame) 0 })
     Below.bottom
 
 module _ (t : Task) (w : WellFormed t) where

@@ -15,13 +15,13 @@ use Rattle.model.specs.Figures.{dead, need, callees, callFree, longest, shortes
 use Rattle.model.specs.Sheet.{costed, sheetWith, pricedSheet}
 use Rattle.theory.proofs.Lists.{by-test, by-largest, smallest-bounds}
 use Rattle.theory.proofs.Walks.{walk-trans}
-use Rattle.theory.proofs.Accepted.{WellFormed}
+use Rattle.model.specs.WellFormed.{WellFormed}
 use Rattle.theory.proofs.Links.{is-holds, ensure-after-call, callee-later}
 use Rattle.theory.proofs.Figures.{someWalk-walk}
 use Rattle.theory.proofs.Between.{mem-callees, shortest-is, shortest-free, entry-is, entry-zero, chain-is, overCalls-is}
 use Rattle.theory.proofs.Rules.{dead-frame, dead-live, need-frame, need-touch, need-ensure, need-along, keptNext-ensure, keptNext-along, high-along, high-enter}
 use Rattle.theory.proofs.Sheet.{closed-in, in-frame, calls-later}
-use Rattle.theory.proofs.Sound.{Price, Marked, SoundCall, Sound}
+use Rattle.theory.specs.Sound.{Price, Marked, SoundCall, Sound}
 
 -- no ensure of a function keeps more than its frame
 keptNext-frame : (t : Task) (f p : ℕ) → keptNext t f p ≤ func t f .frame
@@ -155,8 +155,7 @@ module _ (t : Task) (w : WellFormed t) where
     sound-with m = record {
       ground = record { next = keptNext t; past = past t; shortest = shortest t };
       price = c;
-      start =
-          let l = w .shaped .some in
+      start = λ l.
           omega (arith, entry-zero t, w .shaped .frames 0 l, high-enter t 0 (closed-in w 0 l) (w .shaped .nonempty 0 l));
       first = λ f h. past-free f 0 h Walk.here;
       at = λ f p h k. record {

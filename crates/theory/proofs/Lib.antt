@@ -4,8 +4,8 @@
 --   Reading, Accepted, Links what acceptance says of a task
 --   Places, Decimal          the place of a refusal fits 16 bits; numbers in decimal
 --   Figures, Between, Rules  each figure, within a function, between functions, and along a lead
---   Sound                    the rules that a sheet has to obey; from here to Fair nothing else is known of it
---   Frames, Window           the frames of a run are those of the plain stack, and where the stack stands
+--   Rows                     what rows 11 and 13 say of walks, for refused texts too
+--   Frames, Window           from here to Fair nothing is known of a sheet but the rules of specs/Sound; the frames of a run are those of the plain stack, and where the stack stands
 --   Blocks, Numbers          what moves between cache and memory keep
 --   Contents                 cache and memory hold the numbers of the plain stack, between the halves of a preemption the memory alone
 --   Occupancy                the occupancy is at most high
@@ -26,8 +26,8 @@ pub mod Decimal
 pub mod Figures
 pub mod Between
 pub mod Rules
+pub mod Rows
 pub mod Sheet
-pub mod Sound
 pub mod Frames
 pub mod Blocks
 pub mod Window

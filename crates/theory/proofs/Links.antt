@@ -16,7 +16,7 @@ use Rattle.model.specs.Task.{Func, Task, size, count, func, point}
 use Rattle.model.specs.Walk.{leadsFrom, leads, called, ensured, present, is, isCall, isEnsure}
 use Rattle.model.specs.Refusal.{ensureFits, paired, targetFits, targetsFit, mayEnd, endFits}
 use Rattle.theory.proofs.Lists.{or-holds, and-holds}
-use Rattle.theory.proofs.Accepted.{Linked}
+use Rattle.model.specs.WellFormed.{Linked}
 
 -- the test of a number against what a point gives
 pub is-holds : (m : ℕ) (o : Option ℕ) → T (is m o) ↔ (o ≡ some m)

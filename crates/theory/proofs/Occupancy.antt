@@ -12,12 +12,12 @@ use Rattle.model.specs.Task.{Task, size, count, func, point}
 use Rattle.model.specs.Walk.{leads, called, isCall}
 use Rattle.model.specs.Core.{Core, reserve, free, ensure, store}
 use Rattle.model.specs.Sheet.{Sheet}
-use Rattle.model.specs.Plain.{Frame, entered, movedTo, stepped}
+use Rattle.model.specs.Plain.{Frame, entered, movedTo, stepped, firstFrames}
 use Rattle.model.specs.Run.{stepTurn}
 use Rattle.theory.proofs.Lists.{by-test}
-use Rattle.theory.proofs.Accepted.{WellFormed}
+use Rattle.model.specs.WellFormed.{WellFormed}
 use Rattle.theory.proofs.Links.{callee-later}
-use Rattle.theory.proofs.Sound.{Ground, SoundAt, Sound}
+use Rattle.theory.specs.Sound.{Ground, SoundAt, Sound}
 use Rattle.theory.proofs.Frames.{places, In, Below, total, Window}
 use Rattle.theory.proofs.Window.{ensures-frame}
 
@@ -154,12 +154,13 @@ module _ (t : Task) (s : Sheet) (w : WellFormed t) (r : Sound t s) where
       returned (x .fn) (x .at) fs (c .occupancy) (i .fn-in) (i .at-in) e b (o .here) (o .waiting)
 
   -- at the start the frame of function 0 is cached
-  pub occupied-start : (c : Core) → Window t s [] c → Occupied t s (r .ground) (entered t 0 ∷ []) (reserve (func t 0 .frame) c .core .occupancy)
+  pub occupied-start : 0 < count t → (c : Core) → Window t s [] c
+      → Occupied t s (r .ground) (firstFrames t) (reserve (func t 0 .frame) c .core .occupancy)
   unfolding Occupied Waiting total reserve
-  occupied-start c u = record {
+  occupied-start h c u = record {
     here = record {
-      high = omega (arith, u .blocks, u .inside, r .start);
-      left = omega (arith, u .blocks, u .inside, r .first 0 (w .shaped .some));
+      high = omega (arith, u .blocks, u .inside, r .start h);
+      left = omega (arith, u .blocks, u .inside, r .first 0 h);
     };
     waiting = tt;
   }

@@ -10,16 +10,31 @@ use lib.Dec.{eqb, leb, ltb, nltb→le}
 use Rattle.model.specs.declared.Line.{Line}
 use Rattle.model.specs.declared.Line.the-variants as line
 use Rattle.model.specs.declared.Refusal.{Refusal}
-use Rattle.model.specs.declared.Refusal.the-variants.{Callee, Pairing, Target, LastPoint, Unreachable, Uncalled, Uninitialised}
+use Rattle.model.specs.declared.Row.the-variants.{Callee, Pairing, Target, LastPoint, Unreachable, Uncalled, Uninitialised}
 use Rattle.model.specs.Basic.{unless, _orElse_, firstOf, sumOf, upTo, countFrom}
 use Rattle.model.specs.Text.{linesFrom, linesOf}
 use Rattle.model.specs.Task.{Func, Task, Judged, refused, task, Progress, start, between, inside, Step, stop, goes, readLine, readEnd, readFrom, readText, onward, inAll, size, count, func, point, funcLine, pointLine, offsetFits}
 use Rattle.model.specs.Walk.{called, loaded}
 use Rattle.model.specs.Figures.{reached}
 use Rattle.model.specs.Services.{verdictOf}
-use Rattle.model.specs.Refusal.{placeOf, verdictPlace, judge, judgedTask, orTask, checkRows, calleeFits, paired, targetsFit, endFits, storedBefore, isCalled, linkRow, reachRow, loadRow, callRow, firstPoint, taskRows}
+use Rattle.model.specs.Limits.{mostBytes}
+use Rattle.model.specs.Rows.{refuse, verdictPlace}
+use Rattle.model.specs.Refusal.{judged, withRows, orTask, calleeFits, paired, targetsFit, endFits, storedBefore, isCalled, linkRow, reachRow, loadRow, callRow, firstPoint, linkRows, reachRows, callRows, taskRows}
 use Rattle.theory.proofs.Lists.{by-test, mem-upTo, mem-countFrom}
-use Rattle.theory.proofs.Reading.{Shaped, read-shaped}
+use Rattle.model.specs.WellFormed.{Shaped}
+use Rattle.theory.proofs.Firsts.{first-some, points-some}
+use Rattle.theory.proofs.Reading.{read-shaped}
+
+-- no function opens on a later line, and no point stands on a later one: 64 functions with two lines each, 1,024 points, the stack line
+abbrev mostOpening : ℕ
+mostOpening = 1152
+
+abbrev mostLine : ℕ
+mostLine = 1408
+
+-- nor is any other place of a refused text larger: the line after the last
+abbrev pub mostPlace : ℕ
+mostPlace = 32769
 
 -- a text has at most as many lines as bytes
 lines-few : (l s : List ℕ) → length (linesFrom l s) ≤ length s + length l
@@ -35,11 +50,11 @@ lines-few l (b ∷ s) =
 
 -- reading refuses at the current line or, where the text has ended, at the next
 Small : ℕ → Judged → Type 0
-Small n (refused r) = placeOf r ≤ n
+Small n (refused r) = r .place ≤ n
 Small n (task t) = Unit {0}
 
 SmallStep : ℕ → Step → Type 0
-SmallStep n (stop r) = placeOf r ≤ n
+SmallStep n (stop r) = r .place ≤ n
 SmallStep n (goes s) = Unit {0}
 
 line-small : (n : ℕ) (s : Progress) (l : Line) → SmallStep n (readLine n s l)
@@ -104,7 +119,7 @@ read-small (l ∷ ls) n s =
     (λ s′. small-more (omega arith) (readFrom (suc n) s′ ls) (read-small ls (suc n) s′))
 
 -- a text that cannot be read is refused at a line of it or the next
-pub read-place : (text : List ℕ) (r : Refusal) → readText text ≡ refused r → placeOf r ≤ 1 + length text
+pub read-place : (text : List ℕ) (r : Refusal) → readText text ≡ refused r → r .place ≤ 1 + length text
 unfolding Small
 read-place text r e =
     let h = rw e at (read-small (linesOf text) 1 start) in omega (arith, lines-few [] text)
@@ -116,36 +131,24 @@ before-all zero l = omega arith
 before-all (suc f) [] = omega arith
 before-all (suc f) (x ∷ l) = omega (arith, before-all f l)
 
-pub func-line-small : {t : Task} → Shaped t → (f : ℕ) → f < count t → funcLine t f ≤ 1152
+pub func-line-small : {t : Task} → Shaped t → (f : ℕ) → f < count t → funcLine t f ≤ mostOpening
 unfolding funcLine
 func-line-small {t} w f h = omega (arith, before-all f (t .funcs), w .all, w .few)
 
-pub point-line-small : {t : Task} → Shaped t → (f p : ℕ) → f < count t → p < size (func t f) → pointLine t f p ≤ 1408
+pub point-line-small : {t : Task} → Shaped t → (f p : ℕ) → f < count t → p < size (func t f) → pointLine t f p ≤ mostLine
 point-line-small {t} w f p h k = omega (arith, func-line-small w f h, w .small f h)
-
--- the element that a first answer comes from
-first-some : {A : Type 0} (g : A → Option Refusal) (l : List A) (r : Refusal) → firstOf g l ≡ some r
-    → (a : A) × List·Memᴰ a l × (g a ≡ some r)
-unfolding firstOf
-first-some g [] r e = let z : _≡_ {A = ℕ} 0 1 = cc in absurd (omega arith)
-first-some g (a ∷ l) r e = go (λ k. first-some g l r k) (g a) refl
-  where
-    go : (firstOf g l ≡ some r → (b : _) × List·Memᴰ b l × (g b ≡ some r)) → (o : Option Refusal) → g a ≡ o
-        → (b : _) × List·Memᴰ b (a ∷ l) × (g b ≡ some r)
-    go rest none k = let i = rest (rw k at e) in (i .0, List·Memᴰ·tail (i .1), i .2)
-    go rest (some q) k = let j : some q ≡ some r = rw k at e in (a, List·Memᴰ·head refl, k ∙ j)
 
 -- rows name their own place
 PlaceIs : ℕ → Option Refusal → Type 0
 PlaceIs n none = Unit {0}
-PlaceIs n (some r) = placeOf r ≡ n
+PlaceIs n (some r) = r .place ≡ n
 
-place-or : (n : ℕ) (t : Bool) (r : Refusal) (b : Option Refusal) → placeOf r ≡ n → PlaceIs n b → PlaceIs n (unless t r orElse b)
+place-or : (n : ℕ) (t : Bool) (r : Refusal) (b : Option Refusal) → r .place ≡ n → PlaceIs n b → PlaceIs n (unless t r orElse b)
 unfolding PlaceIs
 place-or n true r b e k = k
 place-or n false r b e k = e
 
-place-unless : (n : ℕ) (t : Bool) (r : Refusal) → placeOf r ≡ n → PlaceIs n (unless t r)
+place-unless : (n : ℕ) (t : Bool) (r : Refusal) → r .place ≡ n → PlaceIs n (unless t r)
 unfolding PlaceIs
 place-unless n true r e = tt
 place-unless n false r e = e
@@ -155,14 +158,14 @@ module _ (t : Task) (f p : ℕ) where
   unfolding linkRow
   link-place =
       let n = pointLine t f p in
-      place-or n (calleeFits t f (called (point (func t f) p))) (Callee n) _ refl
-      (place-or n (paired (func t f) p) (Pairing n) _ refl
-      (place-or n (targetsFit (func t f) (point (func t f) p)) (Target n) _ refl
-      (place-unless n (endFits (func t f) p) (LastPoint n) refl)))
+      place-or n (calleeFits t f (called (point (func t f) p))) (refuse Callee n) _ refl
+      (place-or n (paired (func t f) p) (refuse Pairing n) _ refl
+      (place-or n (targetsFit (func t f) (point (func t f) p)) (refuse Target n) _ refl
+      (place-unless n (endFits (func t f) p) (refuse LastPoint n) refl)))
 
   reach-place : PlaceIs (pointLine t f p) (reachRow t f p)
   unfolding reachRow
-  reach-place = place-unless _ (reached (func t f) p) (Unreachable (pointLine t f p)) refl
+  reach-place = place-unless _ (reached (func t f) p) (refuse Unreachable (pointLine t f p)) refl
 
   load-place : PlaceIs (pointLine t f p) (loadRow t f p)
   unfolding loadRow
@@ -170,31 +173,29 @@ module _ (t : Task) (f p : ℕ) where
       place-unless
       _
       (storedBefore (func t f) p (loaded (point (func t f) p)))
-      (Uninitialised (pointLine t f p))
+      (refuse Uninitialised (pointLine t f p))
       refl
 
 call-place : (t : Task) (f : ℕ) → PlaceIs (funcLine t f) (callRow t f)
 unfolding callRow
-call-place t f = place-unless _ (isCalled t f) (Uncalled (funcLine t f)) refl
+call-place t f = place-unless _ (isCalled t f) (refuse Uncalled (funcLine t f)) refl
 
-place-at : (n : ℕ) (o : Option Refusal) (r : Refusal) → PlaceIs n o → o ≡ some r → placeOf r ≡ n
+place-at : (n : ℕ) (o : Option Refusal) (r : Refusal) → PlaceIs n o → o ≡ some r → r .place ≡ n
 unfolding PlaceIs
 place-at n o r h e = rw e at h
 
 module _ {t : Task} (w : Shaped t) where
   points-small : (row : ℕ → ℕ → Option Refusal) → ((f p : ℕ) → PlaceIs (pointLine t f p) (row f p)) → (r : Refusal)
-      → firstPoint t row ≡ some r → placeOf r ≤ 1408
-  unfolding firstPoint
+      → firstPoint t row ≡ some r → r .place ≤ mostLine
   points-small row at r e =
-      let i = first-some (λ f. firstOf (row f) (upTo (size (func t f)))) (upTo (count t)) r e in
-      let j = first-some (row (i .0)) (upTo (size (func t (i .0)))) r (i .2) in
+      let i = points-some t row r e in
       omega (
         arith,
-        place-at (pointLine t (i .0) (j .0)) (row (i .0) (j .0)) r (at (i .0) (j .0)) (j .2),
-        point-line-small w (i .0) (j .0) (mem-upTo _ .0 (i .1)) (mem-upTo _ .0 (j .1)),
+        place-at (pointLine t (i .0) (i .1)) (row (i .0) (i .1)) r (at (i .0) (i .1)) (i .4),
+        point-line-small w (i .0) (i .1) (i .2) (i .3),
       )
 
-  funcs-small : (r : Refusal) → firstOf (callRow t) (countFrom 1 (count t - 1)) ≡ some r → placeOf r ≤ 1408
+  funcs-small : (r : Refusal) → firstOf (callRow t) (countFrom 1 (count t - 1)) ≡ some r → r .place ≤ mostLine
   funcs-small r e =
       let i = first-some (callRow t) (countFrom 1 (count t - 1)) r e in
       let m = mem-countFrom 1 (count t - 1) .0 (i .1) in
@@ -210,35 +211,31 @@ or-some P none b h k r e = k r e
 or-some P (some q) b h k r e = h r e
 
 -- the place of a task's refusal is one of its lines
-pub rows-place : {t : Task} → Shaped t → (r : Refusal) → taskRows t ≡ some r → placeOf r ≤ 1408
+pub rows-place : {t : Task} → Shaped t → (r : Refusal) → taskRows t ≡ some r → r .place ≤ mostLine
 unfolding taskRows
 rows-place {t} w =
-    or-some (λ r. placeOf r ≤ 1408) (firstPoint t (linkRow t)) _ (points-small w (linkRow t) (link-place t))
-    (or-some (λ r. placeOf r ≤ 1408) (firstPoint t (reachRow t)) _ (points-small w (reachRow t) (reach-place t))
-    (or-some (λ r. placeOf r ≤ 1408) (firstOf (callRow t) (countFrom 1 (count t - 1))) _ (funcs-small w)
+    or-some (λ r. r .place ≤ mostLine) (linkRows t) _ (points-small w (linkRow t) (link-place t))
+    (or-some (λ r. r .place ≤ mostLine) (reachRows t) _ (points-small w (reachRow t) (reach-place t))
+    (or-some (λ r. r .place ≤ mostLine) (callRows t) _ (funcs-small w)
     (points-small w (loadRow t) (load-place t))))
 
-rows-fit : {t : Task} → Shaped t → (o : Option Refusal) → taskRows t ≡ o → verdictPlace (verdictOf (orTask (o orElse none) t)) ≤ 32769
+rows-fit : {t : Task} → Shaped t → (o : Option Refusal) → taskRows t ≡ o → verdictPlace (verdictOf (orTask o t)) ≤ mostPlace
 unfolding verdictOf
 rows-fit w none e = omega arith
 rows-fit w (some r) e = omega (arith, rows-place w r e)
 
-read-fits : (text : List ℕ) → length text ≤ 32768 → (j : Judged) → readText text ≡ j
-    → verdictPlace (verdictOf (judgedTask checkRows j)) ≤ 32769
+read-fits : (text : List ℕ) → length text ≤ mostBytes → (j : Judged) → readText text ≡ j
+    → verdictPlace (verdictOf (withRows taskRows j)) ≤ mostPlace
 unfolding verdictOf
 read-fits text h (refused r) e = omega (arith, read-place text r e)
 read-fits text h (task t) e = rows-fit (read-shaped text t e) (taskRows t) refl
 
--- the place of every verdict of check fits 16 bits
-pub check-place : (work : ℕ) (text : List ℕ) → verdictPlace (verdictOf (judge checkRows work text)) ≤ 32769
-unfolding judge verdictOf
-check-place work text =
+-- the place of every verdict on a text fits 16 bits
+pub judged-place : (text : List ℕ) → verdictPlace (verdictOf (judged text)) ≤ mostPlace
+unfolding judged verdictOf
+judged-place text =
     by-test
-    (λ (j : Judged). verdictPlace (verdictOf j) ≤ 32769)
-    (ltb work 16384)
-    (λ h. omega arith)
-    (λ h. by-test
-    (λ (j : Judged). verdictPlace (verdictOf j) ≤ 32769)
-    (ltb 32768 (length text))
+    (λ (j : Judged). verdictPlace (verdictOf j) ≤ mostPlace)
+    (ltb mostBytes (length text))
     (λ k. omega arith)
-    (λ k. read-fits text (nltb→le 32768 (length text) k) (readText text) refl))
+    (λ k. read-fits text (nltb→le mostBytes (length text) k) (readText text) refl)

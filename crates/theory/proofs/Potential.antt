@@ -10,17 +10,17 @@ use native.Mathlib.Nat.{le-refl, le-trans, add-le-add}
 use lib.Dec.{T, eqb}
 use Rattle.model.specs.declared.Point.{Point}
 use Rattle.model.specs.declared.Point.the-variants.{Load, Store, Call, Ensure, Goto, Either, Return}
-use Rattle.model.specs.Task.{Task, size, func, point}
+use Rattle.model.specs.Task.{Task, count, size, func, point}
 use Rattle.model.specs.Walk.{leads, called, isEnsure}
 use Rattle.model.specs.Core.{Core, saveMoves, resumed, resumeMoves, reserve, free, ensure, store}
 use Rattle.model.specs.Figures.{longest}
 use Rattle.model.specs.Sheet.{Sheet}
-use Rattle.model.specs.Plain.{Frame, entered, movedTo, stepped}
+use Rattle.model.specs.Plain.{Frame, entered, movedTo, stepped, firstFrames}
 use Rattle.model.specs.Run.{Turn, stepTurn, stepBound}
 use Rattle.theory.proofs.Lists.{by-test}
-use Rattle.theory.proofs.Accepted.{WellFormed}
+use Rattle.model.specs.WellFormed.{WellFormed}
 use Rattle.theory.proofs.Links.{closed, callee-later, ensure-after-call}
-use Rattle.theory.proofs.Sound.{Price, Ground, SoundAt, Sound}
+use Rattle.theory.specs.Sound.{Price, Ground, SoundAt, Sound}
 use Rattle.theory.proofs.Frames.{places, In, Below, Window}
 use Rattle.theory.proofs.Window.{frame-room, call-room, ensures-frame}
 use Rattle.theory.proofs.Occupancy.{OccupiedAt}
@@ -250,9 +250,9 @@ module _ (t : Task) (s : Sheet) (w : WellFormed t) (r : Sound t s) where
   step-covered x fs c Return v e i b u o = return-covered x (c .occupancy) fs
 
   -- at the start there is no delayed fill
-  pub potential-start : (c : Core) → Window t s [] c → potential t s (r .ground) (entered t 0 ∷ []) (reserve (func t 0 .frame) c .core .occupancy) ≡ 0
+  pub potential-start : 0 < count t → (c : Core) → Window t s [] c
+      → potential t s (r .ground) (firstFrames t) (reserve (func t 0 .frame) c .core .occupancy) ≡ 0
   unfolding delayed reserve
-  potential-start c u =
-      let l = w .shaped .some in
+  potential-start l c u =
       let q = r .at 0 0 l (w .shaped .nonempty 0 l) .next-frame in
       rw (u .blocks) (omega (arith, price-zero (r .price) _ (just-entered (r .ground .next 0 0) (func t 0 .frame) (c .occupancy) (t .stack) q (w .shaped .frames 0 l))))

@@ -5,10 +5,10 @@ use native.Mathlib.Omega.{arith}
 use Rattle.model.specs.Task.{Task, func}
 use Rattle.model.specs.Figures.{dead, need, fill, high, spill, keptNext, overCalls}
 use Rattle.model.specs.Sheet.{Sheet, costed, inBlocks, sheetOf}
-use Rattle.theory.proofs.Accepted.{WellFormed}
+use Rattle.model.specs.WellFormed.{WellFormed}
 use Rattle.theory.proofs.Between.{chain-is}
 use Rattle.theory.proofs.Sheet.{calls-later}
-use Rattle.theory.proofs.Sound.{Price}
+use Rattle.theory.specs.Sound.{Price}
 
 pub price-blocks : Price inBlocks
 price-blocks = record { none = refl; more = λ m n h. h; parts = λ m n. omega arith }

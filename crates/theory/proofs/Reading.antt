@@ -16,19 +16,8 @@ use Rattle.model.specs.declared.Line.the-variants as line
 use Rattle.model.specs.Basic.{sumOf}
 use Rattle.model.specs.Text.{linesOf}
 use Rattle.model.specs.Task.{Func, Task, Judged, refused, task, Progress, start, between, inside, Step, stop, goes, size, count, inAll, empty, func, point, offsetFits, withPoint, withFunc, readLine, readEnd, onward, readFrom, readText}
+use Rattle.model.specs.WellFormed.{Shaped}
 use Rattle.theory.proofs.Lists.{by-test, and-holds}
-
--- a task that the lines of a text can make
-pub record Shaped (t : Task) : Type 0 where
-  pub stack-low : 1 ≤ t .stack
-  pub stack-high : t .stack ≤ 64
-  pub some : 1 ≤ count t
-  pub few : count t ≤ 64
-  pub all : inAll (t .funcs) ≤ 1024
-  pub frames : (f : ℕ) → f < count t → func t f .frame ≤ t .stack
-  pub nonempty : (f : ℕ) → f < count t → 1 ≤ size (func t f)
-  pub small : (f : ℕ) → f < count t → size (func t f) ≤ 256
-  pub offsets : (f p : ℕ) → f < count t → p < size (func t f) → T (offsetFits (func t f .frame) (point (func t f) p))
 
 -- a function that has been opened, with the points read so far
 pub record Opened (s : ℕ) (x : Func) : Type 0 where
@@ -63,7 +52,7 @@ neither : (a b : Bool) → T (not (a || b)) → T (not a) × T (not b)
 neither true b h = absurd h
 neither false b h = (tt, h)
 
-not-not : (a : Bool) → T (not (not a)) → T a
+pub not-not : (a : Bool) → T (not (not a)) → T a
 not-not true h = tt
 not-not false h = h
 

@@ -5,20 +5,19 @@ use mathlib.Core.Path.{_≡_}
 use mathlib.Core.Bool.{false, _||_}
 use mathlib.Core.List.{List, []}
 use mathlib.Core.Logic.{_↔_, ⊎-elim}
-use mathlib.Core.Option.{Option}
 use native.Mathlib.Omega.{arith}
 use lib.Dec.{T, ltb, eqb, ltb→lt, eqb→eq}
 use Rattle.model.specs.declared.Point.{Point}
 use Rattle.model.specs.declared.Point.the-variants.{Load, Store, Call, Ensure, Goto, Either, Return}
-use Rattle.model.specs.declared.Refusal.{Refusal}
 use Rattle.model.specs.Basic.{largest, smallest}
 use Rattle.model.specs.Task.{Task, task, size, count, func, point, offsetFits}
 use Rattle.model.specs.Walk.{Walk, Met, Carries, Largest, Smallest, leads, never, loads, stores, touches, calls, called, is, isCall, isEnsure, returns, loaded, stored}
 use Rattle.model.specs.Figures as model
 use Rattle.model.specs.Figures.{callees, after, kept}
-use Rattle.model.specs.Refusal.{judge}
+use Rattle.model.specs.Refusal.{judged}
 use Rattle.theory.proofs.Lists.{or-holds}
-use Rattle.theory.proofs.Accepted.{WellFormed, accepted}
+use Rattle.model.specs.WellFormed.{WellFormed}
+use Rattle.theory.proofs.Accepted.{judged-as}
 use Rattle.theory.proofs.Links.{is-holds, closed, callee-later}
 use Rattle.theory.proofs.Figures.{Closed, InFrame, reached-walk, uninitialised-walk, dead-is, need-is, keptNext-is, high-entry-is}
 use Rattle.theory.proofs.Between.{CallsLater, mem-callees, longest-is, shortest-leaf, shortest-free, shortest-calls, entry-is, entry-zero, chain-is, chain-zero, overCalls-is}
@@ -108,11 +107,11 @@ module _ {t : Task} (w : WellFormed t) where
         chain = λ price. rw (chain-is t calls-later price f) (overCalls-is t f (λ h p. model.chain price t h + price (kept t h (suc p))));
       }
 
--- the top theorem: whatever buffers are lent, the figures of an accepted text are about all walks
-pub over-walks : (further : Task → Option Refusal) (work : ℕ) (text : List ℕ) (t : Task) → judge further work text ≡ task t → OverWalks t
-over-walks further work text t e =
+-- the top theorem: the figures of an accepted text are about all walks
+pub over-walks : (text : List ℕ) (t : Task) → judged text ≡ task t → OverWalks t
+over-walks text t e =
     record {
-      of = walks-of (accepted further work text t e .formed);
+      of = walks-of (judged-as text t e .formed);
       entry-zero = entry-zero t;
       chain-zero = λ price. chain-zero price t;
     }

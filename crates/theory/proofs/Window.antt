@@ -14,14 +14,14 @@ use Rattle.model.specs.Walk.{leads, called, touches, isEnsure}
 use Rattle.model.specs.Core.{Core, reserve, free, ensure, store, save, withCache, resume, idle}
 use Rattle.model.specs.Figures.{longest}
 use Rattle.model.specs.Sheet.{Sheet}
-use Rattle.model.specs.Plain.{Frame, entered, movedTo, stepped}
+use Rattle.model.specs.Plain.{Frame, entered, movedTo, stepped, firstFrames}
 use Rattle.model.specs.Run.{stepTurn}
 use Rattle.theory.proofs.Lists.{by-test, largest-bounds}
-use Rattle.theory.proofs.Accepted.{WellFormed}
+use Rattle.model.specs.WellFormed.{WellFormed}
 use Rattle.theory.proofs.Links.{closed, call-before-ensure, callee-later}
 use Rattle.theory.proofs.Between.{mem-callees, longest-is}
 use Rattle.theory.proofs.Sheet.{in-frame, calls-later}
-use Rattle.theory.proofs.Sound.{Sound}
+use Rattle.theory.specs.Sound.{Sound}
 use Rattle.theory.proofs.Blocks.{length-spilled, length-filled}
 use Rattle.theory.proofs.Frames.{places, In, Below, total, Needed, Window}
 
@@ -191,12 +191,12 @@ module _ (t : Task) (s : Sheet) (w : WellFormed t) (r : Sound t s) where
   window-step x fs c Return v e i b u = window-free x fs c b u
 
   -- a fresh start has room for function 0 below ST, and has entered it
-  pub room-start : (c : Core) → Window t s [] c → func t 0 .frame ≤ c .st
+  pub room-start : 0 < count t → (c : Core) → Window t s [] c → func t 0 .frame ≤ c .st
   unfolding total
-  room-start c u = omega (arith, frame-room t w 0 (w .shaped .some), u .top, u .room)
+  room-start h c u = omega (arith, frame-room t w 0 h, u .top, u .room)
 
-  pub window-start : (c : Core) → Window t s [] c → Window t s (entered t 0 ∷ []) (reserve (func t 0 .frame) c .core)
-  window-start c u = window-reserve [] c 0 (w .shaped .some) (room-start c u) u
+  pub window-start : 0 < count t → (c : Core) → Window t s [] c → Window t s (firstFrames t) (reserve (func t 0 .frame) c .core)
+  window-start h c u = window-reserve [] c 0 h (room-start h c u) u
 
 -- an idle core has no frames
 pub window-idle : (t : Task) (s : Sheet) (cache memory : List ℕ) → length cache ≡ t .stack → longest t 0 ≤ length memory

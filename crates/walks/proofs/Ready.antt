@@ -7,8 +7,7 @@ use lib.Dec.{T, lit≤}
 use lib.ListN.{length, replicate}
 use Rattle.model.specs.Task.{size, count, func, offsetFits}
 use Rattle.model.specs.Walk.{leads}
-use Rattle.theory.proofs.Reading.{Shaped}
-use Rattle.theory.proofs.Accepted.{Linked}
+use Rattle.model.specs.WellFormed.{Shaped, Linked}
 use Rattle.theory.proofs.Links.{closed}
 use Rattle.tables.specs.Tables.{Fit, pointAt, baseAt, sizeAt, funcOf, taskOf, Stacked}
 use Rattle.tables.proofs.Laws.{fits-wider, length-points, length-funcs, point-there, func-is, stacked-within, sum-funcs}

@@ -12,7 +12,8 @@ use lib.Dec.{T}
 use denote.Enum.Declared.{tagOf}
 use types.Run.{OneOf, miss}
 use Rattle.model.specs.declared.Refusal.{Refusal}
-use Rattle.model.specs.declared.Refusal.the-variants.{Unreachable, Uninitialised}
+use Rattle.model.specs.declared.Row.the-variants.{Unreachable, Uninitialised}
+use Rattle.model.specs.Rows.{refuse}
 use Rattle.model.specs.Basic.{unless, _orElse_, firstOf, countFrom, upTo}
 use Rattle.model.specs.Task.{Func, Task, size, count, func, point, funcLine}
 use Rattle.model.specs.Walk.{loaded}
@@ -77,17 +78,17 @@ module _
   line-same p h = omega (arith, h, start)
 
   module _ {r : Found} (s : Search (λ p. item state p ≡ 0 → ⊥) n r) where
-    reach-first : {p : ℕ} → r ≡ At p → reachIn w f ≡ some (Unreachable (lineAt w f p))
+    reach-first : {p : ℕ} → r ≡ At p → reachIn w f ≡ some (refuse Unreachable (lineAt w f p))
     unfolding reachIn
     reach-first e =
-        search-found _ (reached (funcOf w f)) (λ p. Unreachable (lineAt w f p)) (sizeAt w f) (a .reached) (rw size at s) e
+        search-found _ (reached (funcOf w f)) (λ p. refuse Unreachable (lineAt w f p)) (sizeAt w f) (a .reached) (rw size at s) e
 
     reach-none : r ≡ Nothing → reachIn w f ≡ none
     unfolding reachIn
     reach-none e =
-        search-none _ (reached (funcOf w f)) (λ p. Unreachable (lineAt w f p)) (sizeAt w f) (a .reached) (rw size at s) e
+        search-none _ (reached (funcOf w f)) (λ p. refuse Unreachable (lineAt w f p)) (sizeAt w f) (a .reached) (rw size at s) e
 
-    pub reach-found : {p l : ℕ} → r ≡ At p → l ≡ 2 + 2 * f + b + 1 + p → Reach (Unreachable l) ≡ flowIn w f
+    pub reach-found : {p l : ℕ} → r ≡ At p → l ≡ 2 + 2 * f + b + 1 + p → Reach (refuse Unreachable l) ≡ flowIn w f
     reach-found {p} e h = rw (reach-first e, line-same p h)
 
     module _ (e : r ≡ Nothing) {q : Found} (u : Search (λ p. has (item sets p) (loaded (pointAt w (b + p))) ≡ false) n q) where
@@ -97,18 +98,18 @@ module _
       storing : ℕ → Bool
       storing p = storedBefore (funcOf w f) p (loaded (point (funcOf w f) p))
 
-      load-first : {p : ℕ} → q ≡ At p → loadIn w f ≡ some (Uninitialised (lineAt w f p))
+      load-first : {p : ℕ} → q ≡ At p → loadIn w f ≡ some (refuse Uninitialised (lineAt w f p))
       unfolding loadIn storing
       load-first i =
-          search-found _ storing (λ p. Uninitialised (lineAt w f p)) (sizeAt w f) (a .stored) stored-in i
+          search-found _ storing (λ p. refuse Uninitialised (lineAt w f p)) (sizeAt w f) (a .stored) stored-in i
 
-      pub load-found : {p l : ℕ} → q ≡ At p → l ≡ 2 + 2 * f + b + 1 + p → Load (Uninitialised l) ≡ flowIn w f
+      pub load-found : {p l : ℕ} → q ≡ At p → l ≡ 2 + 2 * f + b + 1 + p → Load (refuse Uninitialised l) ≡ flowIn w f
       load-found {p} i h = rw (reach-none e, load-first i, line-same p h)
 
       pub load-none : q ≡ Nothing → Fine ≡ flowIn w f
       unfolding loadIn storing
       load-none i =
-          rw (reach-none e, search-none _ storing (λ p. Uninitialised (lineAt w f p)) (sizeAt w f) (a .stored) stored-in i)
+          rw (reach-none e, search-none _ storing (λ p. refuse Uninitialised (lineAt w f p)) (sizeAt w f) (a .stored) stored-in i)
 
 -- what one function gives goes before what the later ones give
 later-first : (a b c d : Option Refusal) → flowOf (a orElse b) (c orElse d) ≡ withLater (flowOf a c) (flowOf b d)
@@ -177,11 +178,11 @@ module _ (w : List ℕ) (f : ℕ) (clean : Clean (funcOf w f)) where
 
   reach-clean : reachIn w f ≡ none
   unfolding reachIn
-  reach-clean = below-none _ (sizeAt w f) .1 (λ p i. unless-none (reached (funcOf w f) p) (Unreachable (lineAt w f p)) .1 (clean .reached p (within p i)))
+  reach-clean = below-none _ (sizeAt w f) .1 (λ p i. unless-none (reached (funcOf w f) p) (refuse Unreachable (lineAt w f p)) .1 (clean .reached p (within p i)))
 
   load-clean : loadIn w f ≡ none
   unfolding loadIn
-  load-clean = below-none _ (sizeAt w f) .1 (λ p i. unless-none (storedBefore (funcOf w f) p (loaded (point (funcOf w f) p))) (Uninitialised (lineAt w f p)) .1 (clean .stored p (within p i)))
+  load-clean = below-none _ (sizeAt w f) .1 (λ p i. unless-none (storedBefore (funcOf w f) p (loaded (point (funcOf w f) p))) (refuse Uninitialised (lineAt w f p)) .1 (clean .stored p (within p i)))
 
   flow-clean : Fine ≡ flowIn w f
   flow-clean = sym (λ i. flowOf (reach-clean i) (load-clean i))
@@ -227,8 +228,8 @@ module _ {w : List ℕ} {n m : ℕ} (k : Stacked w n m) (s : ℕ) where
   task-flow =
       sym
       (λ i. flowOf
-      (rows-same (λ x l p. unless (reached x p) (Unreachable l)) i)
-      (rows-same (λ x l p. unless (storedBefore x p (loaded (point x p))) (Uninitialised l)) i))
+      (rows-same (λ x l p. unless (reached x p) (refuse Unreachable l)) i)
+      (rows-same (λ x l p. unless (storedBefore x p (loaded (point x p))) (refuse Uninitialised l)) i))
 
   -- a task of clean functions has no refusal 11 or 13
   pub clean-flow : {f : ℕ} → Passed w f n → f ≡ n → Fine ≡ taskFlow task

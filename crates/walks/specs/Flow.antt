@@ -9,7 +9,8 @@ use lib.Dec.{T, eqb}
 use lib.ListN.{length}
 use Rattle.model.specs.declared.Point.{Point}
 use Rattle.model.specs.declared.Refusal.{Refusal}
-use Rattle.model.specs.declared.Refusal.the-variants.{Unreachable, Uninitialised}
+use Rattle.model.specs.declared.Row.the-variants.{Unreachable, Uninitialised}
+use Rattle.model.specs.Rows.{refuse}
 use Rattle.model.specs.Basic.{unless, firstOf, countFrom, upTo}
 use Rattle.model.specs.Task.{Func, Task, size, point, offsetFits}
 use Rattle.model.specs.Walk.{leads, loaded, stored, is}
@@ -54,11 +55,11 @@ abbrev pub lineAt : List ℕ → ℕ → ℕ → ℕ
 lineAt w f p = 2 + 2 * f + baseAt w f + 1 + p
 
 abbrev pub reachAt : List ℕ → ℕ → ℕ → Option Refusal
-reachAt w f p = unless (figure.reached (funcOf w f) p) (Unreachable (lineAt w f p))
+reachAt w f p = unless (figure.reached (funcOf w f) p) (refuse Unreachable (lineAt w f p))
 
 abbrev pub loadAt : List ℕ → ℕ → ℕ → Option Refusal
 loadAt w f p =
-    unless (storedBefore (funcOf w f) p (loaded (point (funcOf w f) p))) (Uninitialised (lineAt w f p))
+    unless (storedBefore (funcOf w f) p (loaded (point (funcOf w f) p))) (refuse Uninitialised (lineAt w f p))
 
 unfoldable pub reachIn : List ℕ → ℕ → Option Refusal
 reachIn w f = firstOf (reachAt w f) (upTo (sizeAt w f))

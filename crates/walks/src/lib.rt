@@ -11,6 +11,7 @@ ghost use Rattle.tables.specs.Tables.{item, pointAt, baseAt, sizeAt, taskOf};
 ghost use Rattle.walks.specs.Flow.{taskFlow, Ready, flowIn, withLater, Kills, has, Search, FuncAt, Passed, NoGens, Space, Answered};
 use model::Point;
 use model::Refusal;
+use model::Row;
 
 // The first refusal 11, or else the first refusal 13.
 pub enum Flow {
@@ -115,10 +116,16 @@ fn points_flow(work: &[u32], f: usize, base: usize, n: usize, sets: &[u64], stat
     ensures { λ r. ⌜ r ≡ flowIn (now (work .entry)) f ⌝ }
 {
     if let Found::At(p) = first_unseen(state, n) {
-        return Flow::Reach(Refusal::Unreachable(tables::point_line(f, base, p)));
+        return Flow::Reach(Refusal {
+            row: Row::Unreachable,
+            place: tables::point_line(f, base, p),
+        });
     }
     if let Found::At(p) = first_unstored(work, base, n, sets) {
-        return Flow::Load(Refusal::Uninitialised(tables::point_line(f, base, p)));
+        return Flow::Load(Refusal {
+            row: Row::Uninitialised,
+            place: tables::point_line(f, base, p),
+        });
     }
     Flow::Fine
 }

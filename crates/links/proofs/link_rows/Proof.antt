@@ -3,7 +3,8 @@ use Prim.Native.Nat.{ℕ, _-_, _≤_}
 use native.Mathlib.Omega.{arith}
 use borrow.Author.Needs.{needs}
 use Rattle.tables.specs.Tables.{taskOf}
-use Rattle.links.specs.Links.{funcRow, linkRows}
+use Rattle.model.specs.Refusal.{linkRows}
+use Rattle.links.specs.Links.{funcRow}
 use Rattle.links.proofs.Search.{Rest, search-on, search-off, search-end}
 use Rattle.links.proofs.Laws.{settled, links-start}
 use Rattle.links.proofs.link_rows.Statement.{statement}

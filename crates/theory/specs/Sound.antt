@@ -66,6 +66,6 @@ pub record SoundAt (t : Task) (s : Sheet) (b : Ground) (f p : ℕ) : Type 0 wher
 pub record Sound (t : Task) (s : Sheet) : Type 0 where
   pub ground : Ground
   pub price : Price (s .price)
-  pub start : func t 0 .frame ≤ s .at 0 0 .high
+  pub start : 0 < count t → func t 0 .frame ≤ s .at 0 0 .high
   pub first : (f : ℕ) → f < count t → ground .past f 0 ≡ 0
   pub at : (f p : ℕ) → f < count t → p < size (func t f) → SoundAt t s ground f p
