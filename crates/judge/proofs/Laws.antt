@@ -20,7 +20,7 @@ use Rattle.task.specs.declared.Read.{Read}
 use Rattle.task.specs.declared.Read.the-variants as read
 use Rattle.task.specs.Reading.{Holds, Kept, readAs}
 use Rattle.links.specs.Links.{rowVerdict}
-use Rattle.links.proofs.Search.{verdict-none, verdict-some}
+use Rattle.theory.proofs.Search.{verdict-none, verdict-some}
 use Rattle.walks.specs.declared.Flow.the-variants.{Reach, Load, Fine}
 use Rattle.walks.specs.Flow.{flowOf, taskFlow}
 use Rattle.theory.proofs.Reading.{read-shaped}

@@ -29,7 +29,7 @@ use Rattle.links.specs.declared.Named.{Named}
 use Rattle.links.specs.declared.Named.the-variants.{Number}
 use Rattle.links.specs.declared.Span.{Span}
 use Rattle.links.specs.Links.{rowVerdict, optionOf, funcRow, spanAt, funcIn, Held, Settled, callsAt, markOf}
-use Rattle.links.proofs.Search.{count-more, count-end, Rest, any-add, any-last, any-same, any-shift}
+use Rattle.theory.proofs.Search.{count-more, count-end, Rest, any-add, any-last, any-same, any-shift}
 
 -- the code branches on `not b`, where the definitions have b
 pub failed : (b : Bool) → not b ≡ true → false ≡ b

@@ -99,9 +99,12 @@ callRows t = firstOf (callRow t) (countFrom 1 (count t - 1))
 abbrev pub loadRows : Task → Option Refusal
 loadRows t = firstPoint t (loadRow t)
 
+abbrev pub walkRows : Task → Option Refusal
+walkRows t = reachRows t orElse callRows t orElse loadRows t
+
 -- 7 to 13 of a read task
 unfoldable pub taskRows : Task → Option Refusal
-taskRows t = linkRows t orElse reachRows t orElse callRows t orElse loadRows t
+taskRows t = linkRows t orElse walkRows t
 
 -- the task of a text, unless one of these rows refuses it
 abbrev pub orTask : Option Refusal → Task → Judged

@@ -1,5 +1,6 @@
 -- The refusals: the number of each row of the table, a row with its place, and the numbers that a verdict and an ending stand for.
 use Prim.Native.Nat.{ℕ, _+_, _*_}
+use mathlib.Core.Option.{Option, none, some}
 use Rattle.model.specs.declared.Row.{Row}
 use Rattle.model.specs.declared.Row.the-variants.{WorkTooSmall, TextTooLong, Form, StackSize, FrameSize, Offset, TooMany, Callee, Pairing, Target, LastPoint, Unreachable, Uncalled, Uninitialised, OutputTooSmall, EventList, AnswersTooSmall, CacheSize, MemoryTooSmall, AfterFinish, Kind, Choice}
 use Rattle.model.specs.declared.Refusal.{Refusal}
@@ -36,6 +37,11 @@ codeOf Choice = 21
 -- row r, with PLACE n
 abbrev pub refuse : Row → ℕ → Refusal
 refuse r n = record { row = r; place = n }
+
+-- a row that refuses, or none, as a verdict
+abbrev pub rowVerdict : Option Refusal → Verdict
+rowVerdict none = verdict.Accepted
+rowVerdict (some r) = verdict.Refused r
 
 -- the numbers that a verdict and an ending stand for: 0 and 0 for acceptance
 abbrev pub verdictCode : Verdict → ℕ

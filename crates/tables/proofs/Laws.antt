@@ -1,5 +1,5 @@
 -- Laws of the tables: what is read back after a write, and the task that the tables hold, point by point.
-use Prim.Native.Nat.{ℕ, zero, suc, _+_, _*_, _≤_, _<_}
+use Prim.Native.Nat.{ℕ, zero, suc, _+_, _≤_, _<_}
 use native.Mathlib.Omega.{arith}
 use native.Mathlib.Decide.{decLt, ℕ-discrete}
 use mathlib.Core.Path.{_≡_, refl, ap, sym, _∙_}
@@ -14,9 +14,11 @@ use lib.Seq.{getD-at, take-append-le, take-all, getD-set-same, getD-set-other}
 use Rattle.model.specs.declared.Point.{Point}
 use Rattle.model.specs.declared.Point.the-variants.{Load, Store, Call, Ensure, Goto, Either, Return}
 use Rattle.model.specs.Basic.{if_then_else_, sumOf}
-use Rattle.model.specs.Task.{Func, size, func, point, empty, inAll, funcLine, offsetFits}
+use Rattle.model.specs.Task.{Func, size, count, func, point, empty, inAll, funcLine, offsetFits}
+use Rattle.tables.specs.declared.Header.{Header}
+use Rattle.tables.specs.declared.Span.{Span}
 use Rattle.model.specs.Walk.{loaded, leadsFrom, leads}
-use Rattle.tables.specs.Tables.{pointOf, kindOf, isAccess, firstArgument, secondArgument, pointAt, frameAt, baseAt, sizeAt, pointsOf, funcOf, funcsOf, taskOf, Stacked, none, more, function, sum, item}
+use Rattle.tables.specs.Tables.{pointOf, kindOf, isAccess, firstArgument, secondArgument, pointAt, frameAt, baseAt, sizeAt, pointsOf, funcIn, funcOf, funcsOf, taskOf, openingLine, Stacked, none, more, sum, item}
 
 -- a point survives being written as numbers
 pub point-back : (p : Point) → pointOf (kindOf p) (firstArgument p) (secondArgument p) ≡ p
@@ -89,9 +91,9 @@ point-there w b (suc n) p h =
     ]
 
 -- where the points of a function lead
-pub leads-there : (w : List ℕ) (b n p : ℕ) → p < n → leads (function w b n) p ≡ leadsFrom p (pointAt w (b + p))
+pub leads-there : (w : List ℕ) (s : Span) (p : ℕ) → p < s .size → leads (funcIn w s) p ≡ leadsFrom p (pointAt w (s .base + p))
 unfolding leads
-leads-there w b n p h = ap (leadsFrom p) (point-there w b n p h)
+leads-there w s p h = ap (leadsFrom p) (point-there w (s .base) (s .size) p h)
 
 pub leads-same : (x y : Func) → x .points ≡ y .points → leads x ≡ leads y
 unfolding leads
@@ -116,19 +118,22 @@ func-there w (suc n) f h =
     ]
 
 -- what the task of the tables has at function f and its point p
-module _ (w : List ℕ) (s n f : ℕ) (h : f < n) where
-  pub func-is : func (taskOf w s n) f ≡ funcOf w f
-  func-is = func-there w n f h
+module _ (w : List ℕ) (h : Header) (f : ℕ) (k : f < h .funcs) where
+  pub func-is : func (taskOf w h) f ≡ funcOf w f
+  func-is = func-there w (h .funcs) f k
 
-  pub size-is : size (func (taskOf w s n) f) ≡ sizeAt w f
+  pub size-is : size (func (taskOf w h) f) ≡ sizeAt w f
   size-is = ap size func-is ∙ length-points w (baseAt w f) (sizeAt w f)
 
-  pub frame-is : func (taskOf w s n) f .frame ≡ frameAt w f
+  pub frame-is : func (taskOf w h) f .frame ≡ frameAt w f
   frame-is = ap (λ (x : Func). x .frame) func-is
 
-  pub point-is : (p : ℕ) → p < sizeAt w f → point (func (taskOf w s n) f) p ≡ pointAt w (baseAt w f + p)
-  point-is p k =
-      ap (λ (x : Func). point x p) func-is ∙ point-there w (baseAt w f) (sizeAt w f) p k
+  pub point-is : (p : ℕ) → p < sizeAt w f → point (func (taskOf w h) f) p ≡ pointAt w (baseAt w f + p)
+  point-is p l =
+      ap (λ (x : Func). point x p) func-is ∙ point-there w (baseAt w f) (sizeAt w f) p l
+
+pub count-is : (w : List ℕ) (h : Header) → count (taskOf w h) ≡ h .funcs
+count-is w h = length-funcs w (h .funcs)
 
 -- functions that lie one after the other: each ends where the next begins, and all end at m
 pub stacked-within : {w : List ℕ} {n m : ℕ} → Stacked w n m → (f : ℕ) → f < n → baseAt w f + sizeAt w f ≤ m
@@ -171,9 +176,10 @@ sum-before {w} (more {n} {m} k e) f h =
     ]
 
 -- the line of function f
-pub line-is : {w : List ℕ} {n m : ℕ} (s : ℕ) → Stacked w n m → (f : ℕ) → f < n → funcLine (taskOf w s n) f ≡ 2 + 2 * f + baseAt w f
+pub line-is : {w : List ℕ} (h : Header) → Stacked w (h .funcs) (h .points) → (f : ℕ) → f < h .funcs
+    → funcLine (taskOf w h) f ≡ openingLine f (baseAt w f)
 unfolding funcLine
-line-is s k f h = rw (sum-before k f h)
+line-is h k f l = rw (sum-before k f l)
 
 -- sums: of the same terms, and of terms that differ at q alone
 sum-same : (f g : ℕ → ℕ) (n : ℕ) → ((p : ℕ) → p < n → f p ≡ g p) → sum f n ≡ sum g n

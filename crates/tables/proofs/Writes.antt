@@ -7,6 +7,8 @@ use mathlib.Core.List.{List, [], _∷_, _++_}
 use lib.ListN.{length, getD, set, drop, length-set}
 use lib.Seq.{getD-set-same, getD-set-other, drop-set-lt}
 use Rattle.model.specs.declared.Point.{Point}
+use Rattle.model.specs.Limits.{mostFuncs, mostInAll}
+use Rattle.tables.specs.Layout.{firstTable, secondTable, frameTable, baseTable, sizeTable, tablesLength}
 use Rattle.tables.specs.Tables.{pointOf, kindOf, firstArgument, secondArgument, pointAt, putPoint, frameAt, baseAt, sizeAt, putFunc, pointsOf, funcsOf, Stacked, none, more}
 use Rattle.tables.proofs.Laws.{point-back}
 
@@ -64,82 +66,82 @@ module _ (w : List ℕ) (a b c x y z : ℕ) where
   as-long = simp length-set
 
 -- a point written at i
-module _ (w : List ℕ) (i : ℕ) (p : Point) (h : i < 1024) where
-  other : (j : ℕ) → j ≢ i → j ≢ 1024 + i → j ≢ 2048 + i → getD (putPoint w i p) j 0 ≡ getD w j 0
-  other = apart w i (1024 + i) (2048 + i) (kindOf p) (firstArgument p) (secondArgument p)
+module _ (w : List ℕ) (i : ℕ) (p : Point) (h : i < mostInAll) where
+  other : (j : ℕ) → j ≢ i → j ≢ firstTable + i → j ≢ secondTable + i → getD (putPoint w i p) j 0 ≡ getD w j 0
+  other = apart w i (firstTable + i) (secondTable + i) (kindOf p) (firstArgument p) (secondArgument p)
 
-  pub put-point-agree : (n : ℕ) → n ≤ 64 → Agree n i w (putPoint w i p)
+  pub put-point-agree : (n : ℕ) → n ≤ mostFuncs → Agree n i w (putPoint w i p)
   put-point-agree n k = record {
-    frame = λ f l. other (3072 + f) (omega arith) (omega arith) (omega arith);
-    base = λ f l. other (3136 + f) (omega arith) (omega arith) (omega arith);
-    size = λ f l. other (3200 + f) (omega arith) (omega arith) (omega arith);
+    frame = λ f l. other (frameTable + f) (omega arith) (omega arith) (omega arith);
+    base = λ f l. other (baseTable + f) (omega arith) (omega arith) (omega arith);
+    size = λ f l. other (sizeTable + f) (omega arith) (omega arith) (omega arith);
     point = λ j l.
         let e = other j (omega arith) (omega arith) (omega arith) in
-        let f = other (1024 + j) (omega arith) (omega arith) (omega arith) in
-        let g = other (2048 + j) (omega arith) (omega arith) (omega arith) in
+        let f = other (firstTable + j) (omega arith) (omega arith) (omega arith) in
+        let g = other (secondTable + j) (omega arith) (omega arith) (omega arith) in
         λ t. pointOf (e t) (f t) (g t);
   }
 
-  pub put-point-there : 3264 ≤ length w → pointAt (putPoint w i p) i ≡ p
+  pub put-point-there : tablesLength ≤ length w → pointAt (putPoint w i p) i ≡ p
   put-point-there k =
       let e =
-      first w i (1024 + i) (2048 + i) (kindOf p) (firstArgument p) (secondArgument p) (omega arith) (omega arith) (omega arith) in
+      first w i (firstTable + i) (secondTable + i) (kindOf p) (firstArgument p) (secondArgument p) (omega arith) (omega arith) (omega arith) in
       let f =
-      second w i (1024 + i) (2048 + i) (kindOf p) (firstArgument p) (secondArgument p) (omega arith) (omega arith) in
-      let g = third w i (1024 + i) (2048 + i) (kindOf p) (firstArgument p) (secondArgument p) (omega arith) in
+      second w i (firstTable + i) (secondTable + i) (kindOf p) (firstArgument p) (secondArgument p) (omega arith) (omega arith) in
+      let g = third w i (firstTable + i) (secondTable + i) (kindOf p) (firstArgument p) (secondArgument p) (omega arith) in
       (λ t. pointOf (e t) (f t) (g t)) ∙ point-back p
 
   -- the points from b on, of which m stand before i
-  pub put-point-more : 3264 ≤ length w → (b m : ℕ) → b + m ≡ i → pointsOf (putPoint w i p) b (suc m) ≡ pointsOf w b m ++ (p ∷ [])
+  pub put-point-more : tablesLength ≤ length w → (b m : ℕ) → b + m ≡ i → pointsOf (putPoint w i p) b (suc m) ≡ pointsOf w b m ++ (p ∷ [])
   unfolding pointsOf
   put-point-more k b m e =
       rw (e, put-point-there k, points-agree (put-point-agree 0 (omega arith)) b m (omega arith))
 
-  pub put-point-past : drop 3264 (putPoint w i p) ≡ drop 3264 w
+  pub put-point-past : drop tablesLength (putPoint w i p) ≡ drop tablesLength w
   put-point-past =
-      past w i (1024 + i) (2048 + i) (kindOf p) (firstArgument p) (secondArgument p) 3264 (omega arith) (omega arith) (omega arith)
+      past w i (firstTable + i) (secondTable + i) (kindOf p) (firstArgument p) (secondArgument p) tablesLength (omega arith) (omega arith) (omega arith)
 
   pub put-point-length : length (putPoint w i p) ≡ length w
-  put-point-length = as-long w i (1024 + i) (2048 + i) (kindOf p) (firstArgument p) (secondArgument p)
+  put-point-length = as-long w i (firstTable + i) (secondTable + i) (kindOf p) (firstArgument p) (secondArgument p)
 
 -- function f written: frame k, first point b, m points
-module _ (w : List ℕ) (f k b m : ℕ) (h : f < 64) where
-  pub put-func-agree : Agree f 1024 w (putFunc w f k b m)
+module _ (w : List ℕ) (f k b m : ℕ) (h : f < mostFuncs) where
+  pub put-func-agree : Agree f mostInAll w (putFunc w f k b m)
   put-func-agree = record {
-    frame = λ g l. untouched (3072 + g) (omega arith) (omega arith) (omega arith);
-    base = λ g l. untouched (3136 + g) (omega arith) (omega arith) (omega arith);
-    size = λ g l. untouched (3200 + g) (omega arith) (omega arith) (omega arith);
+    frame = λ g l. untouched (frameTable + g) (omega arith) (omega arith) (omega arith);
+    base = λ g l. untouched (baseTable + g) (omega arith) (omega arith) (omega arith);
+    size = λ g l. untouched (sizeTable + g) (omega arith) (omega arith) (omega arith);
     point = λ j l.
         let e = untouched j (omega arith) (omega arith) (omega arith) in
-        let g = untouched (1024 + j) (omega arith) (omega arith) (omega arith) in
-        let i = untouched (2048 + j) (omega arith) (omega arith) (omega arith) in
+        let g = untouched (firstTable + j) (omega arith) (omega arith) (omega arith) in
+        let i = untouched (secondTable + j) (omega arith) (omega arith) (omega arith) in
         λ t. pointOf (e t) (g t) (i t);
   }
     where
-      untouched : (j : ℕ) → j ≢ 3072 + f → j ≢ 3136 + f → j ≢ 3200 + f → getD (putFunc w f k b m) j 0 ≡ getD w j 0
-      untouched = apart w (3072 + f) (3136 + f) (3200 + f) k b m
+      untouched : (j : ℕ) → j ≢ frameTable + f → j ≢ baseTable + f → j ≢ sizeTable + f → getD (putFunc w f k b m) j 0 ≡ getD w j 0
+      untouched = apart w (frameTable + f) (baseTable + f) (sizeTable + f) k b m
 
-  module _ (room : 3264 ≤ length w) where
+  module _ (room : tablesLength ≤ length w) where
     put-frame : frameAt (putFunc w f k b m) f ≡ k
-    put-frame = first w (3072 + f) (3136 + f) (3200 + f) k b m (omega arith) (omega arith) (omega arith)
+    put-frame = first w (frameTable + f) (baseTable + f) (sizeTable + f) k b m (omega arith) (omega arith) (omega arith)
 
     put-base : baseAt (putFunc w f k b m) f ≡ b
-    put-base = second w (3072 + f) (3136 + f) (3200 + f) k b m (omega arith) (omega arith)
+    put-base = second w (frameTable + f) (baseTable + f) (sizeTable + f) k b m (omega arith) (omega arith)
 
     put-size : sizeAt (putFunc w f k b m) f ≡ m
-    put-size = third w (3072 + f) (3136 + f) (3200 + f) k b m (omega arith)
+    put-size = third w (frameTable + f) (baseTable + f) (sizeTable + f) k b m (omega arith)
 
     pub put-func-stacked : Stacked w f b → Stacked (putFunc w f k b m) (suc f) (b + m)
     put-func-stacked s =
         subst (λ (n : ℕ). Stacked (putFunc w f k b m) (suc f) (b + n)) put-size (more (stacked-agree put-func-agree s (omega arith)) put-base)
 
-    pub put-func-more : Stacked w f b → b + m ≤ 1024 → funcsOf (putFunc w f k b m) (suc f) ≡ funcsOf w f ++ (record { frame = k; points = pointsOf w b m } ∷ [])
+    pub put-func-more : Stacked w f b → b + m ≤ mostInAll → funcsOf (putFunc w f k b m) (suc f) ≡ funcsOf w f ++ (record { frame = k; points = pointsOf w b m } ∷ [])
     unfolding funcsOf
     put-func-more s l =
         rw (funcs-agree put-func-agree s (omega arith) (omega arith), put-frame, put-base, put-size, points-agree put-func-agree b m l)
 
-  pub put-func-past : drop 3264 (putFunc w f k b m) ≡ drop 3264 w
-  put-func-past = past w (3072 + f) (3136 + f) (3200 + f) k b m 3264 (omega arith) (omega arith) (omega arith)
+  pub put-func-past : drop tablesLength (putFunc w f k b m) ≡ drop tablesLength w
+  put-func-past = past w (frameTable + f) (baseTable + f) (sizeTable + f) k b m tablesLength (omega arith) (omega arith) (omega arith)
 
   pub put-func-length : length (putFunc w f k b m) ≡ length w
-  put-func-length = as-long w (3072 + f) (3136 + f) (3200 + f) k b m
+  put-func-length = as-long w (frameTable + f) (baseTable + f) (sizeTable + f) k b m

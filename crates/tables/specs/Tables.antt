@@ -1,17 +1,17 @@
--- The tables in the working space, and the task that they hold.
---   0 kind, 1024 first and 2048 second argument of each point, counted over all functions
---   3072 frame, 3136 first point and 3200 number of points of each function
-use Prim.Native.Nat.{ℕ, zero, suc, _+_, _≤_, _<_}
+-- A task as numbers in the tables of the working space, and the task that the tables hold.
+use Prim.Native.Nat.{ℕ, zero, suc, _+_, _*_}
 use mathlib.Core.Path.{_≡_}
 use mathlib.Core.Bool.{Bool, true, false}
-use mathlib.Core.List.{List, [], _∷_, _++_, List·Memᴰ}
-use lib.ListN.{length, getD, set}
-use lib.Dec.{T, eqb}
+use mathlib.Core.List.{List, [], _∷_, _++_}
+use lib.ListN.{getD, set}
+use lib.Dec.{eqb}
 use Rattle.model.specs.declared.Point.{Point}
 use Rattle.model.specs.declared.Point.the-variants.{Load, Store, Call, Ensure, Goto, Either, Return}
 use Rattle.model.specs.Basic.{if_then_else_}
-use Rattle.model.specs.Task.{Func, Task, offsetFits}
-use Rattle.model.specs.Walk.{leads}
+use Rattle.model.specs.Task.{Func, Task}
+use Rattle.tables.specs.declared.Header.{Header}
+use Rattle.tables.specs.declared.Span.{Span}
+use Rattle.tables.specs.Layout.{firstTable, secondTable, frameTable, baseTable, sizeTable}
 
 -- a point as three numbers, and back
 abbrev pub pointOf : ℕ → ℕ → ℕ → Point
@@ -74,56 +74,55 @@ isAccess Return = false
 
 -- point i of the tables w, and w with another point there
 abbrev pub pointAt : List ℕ → ℕ → Point
-pointAt w i = pointOf (getD w i 0) (getD w (1024 + i) 0) (getD w (2048 + i) 0)
+pointAt w i = pointOf (getD w i 0) (getD w (firstTable + i) 0) (getD w (secondTable + i) 0)
 
 abbrev pub putPoint : List ℕ → ℕ → Point → List ℕ
 putPoint w i p =
-    set (set (set w i (kindOf p)) (1024 + i) (firstArgument p)) (2048 + i) (secondArgument p)
+    set (set (set w i (kindOf p)) (firstTable + i) (firstArgument p)) (secondTable + i) (secondArgument p)
 
 -- what function f has in w, and w with another function there
 abbrev pub frameAt : List ℕ → ℕ → ℕ
-frameAt w f = getD w (3072 + f) 0
+frameAt w f = getD w (frameTable + f) 0
 
 abbrev pub baseAt : List ℕ → ℕ → ℕ
-baseAt w f = getD w (3136 + f) 0
+baseAt w f = getD w (baseTable + f) 0
 
 abbrev pub sizeAt : List ℕ → ℕ → ℕ
-sizeAt w f = getD w (3200 + f) 0
+sizeAt w f = getD w (sizeTable + f) 0
 
 abbrev pub putFunc : List ℕ → ℕ → ℕ → ℕ → ℕ → List ℕ
-putFunc w f frame base size = set (set (set w (3072 + f) frame) (3136 + f) base) (3200 + f) size
+putFunc w f frame base size =
+    set (set (set w (frameTable + f) frame) (baseTable + f) base) (sizeTable + f) size
 
--- n points from number b on; function f; the first n functions; the task
+abbrev pub spanAt : List ℕ → ℕ → Span
+spanAt w f = record { frame = frameAt w f; base = baseAt w f; size = sizeAt w f }
+
+-- n points from number b on; the function that lies so; function f; the first n functions; the task with this header
 unfoldable pub pointsOf : List ℕ → ℕ → ℕ → List Point
 pointsOf w b zero = []
 pointsOf w b (suc n) = pointsOf w b n ++ (pointAt w (b + n) ∷ [])
 
--- the function that n points from number b on make, with no frame
-abbrev pub function : List ℕ → ℕ → ℕ → Func
-function w b n = record { frame = 0; points = pointsOf w b n }
+abbrev pub funcIn : List ℕ → Span → Func
+funcIn w s = record { frame = s .frame; points = pointsOf w (s .base) (s .size) }
 
 abbrev pub funcOf : List ℕ → ℕ → Func
-funcOf w f = record { frame = frameAt w f; points = pointsOf w (baseAt w f) (sizeAt w f) }
+funcOf w f = funcIn w (spanAt w f)
 
 unfoldable pub funcsOf : List ℕ → ℕ → List Func
 funcsOf w zero = []
 funcsOf w (suc n) = funcsOf w n ++ (funcOf w n ∷ [])
 
-abbrev pub taskOf : List ℕ → ℕ → ℕ → Task
-taskOf w s n = record { stack = s; funcs = funcsOf w n }
+abbrev pub taskOf : List ℕ → Header → Task
+taskOf w h = record { stack = h .stack; funcs = funcsOf w (h .funcs) }
+
+-- the line that opens function f, and that of its point p, where its first point has the number b: each function has two lines more than points
+abbrev pub openingLine : ℕ → ℕ → ℕ
+openingLine f b = 2 + 2 * f + b
+
+abbrev pub lineIn : ℕ → ℕ → ℕ → ℕ
+lineIn f b p = openingLine f b + 1 + p
 
 -- the first n functions of w lie one after the other from point 0 on and end at point m
 pub data Stacked (w : List ℕ) : ℕ → ℕ → Type 0 where
   none : Stacked w 0 0
   more : {n m : ℕ} → Stacked w n m → baseAt w n ≡ m → Stacked w (suc n) (m + sizeAt w n)
-
--- function f of the tables w has points that keep to it and to its frame
-pub record Fit (w : List ℕ) (f : ℕ) : Type 0 where
-  pub low : f < 64
-  pub room : 3264 ≤ length w
-  pub within : baseAt w f + sizeAt w f ≤ 1024
-  pub some : 1 ≤ sizeAt w f
-  pub small : sizeAt w f ≤ 256
-  pub frame : frameAt w f ≤ 64
-  pub offsets : (p : ℕ) → p < sizeAt w f → T (offsetFits (frameAt w f) (pointAt w (baseAt w f + p)))
-  pub closed : (p q : ℕ) → p < sizeAt w f → List·Memᴰ q (leads (funcOf w f) p) → q < sizeAt w f

@@ -1,10 +1,43 @@
 // The tables of a decoded task in the working space: a point has a kind and two arguments, a function a frame, its first point and its
 // number of points. Functions and points are read and written here and nowhere else.
 ghost use mathlib.Core.Path.{_≡_};
-ghost use Prim.Native.Nat.{_+_, _*_, _<_, _≤_};
+ghost use Prim.Native.Nat.{_+_, _<_, _≤_};
 ghost use lib.ListN.{length};
-ghost use Rattle.tables.specs.Tables.{pointOf, isAccess, pointAt, putPoint, kindOf, firstArgument, secondArgument, frameAt, baseAt, sizeAt, putFunc};
+ghost use Rattle.model.specs.Limits.{mostFuncs, mostInAll};
+ghost use Rattle.tables.specs.Layout.{tablesLength};
+ghost use Rattle.tables.specs.Tables.{pointOf, isAccess, pointAt, putPoint, kindOf, firstArgument, secondArgument, putFunc, spanAt, openingLine, lineIn};
 use model::Point;
+
+// Where each table begins. The kinds of the points begin at 0.
+pub struct Layout;
+
+impl Layout {
+    pub const FIRST: usize = 1024;
+
+    pub const SECOND: usize = 2048;
+
+    pub const FRAME: usize = 3072;
+
+    pub const BASE: usize = 3136;
+
+    pub const SIZE: usize = 3200;
+    // The numbers that all tables take.
+    pub const LENGTH: usize = 3264;
+}
+
+// What is known of a task beside its tables: the cache blocks, how many functions, and how many points in all.
+pub struct Header {
+    pub stack: u32,
+    pub funcs: usize,
+    pub points: usize,
+}
+
+// What the tables keep of a function: its frame, the number of its first point, and how many points it has.
+pub struct Span {
+    pub frame: u32,
+    pub base: usize,
+    pub size: usize,
+}
 
 // The point that a kind and two arguments stand for.
 fn point_of(kind: u32, first: u32, second: u32) -> Point
@@ -23,15 +56,15 @@ fn point_of(kind: u32, first: u32, second: u32) -> Point
 
 // Point i of the task, counted over all functions.
 pub fn point_at(work: &[u32], i: usize) -> Point
-    requires { ⌜ (i < 1024) × (3264 ≤ length (now work)) ⌝ }
+    requires { ⌜ (i < mostInAll) × (tablesLength ≤ length (now work)) ⌝ }
     ensures { λ r. ⌜ r ≡ pointAt (now (work .entry)) i ⌝ }
 {
-    point_of(work[i], work[1024 + i], work[2048 + i])
+    point_of(work[i], work[Layout::FIRST + i], work[Layout::SECOND + i])
 }
 
 // Point i is a load or a store: the two lowest kinds, so that one comparison tells.
 pub fn access_at(work: &[u32], i: usize) -> bool
-    requires { ⌜ (i < 1024) × (3264 ≤ length (now work)) ⌝ }
+    requires { ⌜ (i < mostInAll) × (tablesLength ≤ length (now work)) ⌝ }
     ensures { λ r. ⌜ r ≡ isAccess (pointAt (now (work .entry)) i) ⌝ }
 {
     work[i] < 2
@@ -80,34 +113,12 @@ fn second_argument(p: Point) -> u32
 }
 
 pub fn put_point(work: &mut [u32], i: usize, p: Point)
-    requires { ⌜ (i < 1024) × (3264 ≤ length (now work)) ⌝ }
+    requires { ⌜ (i < mostInAll) × (tablesLength ≤ length (now work)) ⌝ }
     ensures { λ r. ⌜ now (work .exit) ≡ putPoint (now (work .entry)) i p ⌝ }
 {
     work[i] = kind_of(p);
-    work[1024 + i] = first_argument(p);
-    work[2048 + i] = second_argument(p);
-}
-
-// The frame of function f, the number of its first point, and how many points it has.
-pub fn frame_at(work: &[u32], f: usize) -> u32
-    requires { ⌜ (f < 64) × (3264 ≤ length (now work)) ⌝ }
-    ensures { λ r. ⌜ r ≡ frameAt (now (work .entry)) f ⌝ }
-{
-    work[3072 + f]
-}
-
-pub fn base_at(work: &[u32], f: usize) -> usize
-    requires { ⌜ (f < 64) × (3264 ≤ length (now work)) ⌝ }
-    ensures { λ r. ⌜ r ≡ baseAt (now (work .entry)) f ⌝ }
-{
-    wide(work[3136 + f])
-}
-
-pub fn size_at(work: &[u32], f: usize) -> usize
-    requires { ⌜ (f < 64) × (3264 ≤ length (now work)) ⌝ }
-    ensures { λ r. ⌜ r ≡ sizeAt (now (work .entry)) f ⌝ }
-{
-    wide(work[3200 + f])
+    work[Layout::FIRST + i] = first_argument(p);
+    work[Layout::SECOND + i] = second_argument(p);
 }
 
 fn wide(x: u32) -> usize
@@ -116,27 +127,38 @@ fn wide(x: u32) -> usize
     x as usize
 }
 
-pub fn put_func(work: &mut [u32], f: usize, frame: u32, base: u32, size: u32)
-    requires { ⌜ (f < 64) × (3264 ≤ length (now work)) ⌝ }
-    ensures { λ r. ⌜ now (work .exit) ≡ putFunc (now (work .entry)) f frame base size ⌝ }
+// Function f of the task.
+pub fn span_at(work: &[u32], f: usize) -> Span
+    requires { ⌜ (f < mostFuncs) × (tablesLength ≤ length (now work)) ⌝ }
+    ensures { λ r. ⌜ r ≡ spanAt (now (work .entry)) f ⌝ }
 {
-    work[3072 + f] = frame;
-    work[3136 + f] = base;
-    work[3200 + f] = size;
+    let frame = work[Layout::FRAME + f];
+    let base = wide(work[Layout::BASE + f]);
+    let size = wide(work[Layout::SIZE + f]);
+    Span { frame, base, size }
 }
 
-// The line of function f, whose first point has the number base.
-pub fn func_line(f: usize, base: usize) -> u32
-    requires { ⌜ (f < 64) × (base ≤ 1024) ⌝ }
-    ensures { λ r. ⌜ r ≡ 2 + 2 * f + base ⌝ }
+pub fn put_func(work: &mut [u32], f: usize, frame: u32, base: u32, size: u32)
+    requires { ⌜ (f < mostFuncs) × (tablesLength ≤ length (now work)) ⌝ }
+    ensures { λ r. ⌜ now (work .exit) ≡ putFunc (now (work .entry)) f frame base size ⌝ }
+{
+    work[Layout::FRAME + f] = frame;
+    work[Layout::BASE + f] = base;
+    work[Layout::SIZE + f] = size;
+}
+
+// The line that opens function f, whose first point has the number base.
+pub fn opening_line(f: usize, base: usize) -> u32
+    requires { ⌜ (f < mostFuncs) × (base ≤ mostInAll) ⌝ }
+    ensures { λ r. ⌜ r ≡ openingLine f base ⌝ }
 {
     (2 + 2 * f + base) as u32
 }
 
 // The line of point p of function f, whose first point has the number base.
-pub fn point_line(f: usize, base: usize, p: usize) -> u32
-    requires { ⌜ (f < 64) × (base + p < 1024) ⌝ }
-    ensures { λ r. ⌜ r ≡ 2 + 2 * f + base + 1 + p ⌝ }
+pub fn line_in(f: usize, base: usize, p: usize) -> u32
+    requires { ⌜ (f < mostFuncs) × (base + p < mostInAll) ⌝ }
+    ensures { λ r. ⌜ r ≡ lineIn f base p ⌝ }
 {
     (2 + 2 * f + base + 1 + p) as u32
 }

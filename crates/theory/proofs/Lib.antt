@@ -1,5 +1,5 @@
 -- What follows from the definitions alone. Sheet has the top theorem on figures, Faithful the theorem on runs; the others lead to them.
---   Lists, Firsts            laws of the list functions of the model
+--   Lists, Firsts, Search    laws of the list functions of the model, and of loops that look for the first refusal
 --   Walks, Arrival           the computed searches are about walks of every length
 --   Reading, Accepted, Links what acceptance says of a task
 --   Places, Decimal          the place of a refusal fits 16 bits; numbers in decimal
@@ -16,6 +16,7 @@
 --   Faithful                 demand 3, of every sheet that obeys the rules and of the sheet of every text that run accepts
 pub mod Lists
 pub mod Firsts
+pub mod Search
 pub mod Walks
 pub mod Arrival
 pub mod Reading

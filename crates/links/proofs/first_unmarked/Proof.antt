@@ -6,7 +6,7 @@ use borrow.Author.Needs.{needs}
 use Rattle.model.specs.Refusal.{callRow}
 use Rattle.tables.specs.Tables.{taskOf}
 use Rattle.model.specs.Refusal.{callRows}
-use Rattle.links.proofs.Search.{Rest, search-on, search-off, search-end}
+use Rattle.theory.proofs.Search.{Rest, search-on, search-off, search-end}
 use Rattle.links.proofs.Laws.{base-within, calls-start, row-called, row-uncalled}
 use Rattle.links.proofs.first_unmarked.Statement.{statement}
 use Rattle.links.proofs.first_unmarked.Tie as tie

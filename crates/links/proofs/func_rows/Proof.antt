@@ -7,7 +7,7 @@ use borrow.Author.Needs.{needs}
 use Rattle.model.specs.Refusal.{linkRow}
 use Rattle.tables.specs.Tables.{taskOf}
 use Rattle.links.specs.Links.{funcRow, Held}
-use Rattle.links.proofs.Search.{Rest, search-on, search-off, search-last, search-end}
+use Rattle.theory.proofs.Search.{Rest, search-on, search-off, search-last, search-end}
 use Rattle.links.proofs.Laws.{held, func-start, row-access}
 use Rattle.links.proofs.func_rows.Statement.{statement}
 use Rattle.links.proofs.func_rows.Tie as tie

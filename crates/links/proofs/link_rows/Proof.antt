@@ -5,7 +5,7 @@ use borrow.Author.Needs.{needs}
 use Rattle.tables.specs.Tables.{taskOf}
 use Rattle.model.specs.Refusal.{linkRows}
 use Rattle.links.specs.Links.{funcRow}
-use Rattle.links.proofs.Search.{Rest, search-on, search-off, search-end}
+use Rattle.theory.proofs.Search.{Rest, search-on, search-off, search-end}
 use Rattle.links.proofs.Laws.{settled, links-start}
 use Rattle.links.proofs.link_rows.Statement.{statement}
 use Rattle.links.proofs.link_rows.Tie as tie

@@ -11,7 +11,7 @@ use Rattle.model.specs.declared.Refusal.{Refusal}
 use Rattle.model.specs.declared.Verdict.{Verdict}
 use Rattle.model.specs.declared.Verdict.the-variants.{Accepted, Refused}
 use Rattle.model.specs.Basic.{_orElse_, firstOf, any, countFrom, upTo}
-use Rattle.links.specs.Links.{rowVerdict}
+use Rattle.model.specs.Rows.{rowVerdict}
 
 -- the numbers that are left, one by one
 pub count-more : (i n : ℕ) → i < n → countFrom i (n - i) ≡ i ∷ countFrom (i + 1) (n - (i + 1))
