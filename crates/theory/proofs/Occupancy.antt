@@ -46,6 +46,10 @@ Occupied t s b (x ∷ fs) n = OccupiedAt t s b x fs n
 left-by : (n k s p d : ℕ) → n ≤ max k (s - p) → d ≤ k + p → n - k ≤ s - d
 left-by n k s p d h i = omega arith
 
+-- high after a call that leaves at most c
+left-high : (n h c q : ℕ) → n ≤ h → n ≤ c → min h c ≤ q → n ≤ q
+left-high n h c q i j k = omega arith
+
 -- past one call more, which leaves at most s - d
 left-past : (n k s a d p : ℕ) → n ≤ max k (s - a) → n ≤ s - d → p ≤ max a d → n ≤ max k (s - p)
 left-past n k s a d p h i j = omega arith
@@ -126,7 +130,7 @@ module _ (t : Task) (s : Sheet) (w : WellFormed t) (r : Sound t s) where
       let h = o .0 c l in
       let v = r .at (y .fn) c (j .fn-in) (omega (arith, l, j .at-in)) .call f k in record {
         here = rw l (record {
-          high = omega (arith, d, h .high, v .high);
+          high = left-high _ (s .at (y .fn) c .high) (t .stack - r .ground .shortest f) _ (h .high) d (v .high);
           left = left-past _ (func t (y .fn) .frame) (t .stack) (r .ground .past (y .fn) c) (r .ground .shortest f) _ (h .left) d (v .past);
         });
         waiting = waiting-fewer t s (r .ground) n (func t f .frame + func t (y .fn) .frame) _ (func t (y .fn) .frame) fs (omega arith) (o .1);
