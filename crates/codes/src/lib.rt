@@ -1,9 +1,9 @@
-// The numbers that refusals and verdicts stand for: a code and a place, or both in one number.
+// The numbers that a refusal stands for: a code and a place, or both in one number.
 ghost use mathlib.Core.Path.{_≡_};
 ghost use Prim.Native.Nat.{_≤_};
-ghost use Rattle.model.specs.Rows.{codeOf, verdictPlace, packed};
+ghost use Rattle.model.specs.Rows.{codeOf, packed};
+use model::Refusal;
 use model::Row;
-use model::Verdict;
 
 pub fn code_of(r: Row) -> u32
     ensures { λ c. ⌜ c ≡ codeOf r ⌝ }
@@ -34,16 +34,11 @@ pub fn code_of(r: Row) -> u32
     }
 }
 
-// CODE times 65,536 plus PLACE; 0 for an accepted text.
-pub fn packed(v: Verdict) -> u32
-    requires { ⌜ verdictPlace v ≤ 65535 ⌝ }
-    ensures { λ n. ⌜ n ≡ packed v ⌝ }
+// CODE times 65,536 plus PLACE.
+pub fn packed(r: Refusal) -> u32
+    requires { ⌜ r .place ≤ 65535 ⌝ }
+    ensures { λ n. ⌜ n ≡ packed r ⌝ }
 {
-    match v {
-        Verdict::Accepted => 0,
-        Verdict::Refused(r) => {
-            let row = r.row;
-            code_of(row) * 65536 + r.place
-        }
-    }
+    let row = r.row;
+    code_of(row) * 65536 + r.place
 }

@@ -1,4 +1,4 @@
--- The verdict of the passes is the first refusal of the rows, in their order.
+-- The judgement of the passes is the first refusal of the rows, in their order.
 use Prim.Native.Nat.{ℕ, _≤_, _<_}
 use mathlib.Core.Path.{_≡_, refl, sym, ap, _∙_}
 use mathlib.Core.List.{List}
@@ -7,96 +7,83 @@ use lib.ListN.{length}
 use borrow.Author.Tests.{lt-ltb, le-ltb}
 use Rattle.model.specs.declared.Refusal.{Refusal}
 use Rattle.model.specs.declared.Row.the-variants.{TextTooLong}
-use Rattle.model.specs.Rows.{refuse}
 use Rattle.model.specs.declared.Verdict.{Verdict}
 use Rattle.model.specs.declared.Verdict.the-variants.{Accepted, Refused}
-use Rattle.model.specs.Basic.{_orElse_}
+use Rattle.model.specs.Limits.{mostBytes}
+use Rattle.model.specs.Rows.{refuse, rowVerdict}
 use Rattle.model.specs.Task.{Task, Judged, refused, task, readText}
-use Rattle.model.specs.Refusal.{judged, linkRows, callRows, taskRows, orTask, firstPoint, reachRow, loadRow}
-use Rattle.model.specs.Services.{verdictOf}
-use Rattle.tables.specs.Tables.{taskOf}
-use Rattle.task.specs.declared.Tables.{Tables}
-use Rattle.task.specs.declared.Read.{Read}
-use Rattle.task.specs.declared.Read.the-variants as read
-use Rattle.task.specs.Reading.{Holds, Kept, readAs}
-use Rattle.links.specs.Links.{rowVerdict}
+use Rattle.model.specs.Refusal.{linkRows, walkRows, taskRows, orTask, withRows, judged}
+use Rattle.model.specs.WellFormed.{Shaped, Linked, WellFormed}
 use Rattle.theory.proofs.Search.{verdict-none, verdict-some}
-use Rattle.walks.specs.declared.Flow.the-variants.{Reach, Load, Fine}
-use Rattle.walks.specs.Flow.{flowOf, taskFlow}
 use Rattle.theory.proofs.Reading.{read-shaped}
-use Rattle.model.specs.WellFormed.{Linked}
-use Rattle.theory.proofs.Accepted.{links-none}
-use Rattle.judge.specs.Rows.{walkRows, lastOf, Shown}
-
--- 11, then 12, then 13: a, b and c are the first refusals of each
-reach-first : (a b c : Option Refusal) (r : Refusal) → flowOf a c ≡ Reach r → Refused r ≡ rowVerdict (a orElse (b orElse c))
-reach-first (some q) b c r e = let i : q ≡ r = cc in ap Refused (sym i)
-reach-first none b (some q) r e = cc
-reach-first none b none r e = cc
-
-load-last : (a b c : Option Refusal) (r : Refusal) → flowOf a c ≡ Load r → lastOf (rowVerdict b) r ≡ rowVerdict (a orElse (b orElse c))
-load-last (some q) b c r e = cc
-load-last none (some p) (some q) r e = refl
-load-last none none (some q) r e = let i : q ≡ r = cc in ap Refused (sym i)
-load-last none b none r e = cc
-
-flow-fine : (a b c : Option Refusal) → flowOf a c ≡ Fine → rowVerdict b ≡ rowVerdict (a orElse (b orElse c))
-flow-fine (some q) b c e = cc
-flow-fine none b (some q) e = cc
-flow-fine none (some p) none e = refl
-flow-fine none none none e = refl
-
--- the same of a task
-module _ (t : Task) where
-  pub reach-of : (r : Refusal) → taskFlow t ≡ Reach r → Refused r ≡ rowVerdict (walkRows t)
-  reach-of r e = reach-first (firstPoint t (reachRow t)) (callRows t) (firstPoint t (loadRow t)) r e
-
-  pub load-of : (r : Refusal) → taskFlow t ≡ Load r → (v : Verdict) → v ≡ rowVerdict (callRows t) → lastOf v r ≡ rowVerdict (walkRows t)
-  load-of r e v i =
-      ap (λ u. lastOf u r) i ∙ load-last (firstPoint t (reachRow t)) (callRows t) (firstPoint t (loadRow t)) r e
-
-  pub fine-of : taskFlow t ≡ Fine → (v : Verdict) → v ≡ rowVerdict (callRows t) → v ≡ rowVerdict (walkRows t)
-  fine-of e v i = i ∙ flow-fine (firstPoint t (reachRow t)) (callRows t) (firstPoint t (loadRow t)) e
+use Rattle.theory.proofs.Accepted.{links-none, rows-none}
+use Rattle.tables.specs.declared.Header.{Header}
+use Rattle.tables.specs.Layout.{tablesLength}
+use Rattle.tables.specs.Tables.{taskOf}
+use Rattle.tables.specs.Valid.{Kept, Holds}
+use Rattle.tables.proofs.Valid.{kept-same, kept-on}
+use Rattle.reader.specs.declared.Read.{Read}
+use Rattle.reader.specs.declared.Read.the-variants as read
+use Rattle.reader.specs.Reading.{readAs}
+use Rattle.judge.specs.declared.Judgement.{Judgement}
+use Rattle.judge.specs.declared.Judgement.the-variants as judgement
+use Rattle.judge.specs.Judgement.{Judges}
 
 -- 7 to 10 before the others
-pub link-first : (t : Task) (r : Refusal) → rowVerdict (linkRows t) ≡ Refused r → Refused r ≡ rowVerdict (taskRows t)
-unfolding taskRows
-link-first t r e = rw (verdict-some (linkRows t) e)
+module _ (t : Task) {v : Verdict} (e : v ≡ rowVerdict (linkRows t)) where
+  pub link-first : {r : Refusal} → v ≡ Refused r → Refused r ≡ rowVerdict (taskRows t)
+  unfolding taskRows
+  link-first i = rw (verdict-some (linkRows t) (sym e ∙ i))
 
-pub link-fine : (t : Task) → rowVerdict (linkRows t) ≡ Accepted → rowVerdict (walkRows t) ≡ rowVerdict (taskRows t)
-unfolding taskRows
-link-fine t e = rw (verdict-none (linkRows t) e)
+  pub link-fine : {u : Verdict} → v ≡ Accepted → u ≡ rowVerdict (walkRows t) → u ≡ rowVerdict (taskRows t)
+  unfolding taskRows
+  link-fine i k = rw (verdict-none (linkRows t) (sym e ∙ i)) k
 
-pub linked : (t : Task) → rowVerdict (linkRows t) ≡ Accepted → Linked t
-linked t e = links-none t .0 (verdict-none (linkRows t) e)
+  pub linked : v ≡ Accepted → Linked t
+  linked i = links-none t .0 (verdict-none (linkRows t) (sym e ∙ i))
+
+-- a task that was read, with the verdict of its rows
+module _ {w : List ℕ} {h : Header} (k : Holds w h) (s : Shaped (taskOf w h)) {v : Verdict} (e : v ≡ rowVerdict (taskRows (taskOf w h))) where
+  pub rows-refuse : {r : Refusal} → v ≡ Refused r → Judges (withRows taskRows (task (taskOf w h))) w (judgement.Refused r) w
+  rows-refuse i = record {
+    same = ap (λ o. orTask o (taskOf w h)) (verdict-some (taskRows (taskOf w h)) (sym e ∙ i));
+    kept = kept-same tablesLength w;
+    settled = tt;
+  }
+
+  pub rows-accept : v ≡ Accepted → Judges (withRows taskRows (task (taskOf w h))) w (judgement.Task h) w
+  rows-accept i =
+      let n = verdict-none (taskRows (taskOf w h)) (sym e ∙ i) in
+      let r = rows-none (taskOf w h) .0 n in record {
+        same = ap (λ o. orTask o (taskOf w h)) n;
+        kept = kept-same tablesLength w;
+        settled = record { holds = k; formed = record { shaped = s; linked = r .0; reach = r .1; called = r .2; loads = r .3 } };
+      }
 
 -- what reading gives
-pub read-task : {r : Read} {j : Judged} {w w′ : List ℕ} {tb : Tables} → readAs r j w w′ → r ≡ read.Task tb
-    → (j ≡ task (taskOf w′ (tb .stack) (tb .funcs))) × Kept w w′ × Holds w′ tb
-read-task a e = rw e at a
-
-pub read-refused : {r : Read} {j : Judged} {w w′ : List ℕ} {q : Refusal} → readAs r j w w′ → r ≡ read.Refused q → (j ≡ refused q) × Kept w w′
+pub read-refused : {r : Read} {j : Judged} {w w′ : List ℕ} {q : Refusal} → readAs r j w w′ → r ≡ read.Refused q → (j ≡ refused q) × Kept tablesLength w w′
 read-refused a e = rw e at a
 
-pub shown : (text : List ℕ) {w : List ℕ} {tb : Tables} → readText text ≡ task (taskOf w (tb .stack) (tb .funcs)) → Holds w tb → Shown w tb
-shown text {w} {tb} e h = record { holds = h; shaped = read-shaped text (taskOf w (tb .stack) (tb .funcs)) e }
+pub read-task : {r : Read} {j : Judged} {w w′ : List ℕ} {h : Header} → readAs r j w w′ → r ≡ read.Task h
+    → (j ≡ task (taskOf w′ h)) × Kept tablesLength w w′ × Holds w′ h
+read-task a e = rw e at a
 
--- the verdict on a text
-rows-verdict : (t : Task) (a : Option Refusal) → rowVerdict a ≡ verdictOf (orTask a t)
-unfolding verdictOf
-rows-verdict t none = refl
-rows-verdict t (some r) = refl
+pub read-shape : (text : List ℕ) {t : Task} → readText text ≡ task t → Shaped t
+read-shape text {t} e = read-shaped text t e
 
-module _ (text : List ℕ) where
-  pub text-long : 32768 < length text → Refused (refuse TextTooLong 0) ≡ verdictOf (judged text)
-  unfolding judged verdictOf
-  text-long h = rw (lt-ltb 32768 (length text) h)
-
-  pub text-refused : length text ≤ 32768 → (r : Refusal) → readText text ≡ refused r → Refused r ≡ verdictOf (judged text)
-  unfolding judged verdictOf
-  text-refused h r e = rw (le-ltb 32768 (length text) h, e)
-
-  pub text-task : length text ≤ 32768 → (t : Task) → readText text ≡ task t → (v : Verdict) → v ≡ rowVerdict (taskRows t)
-      → v ≡ verdictOf (judged text)
+-- the judgement of a text
+module _ (text : List ℕ) {w : List ℕ} where
+  pub too-long : mostBytes < length text → Judges (judged text) w (judgement.Refused (refuse TextTooLong 0)) w
   unfolding judged
-  text-task h t e v i = rw (le-ltb 32768 (length text) h, e) (i ∙ rows-verdict t (taskRows t))
+  too-long h = record { same = rw (lt-ltb mostBytes (length text) h); kept = kept-same tablesLength w; settled = tt }
+
+  pub unreadable : length text ≤ mostBytes → {w′ : List ℕ} {q : Refusal} → (readText text ≡ refused q) × Kept tablesLength w w′
+      → Judges (judged text) w (judgement.Refused q) w′
+  unfolding judged
+  unreadable h r = record { same = rw (le-ltb mostBytes (length text) h, r .0); kept = r .1; settled = tt }
+
+  pub readable : length text ≤ mostBytes → {w′ : List ℕ} {h : Header}
+      → (readText text ≡ task (taskOf w′ h)) × Kept tablesLength w w′ × Holds w′ h
+      → {r : Judgement} → Judges (withRows taskRows (task (taskOf w′ h))) w′ r w′ → Judges (judged text) w r w′
+  unfolding judged
+  readable h r a = record { same = rw (le-ltb mostBytes (length text) h, r .0) (a .same); kept = r .1; settled = a .settled }

@@ -60,6 +60,6 @@ abbrev pub endingPlace : Ending → ℕ
 endingPlace ending.AllDone = 0
 endingPlace (ending.Refused r) = r .place
 
--- one number for a verdict
-abbrev pub packed : Verdict → ℕ
-packed v = verdictCode v * 65536 + verdictPlace v
+-- both in one number
+abbrev pub packed : Refusal → ℕ
+packed r = codeOf (r .row) * 65536 + r .place

@@ -44,8 +44,12 @@ checkOf text work =
     record { verdict = verdictOf (judge (workRow (length work)) noRows text); work = cleared work }
 
 -- check as C calls it: the text alone, working space of its own, one number
+abbrev pub judgedNumber : Judged → ℕ
+judgedNumber (refused r) = packed r
+judgedNumber (task t) = 0
+
 unfoldable pub checkNumber : List ℕ → ℕ
-checkNumber text = packed (verdictOf (judged text))
+checkNumber text = judgedNumber (judged text)
 
 -- a service that writes bytes of the task: its result, the working space and the output
 pub record AfterWrite : Type 0 where

@@ -16,9 +16,8 @@ use Rattle.model.specs.Text.{linesFrom, linesOf}
 use Rattle.model.specs.Task.{Func, Task, Judged, refused, task, Progress, start, between, inside, Step, stop, goes, readLine, readEnd, readFrom, readText, onward, inAll, size, count, func, point, funcLine, pointLine, offsetFits}
 use Rattle.model.specs.Walk.{called, loaded}
 use Rattle.model.specs.Figures.{reached}
-use Rattle.model.specs.Services.{verdictOf}
 use Rattle.model.specs.Limits.{mostBytes}
-use Rattle.model.specs.Rows.{refuse, verdictPlace}
+use Rattle.model.specs.Rows.{refuse}
 use Rattle.model.specs.Refusal.{judged, withRows, orTask, calleeFits, paired, targetsFit, endFits, storedBefore, isCalled, linkRow, reachRow, loadRow, callRow, firstPoint, linkRows, reachRows, callRows, taskRows}
 use Rattle.theory.proofs.Lists.{by-test, mem-upTo, mem-countFrom}
 use Rattle.model.specs.WellFormed.{Shaped}
@@ -219,23 +218,26 @@ rows-place {t} w =
     (or-some (λ r. r .place ≤ mostLine) (callRows t) _ (funcs-small w)
     (points-small w (loadRow t) (load-place t))))
 
-rows-fit : {t : Task} → Shaped t → (o : Option Refusal) → taskRows t ≡ o → verdictPlace (verdictOf (orTask o t)) ≤ mostPlace
-unfolding verdictOf
-rows-fit w none e = omega arith
+-- the place of every refused text fits 16 bits
+rows-fit : {t : Task} → Shaped t → (o : Option Refusal) → taskRows t ≡ o → Small mostPlace (orTask o t)
+unfolding Small
+rows-fit w none e = tt
 rows-fit w (some r) e = omega (arith, rows-place w r e)
 
-read-fits : (text : List ℕ) → length text ≤ mostBytes → (j : Judged) → readText text ≡ j
-    → verdictPlace (verdictOf (withRows taskRows j)) ≤ mostPlace
-unfolding verdictOf
+read-fits : (text : List ℕ) → length text ≤ mostBytes → (j : Judged) → readText text ≡ j → Small mostPlace (withRows taskRows j)
+unfolding Small
 read-fits text h (refused r) e = omega (arith, read-place text r e)
 read-fits text h (task t) e = rows-fit (read-shaped text t e) (taskRows t) refl
 
--- the place of every verdict on a text fits 16 bits
-pub judged-place : (text : List ℕ) → verdictPlace (verdictOf (judged text)) ≤ mostPlace
-unfolding judged verdictOf
-judged-place text =
+judged-fits : (text : List ℕ) → Small mostPlace (judged text)
+unfolding judged Small
+judged-fits text =
     by-test
-    (λ (j : Judged). verdictPlace (verdictOf j) ≤ mostPlace)
+    (Small mostPlace)
     (ltb mostBytes (length text))
     (λ k. omega arith)
     (λ k. read-fits text (nltb→le mostBytes (length text) k) (readText text) refl)
+
+pub judged-place : (text : List ℕ) (r : Refusal) → judged text ≡ refused r → r .place ≤ mostPlace
+unfolding Small
+judged-place text r e = rw e at (judged-fits text)

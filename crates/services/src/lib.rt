@@ -1,20 +1,24 @@
-// The services over a task text. Each judges what it was lent and refuses; none has a requires.
+// The services over a task text. Each judges what it was lent and refuses; none has a requires. Each goes the same way: 15, the judgement of the
+// text, its own rows, its own work, and the working space cleared.
 ghost use mathlib.Core.Path.{_≡_};
 ghost use mathlib.Core.List.{_++_};
 ghost use Prim.Native.Nat.{_≤_};
 ghost use lib.ListN.{length, drop, replicate};
+ghost use Rattle.model.specs.Limits.{workLength};
 ghost use Rattle.model.specs.Services.{checkOf};
+use judge::Judgement;
+use model::Limits;
 use model::Refusal;
 use model::Row;
 use model::Verdict;
 
-// The first 16,384 numbers become 0.
+// The working numbers of a service become 0.
 fn clear(work: &mut [u32])
-    requires { ⌜ 16384 ≤ length (now work) ⌝ }
-    ensures { λ r. ⌜ now (work .exit) ≡ replicate 16384 0 ++ drop 16384 (now (work .entry)) ⌝ }
+    requires { ⌜ workLength ≤ length (now work) ⌝ }
+    ensures { λ r. ⌜ now (work .exit) ≡ replicate workLength 0 ++ drop workLength (now (work .entry)) ⌝ }
 {
     let mut i: usize = 0;
-    while i < 16384 {
+    while i < Limits::WORK {
         work[i] = 0;
         i += 1;
     }
@@ -27,13 +31,16 @@ pub fn check(text: &[u8], work: &mut [u32]) -> Verdict
     ensures verdict { λ r. ⌜ r ≡ checkOf (now (text .entry)) (now (work .entry)) .verdict ⌝ }
     ensures work { λ r. ⌜ now (work .exit) ≡ checkOf (now (text .entry)) (now (work .entry)) .work ⌝ }
 {
-    if work.len() < 16384 {
+    if work.len() < Limits::WORK {
         return Verdict::Refused(Refusal {
             row: Row::WorkTooSmall,
-            place: 16384,
+            place: Limits::WORK as u32,
         });
     }
-    let verdict = judge::judge_text(text, work);
+    let judgement = judge::judge_text(text, work);
     clear(work);
-    verdict
+    match judgement {
+        Judgement::Task(_) => Verdict::Accepted,
+        Judgement::Refused(r) => Verdict::Refused(r),
+    }
 }

@@ -4,16 +4,17 @@ use mathlib.Core.Path.{_≡_, refl}
 use mathlib.Core.List.{_++_}
 use native.Mathlib.Omega.{arith}
 use borrow.Author.Fill.{fill-more}
+use Rattle.model.specs.Limits.{workLength}
 use lib.ListN.{length, drop, replicate, length-set}
-use Rattle.kit.proofs.clear.Statement.{statement}
-use Rattle.kit.proofs.clear.Tie as tie
+use Rattle.services.proofs.clear.Statement.{statement}
+use Rattle.services.proofs.clear.Tie as tie
 
 abbrev Inv-loop : tie.InvT-loop
 Inv-loop work₀ i₀ work i =
-    (i ≤ 16384) × (16384 ≤ length work₀) × (length work ≡ length work₀) × (work ≡ replicate i 0 ++ drop i work₀)
+    (i ≤ workLength) × (workLength ≤ length work₀) × (length work ≡ length work₀) × (work ≡ replicate i 0 ++ drop i work₀)
 
 abbrev μ-loop : tie.MeasureT-loop
-μ-loop work₀ i₀ work i = 16384 - i
+μ-loop work₀ i₀ work i = workLength - i
 
 loop-holds : tie.Need-loop-holds Inv-loop μ-loop
 loop-holds c = (omega arith, omega arith, refl, refl)
@@ -46,7 +47,7 @@ same-length c = c .before .loop .inv .2
 
 returns : tie.Need-returns Inv-loop μ-loop
 returns c =
-    let e : c .before .loop .i ≡ 16384 = omega arith in
+    let e : c .before .loop .i ≡ workLength = omega arith in
     rw e at (c .before .loop .inv .3)
 
 pub clear-spec : {M : Type 1} → statement M
