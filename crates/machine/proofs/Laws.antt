@@ -1,20 +1,19 @@
--- What the loops that move numbers do in one turn, the frame area as a part of the memory, and what each move keeps.
+-- What the loops that move numbers do in one turn, the frame area as a part of the memory, and what the moves return.
 use Prim.Native.Nat.{ℕ, zero, suc, _+_, _-_, _%_, _≤_, _<_}
-use mathlib.Core.List.{List, [], _∷_, _++_, append-nil}
+use mathlib.Core.List.{List, _++_, append-nil}
 use mathlib.Core.Path.{_≡_, refl, ap, sym, _∙_}
-use native.Mathlib.Nat.{mod-lt, mod-add-mod, mod-eq-of-lt, mod-eq-sub-mod, add-assoc, add-zero}
+use native.Mathlib.Nat.{mod-add-mod, mod-eq-of-lt, mod-eq-sub-mod, add-assoc, add-zero}
 use native.Mathlib.Numerals.{add-one}
 use native.Mathlib.Omega.{arith}
-use lib.ListN.{length, getD, set, take, drop, length-set, length-drop, take-append-drop, replicate, length-replicate}
+use lib.ListN.{length, getD, set, take, drop, length-drop, take-append-drop, replicate, length-replicate}
 use lib.Seq.{take-all, drop-length, take-set-le, drop-set-add}
 use borrow.Rule.Slice.PartMut.{midOf, putMid}
 use Rattle.model.specs.Core as core
-use Rattle.model.specs.Core.{Core, spilled, filled, reserved, reserveMoves, freed, ensuredTo, ensureMoves, savedFrom, saveMoves, resumed, resumeMoves, reserve, free, ensure, load, store, save, withCache, resume, preempt, filledWith, idle}
-use Rattle.theory.proofs.Blocks.{length-spilled, length-filled}
+use Rattle.model.specs.Core.{Core, spilled, filled, reserved, resumeMoves, reserve, save, withCache, filledWith, resume}
 use Rattle.machine.specs.declared.Machine.{Machine}
 use Rattle.machine.specs.declared.Moved.{Moved}
-use Rattle.machine.specs.declared.Preempted.{Preempted}
 use Rattle.machine.specs.Moves.{coreOf, Good, Does, Preempts, Entered, spilledArea}
+use Rattle.machine.proofs.Kept.{start-memory, save-good, between-good}
 
 -- ---- blocks
 
@@ -62,7 +61,9 @@ filled-more memory cache₀ cache a i b e g = rw (add-one, e, g)
 
 module _ (cache memory : List ℕ) (st top from : ℕ) (e : top ≡ st % length cache) where
   same-block : (k : ℕ) → (top + from + k) % length cache ≡ (st + from + k) % length cache
-  same-block k = rw (add-assoc top from k, add-assoc st from k) (ap (λ (y : ℕ). (y + (from + k)) % length cache) e ∙ mod-add-mod st (length cache) (from + k))
+  same-block k =
+      rw (add-assoc top from k, add-assoc st from k)
+      (ap (λ (y : ℕ). (y + (from + k)) % length cache) e ∙ mod-add-mod st (length cache) (from + k))
 
   -- the area after a spill is the part from ST up of the memory after it, and the part below ST stays
   area-after : (k : ℕ) → spilledArea cache (drop st memory) top from k ≡ drop st (spilled cache memory (st + from) k)
@@ -106,11 +107,7 @@ does r cache memory to a b c d e =
       blocks = e;
     }
 
--- entering function 0 moves nothing
-pub enters-none : (cache memory : List ℕ) (a k : ℕ) → k ≡ 0 → memory ≡ spilled cache memory a k
-unfolding spilled
-enters-none cache memory a k e = rw e refl
-
+-- a fresh machine, whose entry moves nothing
 pub entered : (m : Machine) (stack frame numbers : ℕ) → frame ≤ stack → m .st ≡ numbers - frame → m .occupancy ≡ reserved stack frame 0
     → Entered stack frame numbers m
 unfolding reserve
@@ -120,64 +117,26 @@ entered m stack frame numbers h a b cache memory e g =
       st = (a ∙ ap (λ (n : ℕ). n - frame) (sym g)) i;
       occupancy = (b ∙ ap (λ (s : ℕ). reserved s frame 0) (sym e)) i;
       cache = cache;
-      memory = enters-none cache memory (length memory - frame + length cache) (reserveMoves (length cache) frame 0) (omega arith) i;
+      memory = sym (start-memory cache memory frame (omega arith)) i;
     }
 
-pub all-filled : (cache₀ cache : List ℕ) (v i : ℕ) → cache ≡ replicate i v ++ drop i cache₀ → i ≡ length cache₀ → cache ≡ replicate (length cache₀) v
+-- a cache filled to its end
+pub all-filled : (cache₀ cache : List ℕ) (v i : ℕ) → cache ≡ replicate i v ++ drop i cache₀ → i ≡ length cache₀
+    → cache ≡ replicate (length cache₀) v
 all-filled cache₀ cache v i e g = e ∙ rw (g, drop-length) (append-nil (replicate (length cache₀) v))
-
--- ---- what each move keeps
-
-module _ (c : Core) (g : Good c) where
-  pub reserve-good : (k : ℕ) → k ≤ c .st → Good (reserve k c .core)
-  unfolding reserve
-  reserve-good k h =
-      let l : length (reserve k c .core .memory) ≡ length (c .memory) = length-spilled _ _ _ _ in
-      record { nonempty = g .nonempty; fits = omega arith; inside = omega (arith, l) }
-
-  pub free-good : (k : ℕ) → c .st + k ≤ length (c .memory) → Good (free k c)
-  unfolding free
-  free-good k h = record { nonempty = g .nonempty; fits = omega arith; inside = omega arith }
-
-  pub ensure-good : (k : ℕ) → k ≤ length (c .cache) → c .st + k ≤ length (c .memory) → Good (ensure k c .core)
-  unfolding ensure
-  ensure-good k h m =
-      let l : length (ensure k c .core .cache) ≡ length (c .cache) = length-filled _ _ _ _ in
-      record { nonempty = omega (arith, l); fits = omega (arith, l); inside = omega arith }
-
-  pub store-good : (o v : ℕ) → Good (store o v c)
-  unfolding store
-  store-good o v =
-      let l : length (store o v c .cache) ≡ length (c .cache) = simp length-set in
-      record { nonempty = omega (arith, l); fits = omega (arith, l); inside = g .inside }
-
-  pub save-good : (dead : ℕ) → Good (save dead c .core)
-  unfolding save
-  save-good dead =
-      let l : length (save dead c .core .memory) ≡ length (c .memory) = length-spilled _ _ _ _ in
-      record { nonempty = g .nonempty; fits = g .fits; inside = omega (arith, l) }
-
-  pub between-good : (cache : List ℕ) → length cache ≡ length (c .cache) → Good (withCache cache c)
-  between-good cache e = record { nonempty = omega arith; fits = omega arith; inside = g .inside }
-
-  pub resume-good : (dead need : ℕ) → Good (resume dead need c .core)
-  unfolding resume
-  resume-good dead need =
-      let l : length (resume dead need c .core .cache) ≡ length (c .cache) = length-filled _ _ _ _ in
-      record { nonempty = omega (arith, l); fits = omega (arith, l); inside = omega arith }
-
-pub idle-good : (cache memory : List ℕ) → 0 < length cache → Good (idle cache memory)
-idle-good cache memory h = record { nonempty = h; fits = omega arith; inside = omega arith }
 
 -- ---- both halves of a preemption
 
 module _ (c : Core) (dead : ℕ) (r : Moved) (cache memory : List ℕ) (v : ℕ) where
-  between : Does r (c .cache) memory (save dead c) → cache ≡ filledWith v c → coreOf (r .machine) cache memory ≡ withCache (filledWith v c) (save dead c .core)
+  between : Does r (c .cache) memory (save dead c) → cache ≡ filledWith v c
+      → coreOf (r .machine) cache memory ≡ withCache (filledWith v c) (save dead c .core)
   between d e = λ i. withCache (e i) (d .core i)
 
   pub between-halves : Good c → Does r (c .cache) memory (save dead c) → cache ≡ filledWith v c → Good (coreOf (r .machine) cache memory)
   unfolding save
-  between-halves g d e = rw (between d e) (between-good (save dead c .core) (save-good c g dead) (filledWith v c) (length-replicate {A = ℕ} (length (c .cache)) v))
+  between-halves g d e =
+      rw (between d e)
+      (between-good (save dead c .core) (save-good c g dead) (filledWith v c) (length-replicate {A = ℕ} (length (c .cache)) v))
 
   pub both-halves : (need : ℕ) (r′ : Moved) (cache′ : List ℕ) → Does r (c .cache) memory (save dead c) → cache ≡ filledWith v c
       → Does r′ cache′ memory (resume dead need (coreOf (r .machine) cache memory))

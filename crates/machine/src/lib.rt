@@ -1,10 +1,11 @@
 // The core with a stack cache: what each move does to ST, the occupancy, the cache and the memory, and how many blocks it moves.
 ghost use mathlib.Core.Path.{_≡_};
 ghost use mathlib.Core.List.{List};
-ghost use Prim.Native.Nat.{ℕ, _+_, _%_, _<_, _≤_, max};
+ghost use Prim.Native.Nat.{ℕ, _+_, _%_, _-_, _<_, _≤_, min, max};
 ghost use lib.ListN.{length, replicate};
 ghost use Rattle.model.specs.Core as core;
 ghost use Rattle.machine.specs.Moves.{coreOf, mostAddress, Good, Does, Preempts, Entered, spilledArea};
+use model::Limits;
 
 // Where the stack stands: the stack top ST, and how many blocks from ST up are cached.
 pub struct Machine {
@@ -27,52 +28,67 @@ pub struct Preempted {
 
 // ---- the rules on numbers: s blocks in the cache, n of them occupied
 
+fn lesser(a: usize, b: usize) -> usize
+    ensures { λ r. ⌜ r ≡ min a b ⌝ }
+{
+    if a < b { a } else { b }
+}
+
+fn greater(a: usize, b: usize) -> usize
+    ensures { λ r. ⌜ r ≡ max a b ⌝ }
+{
+    if a < b { b } else { a }
+}
+
+// How far a lies above b, 0 where it does not.
+fn excess(a: usize, b: usize) -> usize
+    ensures { λ r. ⌜ r ≡ a - b ⌝ }
+{
+    if b < a { a - b } else { 0 }
+}
+
 fn reserved(s: usize, k: usize, n: usize) -> usize
     requires { ⌜ n ≤ s ⌝ }
     ensures { λ r. ⌜ r ≡ core.reserved s k n ⌝ }
 {
-    if k < s - n { n + k } else { s }
+    n + lesser(k, s - n)
 }
 
 fn reserve_moves(s: usize, k: usize, n: usize) -> usize
     requires { ⌜ n ≤ s ⌝ }
     ensures { λ r. ⌜ r ≡ core.reserveMoves s k n ⌝ }
 {
-    if s - n < k { k - (s - n) } else { 0 }
+    excess(k, s - n)
 }
 
 fn freed(k: usize, n: usize) -> usize
     ensures { λ r. ⌜ r ≡ core.freed k n ⌝ }
 {
-    if k < n { n - k } else { 0 }
+    excess(n, k)
 }
 
 fn ensured_to(k: usize, n: usize) -> usize
     ensures { λ r. ⌜ r ≡ core.ensuredTo k n ⌝ }
 {
-    if n < k { k } else { n }
+    greater(n, k)
 }
 
 fn ensure_moves(k: usize, n: usize) -> usize
     ensures { λ r. ⌜ r ≡ core.ensureMoves k n ⌝ }
 {
-    if n < k { k - n } else { 0 }
+    excess(k, n)
 }
 
 fn saved_from(dead: usize, n: usize) -> usize
     ensures { λ r. ⌜ r ≡ core.savedFrom dead n ⌝ }
 {
-    if dead < n { dead } else { n }
+    lesser(n, dead)
 }
 
 fn resumed(dead: usize, need: usize, n: usize) -> usize
     ensures { λ r. ⌜ r ≡ core.resumed dead need n ⌝ }
 {
-    if dead < need {
-        saved_from(need, n)
-    } else {
-        saved_from(dead, n)
-    }
+    lesser(n, greater(dead, need))
 }
 
 fn save_moves(dead: usize, n: usize) -> usize
@@ -158,7 +174,7 @@ pub fn overwrite(cache: &mut [u32], v: u32)
 
 impl Machine {
     // Blocks of a cache.
-    pub const MOST_BLOCKS: usize = 64;
+    pub const MOST_BLOCKS: usize = Limits::STACK as usize;
 
     // The state after function 0 with this frame has been entered on a memory of this length, with nothing cached before. Nothing moves.
     pub fn fresh(stack: u32, frame: u32, length: usize) -> Machine

@@ -10,7 +10,8 @@ resume-requires c κs =
     let o = c .before .before .before .before .before in
     let s = o .before .before .before .before in
     let p = s .before .before .before .before .before in
-    between-halves (coreOf (p .args .self) (p .args .cache .now) (p .args .memory .now)) _ _ _ _ (p .args .v) (p .pre) (s .save .ensures) (o .overwrite .ensures)
+    between-halves (coreOf (p .args .self) (p .args .cache .now) (p .args .memory .now)) _ _ _ _ (p .args .v)
+    (p .pre) (s .save .ensures) (o .overwrite .ensures)
 
 returns : tie.Need-returns
 returns c =
@@ -18,7 +19,8 @@ returns c =
     let o = b .before .before .before .before .before .before in
     let s = o .before .before .before .before in
     let a = s .before .before .before .before .before .args in
-    both-halves (coreOf (a .self) (a .cache .now) (a .memory .now)) (a .dead) _ _ _ (a .v) (a .need) _ _ (s .save .ensures) (o .overwrite .ensures) (b .resume .ensures)
+    both-halves (coreOf (a .self) (a .cache .now) (a .memory .now)) (a .dead) _ _ _ (a .v) (a .need) _ _
+    (s .save .ensures) (o .overwrite .ensures) (b .resume .ensures)
 
 pub preempt-spec : {M : Type 1} → statement M
 preempt-spec =

@@ -14,7 +14,8 @@ returns c =
     let q = p .before .before .before in
     let a = q .before .before .before .before .before .args in
     does _ _ _ _ refl (q .reserved .ensures) refl
-    (area-back (a .cache .now) (a .memory .now) _ _ _ (p .before .block-of .ensures .0) _ _ _ _ refl (q .before .reserve-moves .ensures) (p .spill .ensures))
+    (area-back (a .cache .now) (a .memory .now) _ _ _ (p .before .block-of .ensures .0) _ _ _ _
+    refl (q .before .reserve-moves .ensures) (p .spill .ensures))
     (q .before .reserve-moves .ensures)
 
 pub reserve-spec : {M : Type 1} → statement M

@@ -14,7 +14,8 @@ returns c =
     let q = p .before .before .before in
     let a = q .before .before .before .before .args in
     does _ _ _ _ refl refl refl
-    (area-back (a .cache .now) (a .memory .now) _ _ _ (p .before .block-of .ensures .0) _ _ _ _ (q .before .saved-from .ensures) (q .save-moves .ensures) (p .spill .ensures))
+    (area-back (a .cache .now) (a .memory .now) _ _ _ (p .before .block-of .ensures .0) _ _ _ _
+    (q .before .saved-from .ensures) (q .save-moves .ensures) (p .spill .ensures))
     (q .save-moves .ensures)
 
 pub save-spec : {M : Type 1} → statement M
