@@ -21,21 +21,18 @@ use Rattle.machine.proofs.Kept.{start-memory, save-good, between-good}
 pub wrap-none : (s b o : ℕ) → b + o < s → (b + o ≡ (b + o) % s) × (b + o < s)
 wrap-none s b o h = (sym (mod-eq-of-lt h), h)
 
-pub wrap-once : (s b o : ℕ) → b < s → o ≤ s → s ≤ b + o → (o - (s - b) ≡ (b + o) % s) × (o - (s - b) < s)
+pub wrap-once : (s b o : ℕ) → b < s → o ≤ s → s ≤ b + o → (b - (s - o) ≡ (b + o) % s) × (b - (s - o) < s)
 wrap-once s b o h k l =
-    let e : o - (s - b) ≡ b + o - s = omega arith in
+    let e : b - (s - o) ≡ b + o - s = omega arith in
     (e ∙ sym (mod-eq-sub-mod l ∙ mod-eq-of-lt (omega arith)), omega arith)
-
--- o blocks after the block of x
-pub block-on : (s x b o r : ℕ) → b ≡ x % s → r ≡ (b + o) % s → r ≡ (x + o) % s
-block-on s x b o r e g = g ∙ ap (λ (y : ℕ). (y + o) % s) e ∙ mod-add-mod x s o
 
 -- the first block of a loop, and the next one where it has passed i
 pub block-first : (s x r : ℕ) → r ≡ x % s → r ≡ (x + 0) % s
 block-first s x r e = e ∙ ap (λ (y : ℕ). y % s) (sym (add-zero x))
 
 pub block-next : (s x b i r : ℕ) → b ≡ (x + i) % s → r ≡ (b + 1) % s → r ≡ (x + (i + 1)) % s
-block-next s x b i r e g = block-on s (x + i) b 1 r e g ∙ ap (λ (y : ℕ). y % s) (add-assoc x i 1)
+block-next s x b i r e g =
+    g ∙ ap (λ (y : ℕ). (y + 1) % s) e ∙ mod-add-mod (x + i) s 1 ∙ ap (λ (y : ℕ). y % s) (add-assoc x i 1)
 
 -- ---- one turn of each loop
 

@@ -118,15 +118,7 @@ fn block_after(s: usize, b: usize, o: usize) -> usize
     requires { ⌜ (b < s) × (o ≤ s) ⌝ }
     ensures { λ r. ⌜ (r ≡ (b + o) % s) × (r < s) ⌝ }
 {
-    if o < s - b { b + o } else { o - (s - b) }
-}
-
-// The block of offset o above ST.
-fn offset_block(s: usize, st: usize, o: usize) -> usize
-    requires { ⌜ o < s ⌝ }
-    ensures { λ r. ⌜ (r ≡ (st + o) % s) × (r < s) ⌝ }
-{
-    block_after(s, block_of(s, st), o)
+    if b < s - o { b + o } else { b - (s - o) }
 }
 
 // The numbers of count offsets from `from` up go to the frame area, which begins at ST. ST has block top.
@@ -237,19 +229,20 @@ impl Machine {
 
     // The number at offset o.
     pub fn load(self, cache: &[u32], o: u32) -> u32
-        requires { ⌜ o < length (now cache) ⌝ }
+        requires { ⌜ (0 < length (now cache)) × (self .st + o ≤ mostAddress) ⌝ }
         ensures { λ r. ⌜ ((memory : List ℕ) → r ≡ core.load o (coreOf self (now (cache .entry)) memory)) ⌝ }
     {
-        let block = offset_block(cache.len(), self.st, o as usize);
+        let block = block_of(cache.len(), self.st + o as usize);
         cache[block]
     }
 
     pub fn store(self, cache: &mut [u32], o: u32, v: u32)
-        requires { ⌜ o < length (now cache) ⌝ }
+        requires { ⌜ (0 < length (now cache)) × (self .st + o ≤ mostAddress) ⌝ }
         ensures { λ r. ⌜ ((memory : List ℕ) → coreOf self (now (cache .exit)) memory ≡ core.store o v (coreOf self (now (cache .entry)) memory)) ⌝ }
     {
         let s = cache.len();
-        let block = offset_block(s, self.st, o as usize);
+        let a = self.st + o as usize;
+        let block = block_of(s, a);
         cache[block] = v;
     }
 

@@ -8,7 +8,9 @@ use Rattle.machine.proofs.Machine.load.Tie as tie
 
 returns : tie.Need-returns
 unfolding load
-returns c memory = let a = c .before .before .before .args in ap (λ b. getD (a .cache .now) b 0) (c .before .offset-block .ensures .0)
+returns c memory = ap (λ b. getD (c .before .before .before .before .args .cache .now) b 0) (c .before .block-of .ensures .0)
 
 pub load-spec : {M : Type 1} → statement M
-load-spec = tie.close (tie.spec (λ c κs. search needs) (λ c. search needs) (λ c. search needs) returns)
+load-spec =
+    tie.close
+    (tie.spec (λ c. search needs) (λ c κs. search needs) (λ c. search needs) (λ c. search needs) returns)
