@@ -1,0 +1,147 @@
+-- What the loops that move numbers do in one turn, the frame area as a part of the memory, and what the moves return.
+use Prim.Native.Nat.{ℕ, zero, suc, _+_, _-_, _%_, _≤_, _<_}
+use mathlib.Core.List.{List, _++_, append-nil}
+use mathlib.Core.Path.{_≡_, refl, ap, sym, _∙_}
+use native.Mathlib.Nat.{mod-add-mod, mod-eq-of-lt, mod-eq-sub-mod, add-assoc, add-zero}
+use native.Mathlib.Numerals.{add-one}
+use native.Mathlib.Omega.{arith}
+use lib.ListN.{length, getD, set, take, drop, length-drop, take-append-drop, replicate, length-replicate}
+use lib.Seq.{take-all, drop-length, take-set-le, drop-set-add}
+use borrow.Rule.Slice.PartMut.{midOf, putMid}
+use Rattle.model.specs.Core as core
+use Rattle.model.specs.Core.{Core, spilled, filled, reserved, resumeMoves, reserve, save, withCache, filledWith, resume}
+use Rattle.machine.specs.declared.Machine.{Machine}
+use Rattle.machine.specs.declared.Moved.{Moved}
+use Rattle.machine.specs.Moves.{coreOf, Good, Does, Preempts, Entered, spilledArea}
+use Rattle.machine.proofs.Kept.{start-memory, save-good, between-good}
+
+-- ---- blocks
+
+-- a block and an offset, whose sum wraps at most once
+pub wrap-none : (s b o : ℕ) → b + o < s → (b + o ≡ (b + o) % s) × (b + o < s)
+wrap-none s b o h = (sym (mod-eq-of-lt h), h)
+
+pub wrap-once : (s b o : ℕ) → b < s → o ≤ s → s ≤ b + o → (b - (s - o) ≡ (b + o) % s) × (b - (s - o) < s)
+wrap-once s b o h k l =
+    let e : b - (s - o) ≡ b + o - s = omega arith in
+    (e ∙ sym (mod-eq-sub-mod l ∙ mod-eq-of-lt (omega arith)), omega arith)
+
+-- the first block of a loop, and the next one where it has passed i
+pub block-first : (s x r : ℕ) → r ≡ x % s → r ≡ (x + 0) % s
+block-first s x r e = e ∙ ap (λ (y : ℕ). y % s) (sym (add-zero x))
+
+pub block-next : (s x b i r : ℕ) → b ≡ (x + i) % s → r ≡ (b + 1) % s → r ≡ (x + (i + 1)) % s
+block-next s x b i r e g =
+    g ∙ ap (λ (y : ℕ). (y + 1) % s) e ∙ mod-add-mod (x + i) s 1 ∙ ap (λ (y : ℕ). y % s) (add-assoc x i 1)
+
+-- ---- one turn of each loop
+
+pub area-none : (cache area : List ℕ) (top from : ℕ) → area ≡ spilledArea cache area top from 0
+unfolding spilledArea
+area-none cache area top from = refl
+
+pub area-more : (cache area₀ area : List ℕ) (top from i b : ℕ) → area ≡ spilledArea cache area₀ top from i → b ≡ (top + from + i) % length cache
+    → set area (from + i) (getD cache b 0) ≡ spilledArea cache area₀ top from (i + 1)
+unfolding spilledArea
+area-more cache area₀ area top from i b e g = rw (add-one, e, g)
+
+pub filled-none : (memory cache : List ℕ) (a : ℕ) → cache ≡ filled memory cache a 0
+unfolding filled
+filled-none memory cache a = refl
+
+pub filled-more : (memory cache₀ cache : List ℕ) (a i b : ℕ) → cache ≡ filled memory cache₀ a i → b ≡ (a + i) % length cache₀
+    → set cache b (getD memory (a + i) 0) ≡ filled memory cache₀ a (i + 1)
+unfolding filled
+filled-more memory cache₀ cache a i b e g = rw (add-one, e, g)
+
+-- ---- the frame area is the memory from ST up
+
+module _ (cache memory : List ℕ) (st top from : ℕ) (e : top ≡ st % length cache) where
+  same-block : (k : ℕ) → (top + from + k) % length cache ≡ (st + from + k) % length cache
+  same-block k =
+      rw (add-assoc top from k, add-assoc st from k)
+      (ap (λ (y : ℕ). (y + (from + k)) % length cache) e ∙ mod-add-mod st (length cache) (from + k))
+
+  -- the area after a spill is the part from ST up of the memory after it, and the part below ST stays
+  area-after : (k : ℕ) → spilledArea cache (drop st memory) top from k ≡ drop st (spilled cache memory (st + from) k)
+  unfolding spilledArea spilled
+  area-after zero = refl
+  area-after (suc k) =
+      rw (area-after k, same-block k, add-assoc st from k)
+      (sym (drop-set-add st (spilled cache memory (st + from) k) (from + k) (getD cache ((st + (from + k)) % length cache) 0)))
+
+  below-area : (k : ℕ) → take st (spilled cache memory (st + from) k) ≡ take st memory
+  unfolding spilled
+  below-area zero = refl
+  below-area (suc k) = take-set-le st (spilled cache memory (st + from) k) (st + from + k) _ (omega arith) ∙ below-area k
+
+  -- the whole memory when the area is back, with the offset and the count by what they are
+  pub area-back : (k from′ k′ : ℕ) (area : List ℕ) → from ≡ from′ → k ≡ k′
+      → area ≡ spilledArea cache (midOf st (length memory - st) memory) top from k
+      → putMid st (length memory - st) memory area ≡ spilled cache memory (st + from′) k′
+  area-back k from′ k′ area f g h =
+      let l : length memory - st ≡ length (drop st memory) = sym (length-drop st memory) in
+      let m : midOf st (length memory - st) memory ≡ drop st memory = take-all (length memory - st) (drop st memory) (omega (arith, l)) in
+      ap (λ (n : ℕ). take st memory ++ (area ++ drop n (drop st memory))) l
+      ∙ ap (λ (r : List ℕ). take st memory ++ (area ++ r)) (drop-length (drop st memory))
+      ∙ ap (λ (r : List ℕ). take st memory ++ r) (append-nil area ∙ h ∙ ap (λ (r : List ℕ). spilledArea cache r top from k) m ∙ area-after k)
+      ∙ ap (λ (r : List ℕ). r ++ drop st (spilled cache memory (st + from) k)) (sym (below-area k))
+      ∙ take-append-drop st (spilled cache memory (st + from) k)
+      ∙ (λ i. spilled cache memory (st + f i) (g i))
+
+-- the cache after a fill, with the offset and the count by what they are
+pub fill-back : (memory cache₀ cache : List ℕ) (st from k from′ k′ : ℕ) → from ≡ from′ → k ≡ k′
+    → cache ≡ filled memory cache₀ (st + from) k → cache ≡ filled memory cache₀ (st + from′) k′
+fill-back memory cache₀ cache st from k from′ k′ f g h = h ∙ (λ i. filled memory cache₀ (st + f i) (g i))
+
+-- ---- what a move returns
+
+pub does : (r : Moved) (cache memory : List ℕ) (to : core.Moved) → r .machine .st ≡ to .core .st → r .machine .occupancy ≡ to .core .occupancy
+    → cache ≡ to .core .cache → memory ≡ to .core .memory → r .blocks ≡ to .blocks → Does r cache memory to
+does r cache memory to a b c d e =
+    record {
+      core = λ i. record { st = a i; occupancy = b i; cache = c i; memory = d i };
+      blocks = e;
+    }
+
+-- a fresh machine, whose entry moves nothing
+pub entered : (m : Machine) (stack frame numbers : ℕ) → frame ≤ stack → m .st ≡ numbers - frame → m .occupancy ≡ reserved stack frame 0
+    → Entered stack frame numbers m
+unfolding reserve
+entered m stack frame numbers h a b cache memory e g =
+    λ i.
+    record {
+      st = (a ∙ ap (λ (n : ℕ). n - frame) (sym g)) i;
+      occupancy = (b ∙ ap (λ (s : ℕ). reserved s frame 0) (sym e)) i;
+      cache = cache;
+      memory = sym (start-memory cache memory frame (omega arith)) i;
+    }
+
+-- a cache filled to its end
+pub all-filled : (cache₀ cache : List ℕ) (v i : ℕ) → cache ≡ replicate i v ++ drop i cache₀ → i ≡ length cache₀
+    → cache ≡ replicate (length cache₀) v
+all-filled cache₀ cache v i e g = e ∙ rw (g, drop-length) (append-nil (replicate (length cache₀) v))
+
+-- ---- both halves of a preemption
+
+module _ (c : Core) (dead : ℕ) (r : Moved) (cache memory : List ℕ) (v : ℕ) where
+  between : Does r (c .cache) memory (save dead c) → cache ≡ filledWith v c
+      → coreOf (r .machine) cache memory ≡ withCache (filledWith v c) (save dead c .core)
+  between d e = λ i. withCache (e i) (d .core i)
+
+  pub between-halves : Good c → Does r (c .cache) memory (save dead c) → cache ≡ filledWith v c → Good (coreOf (r .machine) cache memory)
+  unfolding save
+  between-halves g d e =
+      rw (between d e)
+      (between-good (save dead c .core) (save-good c g dead) (filledWith v c) (length-replicate {A = ℕ} (length (c .cache)) v))
+
+  pub both-halves : (need : ℕ) (r′ : Moved) (cache′ : List ℕ) → Does r (c .cache) memory (save dead c) → cache ≡ filledWith v c
+      → Does r′ cache′ memory (resume dead need (coreOf (r .machine) cache memory))
+      → Preempts (record { machine = r′ .machine; out = r .blocks; back = r′ .blocks }) cache′ memory dead need v c
+  unfolding save resume
+  both-halves need r′ cache′ d e d′ =
+      record {
+        core = d′ .core ∙ ap (λ (x : Core). resume dead need x .core) (between d e);
+        out = d .blocks;
+        back = d′ .blocks ∙ ap (λ (x : Core). resumeMoves dead need (x .occupancy)) (between d e);
+      }

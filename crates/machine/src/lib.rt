@@ -1,0 +1,305 @@
+// The core with a stack cache: what each move does to ST, the occupancy, the cache and the memory, and how many blocks it moves.
+ghost use mathlib.Core.Path.{_≡_};
+ghost use mathlib.Core.List.{List};
+ghost use Prim.Native.Nat.{ℕ, _+_, _%_, _-_, _<_, _≤_, min, max};
+ghost use lib.ListN.{length, replicate};
+ghost use Rattle.model.specs.Core as core;
+ghost use Rattle.machine.specs.Moves.{coreOf, mostAddress, Good, Does, Preempts, Entered, spilledArea};
+use model::Limits;
+
+// Where the stack stands: the stack top ST, and how many blocks from ST up are cached.
+pub struct Machine {
+    pub st: usize,
+    pub occupancy: usize,
+}
+
+// A machine after a move, and how many blocks moved.
+pub struct Moved {
+    pub machine: Machine,
+    pub blocks: usize,
+}
+
+// A machine after a preemption, and how many blocks went out and came back.
+pub struct Preempted {
+    pub machine: Machine,
+    pub out: usize,
+    pub back: usize,
+}
+
+// ---- the rules on numbers: s blocks in the cache, n of them occupied
+
+fn lesser(a: usize, b: usize) -> usize
+    ensures { λ r. ⌜ r ≡ min a b ⌝ }
+{
+    if a < b { a } else { b }
+}
+
+fn greater(a: usize, b: usize) -> usize
+    ensures { λ r. ⌜ r ≡ max a b ⌝ }
+{
+    if a < b { b } else { a }
+}
+
+// How far a lies above b, 0 where it does not.
+fn excess(a: usize, b: usize) -> usize
+    ensures { λ r. ⌜ r ≡ a - b ⌝ }
+{
+    if b < a { a - b } else { 0 }
+}
+
+fn reserved(s: usize, k: usize, n: usize) -> usize
+    requires { ⌜ n ≤ s ⌝ }
+    ensures { λ r. ⌜ r ≡ core.reserved s k n ⌝ }
+{
+    n + lesser(k, s - n)
+}
+
+fn reserve_moves(s: usize, k: usize, n: usize) -> usize
+    requires { ⌜ n ≤ s ⌝ }
+    ensures { λ r. ⌜ r ≡ core.reserveMoves s k n ⌝ }
+{
+    excess(k, s - n)
+}
+
+fn freed(k: usize, n: usize) -> usize
+    ensures { λ r. ⌜ r ≡ core.freed k n ⌝ }
+{
+    excess(n, k)
+}
+
+fn ensured_to(k: usize, n: usize) -> usize
+    ensures { λ r. ⌜ r ≡ core.ensuredTo k n ⌝ }
+{
+    greater(n, k)
+}
+
+fn ensure_moves(k: usize, n: usize) -> usize
+    ensures { λ r. ⌜ r ≡ core.ensureMoves k n ⌝ }
+{
+    excess(k, n)
+}
+
+fn saved_from(dead: usize, n: usize) -> usize
+    ensures { λ r. ⌜ r ≡ core.savedFrom dead n ⌝ }
+{
+    lesser(n, dead)
+}
+
+fn resumed(dead: usize, need: usize, n: usize) -> usize
+    ensures { λ r. ⌜ r ≡ core.resumed dead need n ⌝ }
+{
+    lesser(n, greater(dead, need))
+}
+
+fn save_moves(dead: usize, n: usize) -> usize
+    ensures { λ r. ⌜ r ≡ core.saveMoves dead n ⌝ }
+{
+    n - saved_from(dead, n)
+}
+
+fn resume_moves(dead: usize, need: usize, n: usize) -> usize
+    ensures { λ r. ⌜ r ≡ core.resumeMoves dead need n ⌝ }
+{
+    resumed(dead, need, n) - saved_from(dead, n)
+}
+
+// ---- numbers between the cache and the memory
+
+// The block of address a in a cache of s.
+fn block_of(s: usize, a: usize) -> usize
+    requires { ⌜ 0 < s ⌝ }
+    ensures { λ r. ⌜ (r ≡ a % s) × (r < s) ⌝ }
+{
+    a % s
+}
+
+// The block o blocks after block b, with no division.
+fn block_after(s: usize, b: usize, o: usize) -> usize
+    requires { ⌜ (b < s) × (o ≤ s) ⌝ }
+    ensures { λ r. ⌜ (r ≡ (b + o) % s) × (r < s) ⌝ }
+{
+    if b < s - o { b + o } else { b - (s - o) }
+}
+
+// The numbers of count offsets from `from` up go to the frame area, which begins at ST. ST has block top.
+fn spill(area: &mut [u32], cache: &[u32], top: usize, from: usize, count: usize)
+    requires { ⌜ (top < length (now cache)) × (from ≤ length (now cache)) × (from + count ≤ max from (length (now area))) ⌝ }
+    ensures { λ r. ⌜ now (area .exit) ≡ spilledArea (now (cache .entry)) (now (area .entry)) top from count ⌝ }
+{
+    let s = cache.len();
+    let mut block = block_after(s, top, from);
+    let mut i = 0;
+    while i < count {
+        area[from + i] = cache[block];
+        block = block_after(s, block, 1);
+        i += 1;
+    }
+}
+
+// The numbers of count addresses from a up come to their blocks.
+fn fill(cache: &mut [u32], memory: &[u32], a: usize, count: usize)
+    requires { ⌜ (0 < length (now cache)) × (a + count ≤ max a (length (now memory))) ⌝ }
+    ensures { λ r. ⌜ now (cache .exit) ≡ core.filled (now (memory .entry)) (now (cache .entry)) a count ⌝ }
+{
+    let s = cache.len();
+    let mut block = block_of(s, a);
+    let mut i = 0;
+    while i < count {
+        cache[block] = memory[a + i];
+        block = block_after(s, block, 1);
+        i += 1;
+    }
+}
+
+// Another task leaves v in every block.
+pub fn overwrite(cache: &mut [u32], v: u32)
+    ensures { λ r. ⌜ now (cache .exit) ≡ replicate (length (now (cache .entry))) v ⌝ }
+{
+    let mut i = 0;
+    while i < cache.len() {
+        cache[i] = v;
+        i += 1;
+    }
+}
+
+// ---- the moves
+
+impl Machine {
+    // Blocks of a cache.
+    pub const MOST_BLOCKS: usize = Limits::STACK as usize;
+
+    // The state after function 0 with this frame has been entered on a memory of this length, with nothing cached before. Nothing moves.
+    pub fn fresh(stack: u32, frame: u32, length: usize) -> Machine
+        requires { ⌜ (frame ≤ stack) × (frame ≤ length) ⌝ }
+        ensures { λ r. ⌜ Entered stack frame length r ⌝ }
+    {
+        Machine {
+            st: length - frame as usize,
+            occupancy: reserved(stack as usize, frame as usize, 0),
+        }
+    }
+
+    // Enters a frame of k blocks. The highest cached addresses are spilled where the cache is too small.
+    pub fn reserve(self, cache: &[u32], memory: &mut [u32], k: u32) -> Moved
+        requires { ⌜ Good (coreOf self (now cache) (now memory)) × (k ≤ self .st) ⌝ }
+        ensures { λ r. ⌜ Does r (now (cache .entry)) (now (memory .exit)) (core.reserve k (coreOf self (now (cache .entry)) (now (memory .entry)))) ⌝ }
+    {
+        let s = cache.len();
+        let frame = k as usize;
+        let st = self.st - frame;
+        let blocks = reserve_moves(s, frame, self.occupancy);
+        let occupancy = reserved(s, frame, self.occupancy);
+        spill(&mut memory[st..], cache, block_of(s, st), s, blocks);
+        Moved {
+            machine: Machine {
+                st: st,
+                occupancy: occupancy,
+            },
+            blocks: blocks,
+        }
+    }
+
+    // Leaves a frame of k blocks.
+    pub fn free(self, k: u32) -> Machine
+        requires { ⌜ self .st + k ≤ mostAddress ⌝ }
+        ensures { λ r. ⌜ ((cache memory : List ℕ) → coreOf r cache memory ≡ core.free k (coreOf self cache memory)) ⌝ }
+    {
+        Machine {
+            st: self.st + k as usize,
+            occupancy: freed(k as usize, self.occupancy),
+        }
+    }
+
+    // Fills upward from MT, until at least k blocks are cached.
+    pub fn ensure(self, cache: &mut [u32], memory: &[u32], k: u32) -> Moved
+        requires { ⌜ Good (coreOf self (now cache) (now memory)) × (self .st + k ≤ length (now memory)) ⌝ }
+        ensures { λ r. ⌜ Does r (now (cache .exit)) (now (memory .entry)) (core.ensure k (coreOf self (now (cache .entry)) (now (memory .entry)))) ⌝ }
+    {
+        let frame = k as usize;
+        let blocks = ensure_moves(frame, self.occupancy);
+        fill(cache, memory, self.st + self.occupancy, blocks);
+        Moved {
+            machine: Machine {
+                st: self.st,
+                occupancy: ensured_to(frame, self.occupancy),
+            },
+            blocks: blocks,
+        }
+    }
+
+    // The number at offset o.
+    pub fn load(self, cache: &[u32], o: u32) -> u32
+        requires { ⌜ (0 < length (now cache)) × (self .st + o ≤ mostAddress) ⌝ }
+        ensures { λ r. ⌜ ((memory : List ℕ) → r ≡ core.load o (coreOf self (now (cache .entry)) memory)) ⌝ }
+    {
+        let block = block_of(cache.len(), self.st + o as usize);
+        cache[block]
+    }
+
+    pub fn store(self, cache: &mut [u32], o: u32, v: u32)
+        requires { ⌜ (0 < length (now cache)) × (self .st + o ≤ mostAddress) ⌝ }
+        ensures { λ r. ⌜ ((memory : List ℕ) → coreOf self (now (cache .exit)) memory ≡ core.store o v (coreOf self (now (cache .entry)) memory)) ⌝ }
+    {
+        let s = cache.len();
+        let a = self.st + o as usize;
+        let block = block_of(s, a);
+        cache[block] = v;
+    }
+
+    // The first half of a preemption: the blocks from the lowest live offset up go out.
+    pub fn save(self, cache: &[u32], memory: &mut [u32], dead: u32) -> Moved
+        requires { ⌜ Good (coreOf self (now cache) (now memory)) ⌝ }
+        ensures { λ r. ⌜ Does r (now (cache .entry)) (now (memory .exit)) (core.save dead (coreOf self (now (cache .entry)) (now (memory .entry)))) ⌝ }
+    {
+        let s = cache.len();
+        let st = self.st;
+        let live = saved_from(dead as usize, self.occupancy);
+        let blocks = save_moves(dead as usize, self.occupancy);
+        spill(&mut memory[st..], cache, block_of(s, st), live, blocks);
+        Moved {
+            machine: self,
+            blocks: blocks,
+        }
+    }
+
+    // Its second half: as many of them come back as the point needs, whatever the cache holds.
+    pub fn resume(self, cache: &mut [u32], memory: &[u32], dead: u32, need: u32) -> Moved
+        requires { ⌜ Good (coreOf self (now cache) (now memory)) ⌝ }
+        ensures { λ r. ⌜ Does r (now (cache .exit)) (now (memory .entry)) (core.resume dead need (coreOf self (now (cache .entry)) (now (memory .entry)))) ⌝ }
+    {
+        let live = saved_from(dead as usize, self.occupancy);
+        let blocks = resume_moves(dead as usize, need as usize, self.occupancy);
+        fill(cache, memory, self.st + live, blocks);
+        Moved {
+            machine: Machine {
+                st: self.st,
+                occupancy: resumed(dead as usize, need as usize, self.occupancy),
+            },
+            blocks: blocks,
+        }
+    }
+
+    // Both halves, with one other task between them, which leaves v in every block.
+    pub fn preempt(
+        self,
+        cache: &mut [u32],
+        memory: &mut [u32],
+        dead: u32,
+        need: u32,
+        v: u32,
+    ) -> Preempted
+        requires { ⌜ Good (coreOf self (now cache) (now memory)) ⌝ }
+        ensures { λ r. ⌜ Preempts r (now (cache .exit)) (now (memory .exit)) dead need v (coreOf self (now (cache .entry)) (now (memory .entry))) ⌝ }
+    {
+        let saved = self.save(cache, memory, dead);
+        overwrite(cache, v);
+        let aside = saved.machine;
+        let back = aside.resume(cache, memory, dead, need);
+        let machine = back.machine;
+        Preempted {
+            machine: machine,
+            out: saved.blocks,
+            back: back.blocks,
+        }
+    }
+}
