@@ -2,7 +2,7 @@
  * Felknost: the preemption sheet of a task on a core with a stack cache.
  *
  * felknost_check judges a task text, given as its bytes. It needs no working space from the caller, touches nothing but its own
- * stack, and returns for every byte string. Link with libfelknost.a and nothing else.
+ * stack, and returns for every byte string. Threads may call it at the same time. Link with libfelknost.a and nothing else.
  */
 #ifndef FELKNOST_H
 #define FELKNOST_H
@@ -36,6 +36,13 @@ extern "C" {
  * text may be NULL where length is 0.
  */
 uint32_t felknost_check(const uint8_t *text, size_t length);
+
+/*
+ * The stack that a call of felknost_check takes, in bytes, measured and rounded up: its own, and what memset takes, which it calls, with the
+ * dynamic linker's look-up of memset at the first call. A thread with a stack of the second size has room for the call.
+ */
+#define FELKNOST_CHECK_STACK 24576
+#define FELKNOST_THREAD_STACK 32768
 
 #define FELKNOST_CODE(answer) ((uint32_t)(answer) >> 16)
 #define FELKNOST_PLACE(answer) ((uint32_t)(answer) & 0xffffu)

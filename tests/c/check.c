@@ -1,36 +1,114 @@
-/* Tests of felknost_check from C: an accepted text, each refusal, and the limits. The last line counts them. */
+/*
+ * Tests of felknost_check, built as C and as C++: each refusal with its place, the limits, texts between pages that may not be touched,
+ * threads, and the stack that the header states. The last line counts them.
+ */
+#ifndef _GNU_SOURCE
+#define _GNU_SOURCE 1
+#endif
 #include "felknost.h"
+#include "room.h"
 
+#include <pthread.h>
 #include <stdio.h>
 #include <stdlib.h>
 #include <string.h>
+#include <ucontext.h>
+
+#define LONGEST 32768
+#define CODES 13
 
 static int passed, failed;
 
-static void expect(const char *name, const uint8_t *text, size_t length, uint32_t code, uint32_t place)
+static void count(int good)
 {
-    uint32_t answer = felknost_check(text, length);
-    if (answer == code * 65536 + place) {
+    if (good)
         passed++;
-    } else {
+    else
         failed++;
-        printf("%s: expected %u %u, got %u %u\n", name, code, place, FELKNOST_CODE(answer), FELKNOST_PLACE(answer));
-    }
 }
 
-static void text_gives(const char *name, const char *text, uint32_t code, uint32_t place)
+/* ---- one text */
+
+static struct room texts;
+static int seen[CODES + 1];
+
+/* The text is judged at the front of its pages, where a byte before it traps, and at their end, where a byte past it does. */
+static void expect(const char *name, const void *text, size_t length, uint32_t code, uint32_t place)
 {
-    expect(name, (const uint8_t *)text, strlen(text), code, place);
+    uint32_t wanted = code * 65536 + place;
+    room_case = name;
+    room_open(&texts);
+    uint8_t *front = (uint8_t *)memmove(texts.start, text, length);
+    room_close(&texts);
+    uint32_t first = felknost_check(front, length);
+    room_open(&texts);
+    uint8_t *end = (uint8_t *)memmove(texts.start + texts.size - length, text, length);
+    room_close(&texts);
+    uint32_t last = felknost_check(end, length);
+    if (first != wanted || last != wanted)
+        printf("%s: expected %u %u, got %u %u and %u %u\n", name, code, place, FELKNOST_CODE(first), FELKNOST_PLACE(first), FELKNOST_CODE(last),
+               FELKNOST_PLACE(last));
+    count(first == wanted && last == wanted);
+    if (first == wanted)
+        seen[code]++;
 }
 
-/* A buffer that grows, for the long texts. */
-static char *buffer;
+struct sample {
+    const char *name;
+    uint32_t code, place;
+    const char *text;
+};
+
+#define SAMPLE                                                                                \
+    "(stack 5)\n(func 2\n  (store 1)\n  (call 1)\n  (ensure 2)\n  (load 1)\n  (return)\n)\n" \
+    "(func 4\n  (store 0)\n  (load 0)\n  (return)\n)\n"
+#define CALLEE "(func 0\n  (return)\n)\n"
+
+/* Every code but 1 and 6, whose texts are long. */
+static const struct sample samples[] = {
+    {"accepted", 0, 0, SAMPLE},
+    {"empty", 2, 1, ""},
+    {"form", 2, 3, "(stack 5)\n(func 2\n (return)\n)\n"},
+    {"no line feed", 2, 4, "(stack 5)\n(func 2\n  (return)\n)"},
+    {"missing line", 2, 3, "(stack 5)\n(func 2\n"},
+    {"cut inside a word", 2, 3, "(stack 5)\n(func 2\n  (retur"},
+    {"cut inside a number", 2, 1, "(stack 5"},
+    {"leading zero", 2, 1, "(stack 05)\n(func 2\n  (return)\n)\n"},
+    {"four digits", 3, 1, "(stack 9999)\n"},
+    {"five digits", 2, 2, "(stack 5)\n(func 10000\n  (return)\n)\n"},
+    {"stack 0", 3, 1, "(stack 0)\n"},
+    {"stack 65", 3, 1, "(stack 65)\n"},
+    {"frame", 4, 2, "(stack 5)\n(func 6\n  (return)\n)\n"},
+    {"offset", 5, 3, "(stack 5)\n(func 0\n  (load 0)\n  (return)\n)\n"},
+    {"callee", 7, 3, "(stack 5)\n(func 2\n  (call 0)\n  (ensure 2)\n  (return)\n)\n"},
+    {"callee past the last", 7, 3, "(stack 5)\n(func 2\n  (call 1)\n  (ensure 2)\n  (return)\n)\n"},
+    {"no ensure", 8, 3, "(stack 5)\n(func 2\n  (call 1)\n  (return)\n)\n" CALLEE},
+    {"no call", 8, 3, "(stack 5)\n(func 2\n  (ensure 2)\n  (return)\n)\n"},
+    {"other frame", 8, 4, "(stack 5)\n(func 2\n  (call 1)\n  (ensure 3)\n  (return)\n)\n" CALLEE},
+    {"target", 9, 3, "(stack 5)\n(func 2\n  (goto 1)\n)\n"},
+    {"target an ensure", 9, 5, "(stack 5)\n(func 2\n  (call 1)\n  (ensure 2)\n  (goto 1)\n)\n" CALLEE},
+    {"last point", 10, 3, "(stack 5)\n(func 2\n  (store 0)\n)\n"},
+    {"unreachable", 11, 4, "(stack 5)\n(func 2\n  (goto 2)\n  (return)\n  (return)\n)\n"},
+    {"uncalled", 12, 5, "(stack 5)\n(func 2\n  (return)\n)\n" CALLEE},
+    {"uninitialised", 13, 5, "(stack 5)\n(func 2\n  (either 1 2)\n  (store 1)\n  (load 1)\n  (return)\n)\n"},
+};
+#define SAMPLES (sizeof samples / sizeof samples[0])
+
+static void refusals(void)
+{
+    for (size_t i = 0; i < SAMPLES; i++)
+        expect(samples[i].name, samples[i].text, strlen(samples[i].text), samples[i].code, samples[i].place);
+}
+
+/* ---- long texts, built here */
+
+static char built[2 * LONGEST];
 static size_t used;
 
 static void put(const char *line)
 {
     size_t n = strlen(line);
-    memcpy(buffer + used, line, n);
+    memcpy(built + used, line, n);
     used += n;
 }
 
@@ -42,52 +120,40 @@ static void put_many(const char *line, int times)
 
 static void built_gives(const char *name, uint32_t code, uint32_t place)
 {
-    expect(name, (const uint8_t *)buffer, used, code, place);
+    expect(name, built, used, code, place);
     used = 0;
 }
 
-static const char *const sample =
-    "(stack 5)\n(func 2\n  (store 1)\n  (call 1)\n  (ensure 2)\n  (load 1)\n  (return)\n)\n"
-    "(func 4\n  (store 0)\n  (load 0)\n  (return)\n)\n";
-
-static void refusals(void)
-{
-    text_gives("form", "(stack 5)\n(func 2\n (return)\n)\n", 2, 3);
-    text_gives("no line feed", "(stack 5)\n(func 2\n  (return)\n)", 2, 4);
-    text_gives("missing line", "(stack 5)\n(func 2\n", 2, 3);
-    text_gives("leading zero", "(stack 05)\n(func 2\n  (return)\n)\n", 2, 1);
-    text_gives("four digits", "(stack 9999)\n", 3, 1);
-    text_gives("five digits", "(stack 5)\n(func 10000\n  (return)\n)\n", 2, 2);
-    text_gives("stack 0", "(stack 0)\n", 3, 1);
-    text_gives("stack 65", "(stack 65)\n", 3, 1);
-    text_gives("frame", "(stack 5)\n(func 6\n  (return)\n)\n", 4, 2);
-    text_gives("offset", "(stack 5)\n(func 0\n  (load 0)\n  (return)\n)\n", 5, 3);
-    text_gives("callee", "(stack 5)\n(func 2\n  (call 0)\n  (ensure 2)\n  (return)\n)\n", 7, 3);
-    text_gives("callee past the last", "(stack 5)\n(func 2\n  (call 1)\n  (ensure 2)\n  (return)\n)\n", 7, 3);
-    text_gives("no ensure", "(stack 5)\n(func 2\n  (call 1)\n  (return)\n)\n(func 0\n  (return)\n)\n", 8, 3);
-    text_gives("no call", "(stack 5)\n(func 2\n  (ensure 2)\n  (return)\n)\n", 8, 3);
-    text_gives("other frame", "(stack 5)\n(func 2\n  (call 1)\n  (ensure 3)\n  (return)\n)\n(func 0\n  (return)\n)\n", 8, 4);
-    text_gives("target", "(stack 5)\n(func 2\n  (goto 1)\n)\n", 9, 3);
-    text_gives("target an ensure", "(stack 5)\n(func 2\n  (call 1)\n  (ensure 2)\n  (goto 1)\n)\n(func 0\n  (return)\n)\n", 9, 5);
-    text_gives("last point", "(stack 5)\n(func 2\n  (store 0)\n)\n", 10, 3);
-    text_gives("unreachable", "(stack 5)\n(func 2\n  (goto 2)\n  (return)\n  (return)\n)\n", 11, 4);
-    text_gives("uncalled", "(stack 5)\n(func 2\n  (return)\n)\n(func 0\n  (return)\n)\n", 12, 5);
-    text_gives("uninitialised", "(stack 5)\n(func 2\n  (either 1 2)\n  (store 1)\n  (load 1)\n  (return)\n)\n", 13, 5);
-}
-
-static void functions_of(int count)
+static void functions_of(int number)
 {
     char line[32];
     put("(stack 1)\n");
-    for (int f = 0; f < count; f++) {
+    for (int f = 0; f < number; f++) {
         put("(func 0\n");
-        if (f + 1 < count) {
+        if (f + 1 < number) {
             snprintf(line, sizeof line, "  (call %d)\n", f + 1);
             put(line);
             put("  (ensure 0)\n");
         }
         put("  (return)\n)\n");
     }
+}
+
+static void points_in_all(int extra)
+{
+    put("(stack 1)\n(func 1\n  (call 1)\n  (ensure 1)\n  (call 2)\n  (ensure 1)\n  (call 3)\n  (ensure 1)\n");
+    put_many("  (store 0)\n", 249);
+    put("  (return)\n)\n");
+    for (int f = 0; f < 2; f++) {
+        put("(func 1\n");
+        put_many("  (store 0)\n", 255);
+        put("  (return)\n)\n");
+    }
+    put(extra ? "(func 1\n  (call 4)\n  (ensure 1)\n" : "(func 1\n  (store 0)\n  (store 0)\n");
+    put_many("  (store 0)\n", 253);
+    put("  (return)\n)\n");
+    if (extra)
+        put("(func 1\n  (return)\n)\n");
 }
 
 static void limits(void)
@@ -106,45 +172,142 @@ static void limits(void)
     put("  (return)\n)\n");
     built_gives("257 points", 6, 2 + 257);
 
-    for (int extra = 0; extra < 2; extra++) {
-        put("(stack 1)\n(func 1\n  (call 1)\n  (ensure 1)\n  (call 2)\n  (ensure 1)\n  (call 3)\n  (ensure 1)\n");
-        put_many("  (store 0)\n", 249);
-        put("  (return)\n)\n");
-        for (int f = 0; f < 2; f++) {
-            put("(func 1\n");
-            put_many("  (store 0)\n", 255);
-            put("  (return)\n)\n");
-        }
-        put(extra ? "(func 1\n  (call 4)\n  (ensure 1)\n" : "(func 1\n  (store 0)\n  (store 0)\n");
-        put_many("  (store 0)\n", 253);
-        put("  (return)\n)\n");
-        if (extra)
-            put("(func 1\n  (return)\n)\n");
-        built_gives(extra ? "1,025 points" : "1,024 points", extra ? 6 : 0, extra ? 1 + 4 * 258 + 2 : 0);
-    }
+    points_in_all(0);
+    built_gives("1,024 points", 0, 0);
+    points_in_all(1);
+    built_gives("1,025 points", 6, 1 + 4 * 258 + 2);
+
+    put(SAMPLE);
+    memset(built + used, '\n', LONGEST + 1 - used);
+    used = 0;
+    expect("32,768 bytes", built, LONGEST, 2, 14);
+    expect("32,769 bytes", built, LONGEST + 1, 1, 0);
 }
 
-static void sizes(void)
+static void null_text(void)
 {
-    expect("empty", (const uint8_t *)"", 0, 2, 1);
-    expect("NULL with 0", NULL, 0, 2, 1);
-    put(sample);
-    memset(buffer + used, '\n', 32769 - used);
-    expect("32,768 bytes", (const uint8_t *)buffer, 32768, 2, 14);
-    expect("32,769 bytes", (const uint8_t *)buffer, 32769, 1, 0);
-    used = 0;
+    room_case = "NULL with 0";
+    count(felknost_check(NULL, 0) == 2 * 65536 + 1);
+}
+
+/* ---- threads */
+
+#define THREADS 8
+#define ROUNDS 2000
+
+static pthread_barrier_t together;
+
+static void *judge_samples(void *wrong)
+{
+    pthread_barrier_wait(&together);
+    for (int round = 0; round < ROUNDS; round++)
+        for (size_t i = 0; i < SAMPLES; i++) {
+            const char *text = samples[i].text;
+            uint32_t answer = felknost_check((const uint8_t *)text, strlen(text));
+            if (answer != samples[i].code * 65536 + samples[i].place)
+                ++*(int *)wrong;
+        }
+    return NULL;
+}
+
+static void threads(void)
+{
+    pthread_t thread[THREADS];
+    int wrong[THREADS] = {0};
+    room_case = "threads";
+    pthread_barrier_init(&together, NULL, THREADS);
+    for (int i = 0; i < THREADS; i++)
+        if (pthread_create(&thread[i], NULL, judge_samples, &wrong[i]) != 0)
+            abort();
+    for (int i = 0; i < THREADS; i++) {
+        pthread_join(thread[i], NULL);
+        if (wrong[i] != 0)
+            printf("thread %d: %d wrong answers\n", i, wrong[i]);
+        count(wrong[i] == 0);
+    }
+    pthread_barrier_destroy(&together);
+}
+
+/* ---- the stack */
+
+static uint32_t answers[SAMPLES];
+
+static void answer_samples(void)
+{
+    for (size_t i = 0; i < SAMPLES; i++)
+        answers[i] = felknost_check((const uint8_t *)samples[i].text, strlen(samples[i].text));
+}
+
+static int answered(void)
+{
+    int good = 1;
+    for (size_t i = 0; i < SAMPLES; i++)
+        good &= answers[i] == samples[i].code * 65536 + samples[i].place;
+    memset(answers, 0xff, sizeof answers);
+    return good;
+}
+
+/* On a stack of exactly the bytes that the header states, between pages that may not be touched. */
+static void stated_stack(const char *name)
+{
+    static ucontext_t here, there;
+    struct room stack = room_of(FELKNOST_CHECK_STACK);
+    room_case = name;
+    for (size_t i = 0; i < stack.size; i++)
+        ((volatile uint8_t *)stack.start)[i] = 0xa5;
+    getcontext(&there);
+    there.uc_stack.ss_sp = stack.start;
+    there.uc_stack.ss_size = stack.size;
+    there.uc_link = &here;
+    makecontext(&there, answer_samples, 0);
+    swapcontext(&here, &there);
+    size_t untouched = 0;
+    while (untouched < stack.size && stack.start[untouched] == 0xa5)
+        untouched++;
+    printf("%s: %zu bytes of %d used\n", name, stack.size - untouched, FELKNOST_CHECK_STACK);
+    room_free(&stack);
+    count(answered());
+}
+
+static void *answer_in_thread(void *unused)
+{
+    answer_samples();
+    return unused;
+}
+
+static void stated_thread(void)
+{
+    struct room stack = room_of(FELKNOST_THREAD_STACK);
+    pthread_attr_t attributes;
+    pthread_t thread;
+    room_case = "a thread with the stack stated";
+    pthread_attr_init(&attributes);
+    pthread_attr_setstack(&attributes, stack.start, stack.size);
+    if (pthread_create(&thread, &attributes, answer_in_thread, NULL) != 0)
+        abort();
+    pthread_join(thread, NULL);
+    pthread_attr_destroy(&attributes);
+    room_free(&stack);
+    count(answered());
 }
 
 int main(void)
 {
-    buffer = malloc(65536);
-    if (buffer == NULL)
-        return 2;
-    text_gives("accepted", sample, 0, 0);
+    room_report_traps();
+    /* First of all, so that the dynamic linker looks memset up on this stack too. */
+    stated_stack("stack, first call");
+    stated_stack("stack, later call");
+    stated_thread();
+    texts = room_of(2 * LONGEST);
     refusals();
     limits();
-    sizes();
-    free(buffer);
+    null_text();
+    for (int code = 0; code <= CODES; code++) {
+        if (seen[code] == 0)
+            printf("no test has met code %d\n", code);
+        count(seen[code] > 0);
+    }
+    threads();
     printf("%d passed, %d failed\n", passed, failed);
     return failed != 0;
 }

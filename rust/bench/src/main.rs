@@ -1,67 +1,82 @@
-//! Times the proved check against the second implementation in one run and prints the ratio. The two take turns, many short rounds each,
-//! and the smallest round of each counts, since other load on the machine only adds time.
+//! Times check on the texts of docs/BENCHMARKS.md and prints its table: the proved archive against the second implementation, or, built by
+//! `compare`, a new archive against an old one. All that is timed takes turns, many short rounds each, and the smallest round of each counts,
+//! since other load on the machine only adds time.
+
+#[cfg(copies)]
+mod copies;
+mod texts;
 
 use std::hint::black_box;
+use std::process::ExitCode;
 use std::time::{Duration, Instant};
+
+use texts::texts;
 
 const ROUNDS: usize = 200;
 const ROUND: Duration = Duration::from_micros(1_500);
 
-fn main() {
-    println!("text                          bytes points  proved us  second us  ratio");
+/// A check that gives the code.
+type Check = fn(&[u8]) -> u32;
+
+fn proved(text: &[u8]) -> u32 {
+    felknost::check(text).map_or_else(|refusal| refusal.row.code(), |()| 0)
+}
+
+fn second(text: &[u8]) -> u32 {
+    second::check(text, second::WORK_MIN).map_or_else(|refusal| refusal.row.code(), |()| 0)
+}
+
+fn main() -> ExitCode {
+    #[cfg(copies)]
+    return copies::compare();
+    #[cfg(not(copies))]
+    return against_second();
+}
+
+/// The table of docs/BENCHMARKS.md.
+#[cfg_attr(copies, allow(dead_code))]
+fn against_second() -> ExitCode {
+    println!("| Text | Bytes | Points | Proved, µs | Second, µs | Ratio |");
+    println!("|---|---|---|---|---|---|");
     for (name, text) in texts() {
-        assert_eq!(
-            felknost::check(&text).is_ok(),
-            second::check(&text, second::WORK_MIN).code == 0
-        );
+        let [proved, second] = times(&text, [proved as Check, second]);
         let points = text.windows(3).filter(|part| part == b"  (").count();
-        let (proved, other) = times(&text);
         println!(
-            "{name:28} {:6} {points:6} {:10.2} {:10.2} {:6.2}",
-            text.len(),
+            "| {name} | {} | {} | {:.2} | {:.2} | {:.2} |",
+            grouped(text.len()),
+            grouped(points),
             proved * 1e6,
-            other * 1e6,
-            proved / other
+            second * 1e6,
+            proved / second
         );
     }
+    ExitCode::SUCCESS
 }
 
-fn texts() -> Vec<(&'static str, Vec<u8>)> {
-    vec![
-        ("typical, 30 points", typical()),
-        ("256 points", straight(1)),
-        ("512 points", straight(2)),
-        ("1,024 points", straight(4)),
-        ("1,024 points, led back", led_back(0)),
-        ("768 straight, 256 led back", led_back(3)),
-        ("64 functions", functions()),
-        ("256 points, branches", branches(false)),
-        ("256 points, backward chain", branches(true)),
-        ("32,768 bytes", longest()),
-        ("one line of 20,938 bytes", long_line()),
-    ]
-}
-
-/// Seconds for one call of each, the smallest over the rounds.
-fn times(text: &[u8]) -> (f64, f64) {
-    let mut best = (f64::MAX, f64::MAX);
+/// Seconds for one call of each check, the smallest over the rounds. All have to give the same code.
+fn times<const N: usize>(text: &[u8], checks: [Check; N]) -> [f64; N] {
+    let codes = checks.map(|check| check(text));
+    assert_eq!(codes, [codes[0]; N]);
+    let mut best = [f64::MAX; N];
     for _ in 0..ROUNDS {
-        best.0 = best
-            .0
-            .min(round(|| felknost::check(black_box(text)).is_ok()));
-        best.1 = best.1.min(round(|| {
-            second::check(black_box(text), second::WORK_MIN).code == 0
-        }));
+        for (best, check) in best.iter_mut().zip(checks) {
+            *best = best.min(round(|| check(black_box(text))));
+        }
     }
     best
 }
 
-fn round(call: impl Fn() -> bool) -> f64 {
+/// Calls are timed in packs, so that reading the clock costs little beside the shortest of them.
+const PACK: u32 = 64;
+
+fn round(call: impl Fn() -> u32) -> f64 {
     let start = Instant::now();
     let mut calls = 0;
     loop {
-        black_box(call());
-        calls += 1;
+        for _ in 0..PACK {
+            black_box(call());
+        }
+        calls += PACK;
         let spent = start.elapsed();
         if spent >= ROUND {
             return spent.as_secs_f64() / f64::from(calls);
@@ -69,124 +84,68 @@ fn round(call: impl Fn() -> bool) -> f64 {
     }
 }
 
-fn put(text: &mut Vec<u8>, line: &str) {
-    text.extend_from_slice(line.as_bytes());
-    text.push(b'\n');
-}
-
-/// Three functions, calls in a row, a branch and a loop.
-fn typical() -> Vec<u8> {
-    include_bytes!("../../../examples/press.task").to_vec()
-}
-
-/// Functions of 256 points, one after the other, each called by the one before; loads and stores of eight offsets.
-fn straight(count: usize) -> Vec<u8> {
-    chain(count, |_| vec![])
-}
-
-/// Four such functions. Those from `first` on begin with points of which one is reached only by a lead from a higher one.
-fn led_back(first: usize) -> Vec<u8> {
-    chain(4, |function| {
-        let points = if function < first {
-            vec![]
-        } else {
-            vec!["  (goto 2)", "  (goto 4)", "  (either 1 3)", "  (goto 4)"]
-        };
-        points.into_iter().map(String::from).collect()
-    })
-}
-
-fn chain(count: usize, opening: impl Fn(usize) -> Vec<String>) -> Vec<u8> {
-    let mut text = Vec::new();
-    put(&mut text, "(stack 16)");
-    for function in 0..count {
-        put(&mut text, "(func 8");
-        let mut points = opening(function);
-        if function + 1 < count {
-            points.push(format!("  (call {})", function + 1));
-            points.push("  (ensure 8)".to_string());
+/// A number with commas between groups of three digits.
+fn grouped(number: usize) -> String {
+    let digits = number.to_string();
+    let mut text = String::new();
+    for (index, digit) in digits.chars().enumerate() {
+        if index > 0 && (digits.len() - index).is_multiple_of(3) {
+            text.push(',');
         }
-        for index in 0..255 - points.len() {
-            let word = if index % 2 == 0 { "store" } else { "load" };
-            points.push(format!("  ({word} {})", index / 2 % 8));
-        }
-        points.push("  (return)".to_string());
-        for point in &points {
-            put(&mut text, point);
-        }
-        put(&mut text, ")");
+        text.push(digit);
     }
     text
 }
 
-/// 64 functions of 16 points.
-fn functions() -> Vec<u8> {
-    let mut text = Vec::new();
-    put(&mut text, "(stack 64)");
-    for function in 0..64 {
-        put(&mut text, "(func 4");
-        if function < 63 {
-            put(&mut text, &format!("  (call {})", function + 1));
-            put(&mut text, "  (ensure 4)");
-        } else {
-            put(&mut text, "  (store 2)");
-            put(&mut text, "  (load 2)");
-        }
-        for _ in 0..6 {
-            put(&mut text, "  (store 3)");
-            put(&mut text, "  (load 3)");
-        }
-        put(&mut text, "  (either 0 15)");
-        put(&mut text, "  (return)");
-        put(&mut text, ")");
-    }
-    text
-}
+#[cfg(test)]
+mod tests {
+    use super::*;
 
-/// One function of 256 points and 64 offsets. Every other point is a branch; in the backward chain each branch leads to lower points, so that
-/// facts travel against the order of the points.
-fn branches(backward: bool) -> Vec<u8> {
-    let mut text = Vec::new();
-    put(&mut text, "(stack 64)");
-    put(&mut text, "(func 64");
-    if backward {
-        put(&mut text, "  (goto 254)");
-        for point in 1..254 {
-            let line = match point % 2 {
-                1 => format!("  (store {})", point / 2 % 64),
-                _ if point > 2 => format!("  (either {} {})", point - 3, 255),
-                _ => "  (goto 255)".to_string(),
+    #[test]
+    fn numbers_are_grouped() {
+        let groups = [0, 407, 1_024, 32_768].map(grouped);
+        assert_eq!(groups, ["0", "407", "1,024", "32,768"]);
+    }
+
+    /// The document's table has the rows of the program, with their bytes and points.
+    #[test]
+    fn document_has_the_same_rows() {
+        let document = include_str!("../../../docs/BENCHMARKS.md");
+        let rows: Vec<&str> = document
+            .lines()
+            .skip_while(|line| !line.starts_with("| Text | Bytes | Points |"))
+            .skip(2)
+            .take_while(|line| line.starts_with('|'))
+            .collect();
+        let texts = texts();
+        assert_eq!(rows.len(), texts.len());
+        for (row, (name, text)) in rows.iter().zip(texts) {
+            let start = format!("| {name} | {} | ", grouped(text.len()));
+            assert!(row.starts_with(&start), "{row} should start with {start}");
+        }
+    }
+
+    /// What the names of the rows say.
+    #[test]
+    fn texts_are_what_they_are_called() {
+        let places = texts().into_iter().map(|(name, text)| {
+            let refusal = felknost::check(&text).err();
+            (
+                name,
+                refusal.map(|refusal| (refusal.row.code(), refusal.place)),
+            )
+        });
+        for (name, got) in places {
+            let wanted = match name {
+                "empty text" => Some((2, 1)),
+                "refused in line 1" => Some((3, 1)),
+                "refused in line 3" => Some((5, 3)),
+                "32,768 bytes, refused at the point after 1,024" => Some((6, 1_035)),
+                "32,768 bytes, of which one line has 20,938" => Some((2, 1_033)),
+                "32,769 bytes" => Some((1, 0)),
+                _ => None,
             };
-            put(&mut text, &line);
-        }
-        put(&mut text, "  (goto 251)");
-    } else {
-        for point in 0..255 {
-            let line = match point % 2 {
-                0 => format!("  (store {})", point / 2 % 64),
-                _ => format!("  (either {} {})", point + 1, (point * 7 + 3) % 255 / 2 * 2),
-            };
-            put(&mut text, &line);
+            assert_eq!(got, wanted, "{name}");
         }
     }
-    put(&mut text, "  (return)");
-    put(&mut text, ")");
-    text
-}
-
-/// As many bytes as a text may have. It is refused at the point after 1,024.
-fn longest() -> Vec<u8> {
-    let mut text = straight(12);
-    text.truncate(32_767);
-    text.push(b'\n');
-    text
-}
-
-/// The same length: 1,024 points and then one line of no form, which has to be passed over to find its end.
-fn long_line() -> Vec<u8> {
-    let mut text = straight(4);
-    text.truncate(text.len() - 2);
-    text.resize(32_767, b' ');
-    text.push(b'\n');
-    text
 }

@@ -1,46 +1,38 @@
 //! The proved kit, called from Rust.
 //!
 //! ```
-//! let accepted = felknost::check(b"(stack 5)\n(func 5\n  (return)\n)\n");
-//! assert_eq!(accepted, Ok(()));
-//! let refused = felknost::check(b"(stack 65)\n");
-//! assert_eq!(refused, Err(felknost::Refused { code: 3, place: 1 }));
+//! use felknost::{check, Refusal, Row};
+//!
+//! assert_eq!(check(b"(stack 5)\n(func 5\n  (return)\n)\n"), Ok(()));
+//! let refusal = Refusal { row: Row::StackSize, place: 1 };
+//! assert_eq!(check(b"(stack 65)\n"), Err(refusal));
+//! assert_eq!(refusal.to_string(), "(refused 3 1)");
 //! ```
 
 #![warn(missing_docs)]
 
-use std::fmt;
+mod refusal;
+#[cfg(feature = "report")]
+mod report;
+#[cfg(feature = "run")]
+mod run;
+
+pub use refusal::{Refusal, Row};
+#[cfg(feature = "report")]
+pub use report::report;
+#[cfg(feature = "run")]
+pub use run::{run, RunResult};
 
 extern "C" {
     fn felknost_check(text: *const u8, length: usize) -> u32;
 }
 
-/// Why and where a text is refused. The codes are those of `include/felknost.h`.
-#[derive(Clone, Copy, Debug, PartialEq, Eq)]
-pub struct Refused {
-    /// The number of the refusal.
-    pub code: u32,
-    /// The line, counted from 1; 0 for code 1.
-    pub place: u32,
-}
+/// The numbers that the working space of report and run has at least.
+pub const WORK: usize = 16_384;
 
-impl fmt::Display for Refused {
-    fn fmt(&self, out: &mut fmt::Formatter) -> fmt::Result {
-        write!(out, "(refused {} {})", self.code, self.place)
-    }
-}
-
-impl std::error::Error for Refused {}
-
-/// Checks a task text: accepted, or refused with number and line.
-pub fn check(text: &[u8]) -> Result<(), Refused> {
-    // The function reads `length` bytes from the pointer and nothing else, and returns for every text.
+/// Checks a task text: accepted, or refused with a row and a line.
+pub fn check(text: &[u8]) -> Result<(), Refusal> {
+    // SAFETY: the function reads `length` bytes from the pointer and nothing else, and returns for every text.
     let answer = unsafe { felknost_check(text.as_ptr(), text.len()) };
-    if answer == 0 {
-        return Ok(());
-    }
-    Err(Refused {
-        code: answer >> 16,
-        place: answer & 0xffff,
-    })
+    Refusal::of(answer >> 16, answer & 0xffff)
 }

@@ -24,12 +24,21 @@ struct Rates {
 }
 
 /// Follows the steps, so that an either gets a value that it can take.
+#[derive(Clone)]
 struct Follower<'a> {
     task: &'a Task,
     frames: Vec<(usize, usize)>,
 }
 
-impl Follower<'_> {
+impl<'a> Follower<'a> {
+    /// Function 0 at its point 0.
+    fn fresh(task: &'a Task) -> Self {
+        Follower {
+            task,
+            frames: vec![(0, 0)],
+        }
+    }
+
     fn point(&self) -> Option<Point> {
         let &(func, index) = self.frames.last()?;
         self.task.funcs[func].points.get(index).copied()
@@ -60,6 +69,11 @@ impl Follower<'_> {
 /// Events and lengths that fit a valid task, but for some bad events.
 pub fn lent(rng: &mut Rng, task: &Task) -> Lent {
     let events = events(rng, task);
+    lent_for(rng, task, events)
+}
+
+/// Numbers of lengths that fit this event list.
+pub fn lent_for(rng: &mut Rng, task: &Task, events: Vec<u32>) -> Lent {
     let spare = rng.below(4);
     let answers = rng.numbers(events.len() / 2 + spare);
     let cache = rng.numbers(task.stack);
@@ -94,8 +108,7 @@ fn events(rng: &mut Rng, task: &Task) -> Vec<u32> {
         bad_kind: rng.chance(1, 8),
         bad_value: rng.chance(1, 8),
     };
-    let frames = vec![(0, 0)];
-    let mut follower = Follower { task, frames };
+    let mut follower = Follower::fresh(task);
     let mut events = Vec::with_capacity(2 * count);
     let mut after_finish = rng.below(3);
     for _ in 0..count {
@@ -126,4 +139,45 @@ fn event(rng: &mut Rng, rates: &Rates, follower: &mut Follower) -> [u32; 2] {
     };
     follower.step(value);
     [0, value]
+}
+
+/// Hands every event list of up to `length` events to `take`, each once: a step for each way on, a preemption, and as the last event also one
+/// that is refused. The numbers stored and left behind all differ.
+pub fn every_list(task: &Task, length: usize, take: &mut impl FnMut(&[u32])) {
+    extend(&Follower::fresh(task), &mut Vec::new(), length, take);
+}
+
+fn extend(follower: &Follower, events: &mut Vec<u32>, more: usize, take: &mut impl FnMut(&[u32])) {
+    take(events);
+    if more == 0 {
+        return;
+    }
+    let fresh = events.len() as u32 + 100;
+    let (steps, refused): (&[u32], &[[u32; 2]]) = match follower.point() {
+        None => (&[], &[[0, 0], [1, 0], [2, 0]]),
+        Some(Point::Either(_, _)) => (&[0, 1], &[[0, 2], [2, 0]]),
+        Some(_) => (&[fresh], &[[2, 0]]),
+    };
+    for &value in steps {
+        let mut next = follower.clone();
+        next.step(value);
+        with(events, [0, value], |events| {
+            extend(&next, events, more - 1, take);
+        });
+    }
+    if follower.point().is_some() {
+        with(events, [1, fresh], |events| {
+            extend(follower, events, more - 1, take);
+        });
+    }
+    for &event in refused {
+        with(events, event, |events| take(events));
+    }
+}
+
+/// Does something with one event more.
+fn with(events: &mut Vec<u32>, event: [u32; 2], act: impl FnOnce(&mut Vec<u32>)) {
+    events.extend(event);
+    act(events);
+    events.truncate(events.len() - 2);
 }

@@ -8,13 +8,17 @@ mod damage;
 mod events;
 mod model;
 mod near;
+mod prices;
 mod rng;
 mod valid;
 
 use std::fmt;
 
 pub use events::Lent;
+pub use prices::Price;
 pub use rng::Rng;
+
+use model::Task;
 
 /// How a text was made.
 #[derive(Clone, Copy, Debug, PartialEq, Eq)]
@@ -125,4 +129,69 @@ pub fn unfit_run(seed: u64) -> RunCase {
         text: task.text(),
         lent,
     }
+}
+
+/// A valid task with `count` event lists, and lengths that fit each.
+pub fn runs(seed: u64, count: usize) -> Vec<RunCase> {
+    let mut rng = Rng::new(seed);
+    let task = valid::task(&mut rng);
+    let text = task.text();
+    let case = |lent| RunCase {
+        seed,
+        text: text.clone(),
+        lent,
+    };
+    (0..count)
+        .map(|_| case(events::lent(&mut rng, &task)))
+        .collect()
+}
+
+/// A valid task of few points.
+#[derive(Clone, Debug)]
+pub struct Small {
+    /// The seed that makes this task.
+    pub seed: u64,
+    /// The text.
+    pub text: Vec<u8>,
+    task: Task,
+}
+
+impl fmt::Display for Small {
+    fn fmt(&self, out: &mut fmt::Formatter) -> fmt::Result {
+        write!(out, "small seed {}", self.seed)
+    }
+}
+
+/// A valid task of at most `most` points.
+pub fn small(seed: u64, most: usize) -> Small {
+    let task = valid::small(&mut Rng::new(seed), most);
+    Small {
+        seed,
+        text: task.text(),
+        task,
+    }
+}
+
+impl Small {
+    /// Hands every event list of up to `length` events to `take`, each once: a step for each way on, a preemption, and as the last event also
+    /// one that is refused.
+    pub fn every_list(&self, length: usize, mut take: impl FnMut(&[u32])) {
+        events::every_list(&self.task, length, &mut take);
+    }
+
+    /// What a run of this event list is lent.
+    pub fn lent(&self, events: &[u32]) -> Lent {
+        let mut rng = Rng::new(self.seed ^ events.len() as u64);
+        events::lent_for(&mut rng, &self.task, events.to_vec())
+    }
+}
+
+/// A price of moves that is allowed.
+pub fn price(seed: u64) -> Price {
+    prices::price(&mut Rng::new(seed))
+}
+
+/// A price of moves with a number that is not allowed.
+pub fn unfit_price(seed: u64) -> Price {
+    prices::unfit(&mut Rng::new(seed))
 }

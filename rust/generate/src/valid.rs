@@ -25,6 +25,28 @@ pub fn task(rng: &mut Rng) -> Task {
     Task { stack, funcs }
 }
 
+/// A task of at most `most` points that passes all checks.
+pub fn small(rng: &mut Rng, most: usize) -> Task {
+    loop {
+        let stack = rng.between(1, 4);
+        let count = rng.between(1, most.div_ceil(3));
+        let calls = calls(rng, count);
+        let least: usize = calls.iter().map(|callees| 2 * callees.len() + 1).sum();
+        let mut spare = match most.checked_sub(least) {
+            Some(spare) => spare,
+            None => continue,
+        };
+        let mut funcs = Vec::with_capacity(count);
+        for callees in &calls {
+            let extra = rng.between(0, spare);
+            spare -= extra;
+            let frame = rng.between(0, stack);
+            funcs.push(func(rng, frame, callees, extra));
+        }
+        return Task { stack, funcs };
+    }
+}
+
 fn stack(rng: &mut Rng) -> usize {
     match rng.below(10) {
         0..=4 => rng.between(1, 8),

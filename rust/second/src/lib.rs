@@ -15,9 +15,9 @@ pub mod sheet;
 pub mod text;
 pub mod walks;
 
-pub use refusal::{Refusal, Verdict};
+pub use refusal::{code_and_place, Refusal, Row, Verdict};
 pub use run::{run, RunResult};
-pub use sheet::report;
+pub use sheet::{report, WriteResult};
 
 use text::{Task, TEXT_MAX};
 
@@ -26,19 +26,16 @@ pub const WORK_MIN: usize = 16_384;
 
 /// Checks a text: acceptance, or the first refusal in the order of the rules.
 pub fn check(text: &[u8], work_len: usize) -> Verdict {
-    match admit(text, work_len) {
-        Ok(_) => Verdict::ACCEPTED,
-        Err(refused) => refused,
-    }
+    admit(text, work_len).map(|_| ())
 }
 
 /// Reads a text that passes the rows 15 and 1 to 13.
-pub fn admit(text: &[u8], work_len: usize) -> Result<Task, Verdict> {
+pub fn admit(text: &[u8], work_len: usize) -> Result<Task, Refusal> {
     if work_len < WORK_MIN {
-        return Err(Refusal::WorkTooShort.at(WORK_MIN as u32));
+        return Err(Row::WorkTooSmall.at(WORK_MIN as u32));
     }
     if text.len() > TEXT_MAX {
-        return Err(Refusal::TextTooLong.at(0));
+        return Err(Row::TextTooLong.at(0));
     }
     let task = text::read(text)?;
     links::check(&task)?;

@@ -1,10 +1,10 @@
 //! The rows 7 to 10: calls, ensures, jump targets and last points.
 
-use crate::refusal::{Refusal, Verdict};
+use crate::refusal::{Row, Verdict};
 use crate::text::{Point, Task};
 
 /// Refuses the first line that meets one of the rows 7 to 10, with its smallest code.
-pub fn check(task: &Task) -> Result<(), Verdict> {
+pub fn check(task: &Task) -> Verdict {
     let funcs = task.funcs.len();
     for (number, func) in task.funcs.iter().enumerate() {
         let points = task.points_of(func);
@@ -24,7 +24,7 @@ pub fn check(task: &Task) -> Result<(), Verdict> {
             points[last],
             Point::Goto(_) | Point::Either(..) | Point::Return
         ) {
-            return Err(Refusal::LastPoint.at(func.point_line(last)));
+            return Err(Row::LastPoint.at(func.point_line(last)));
         }
     }
     Ok(())
@@ -39,24 +39,22 @@ struct Links<'a> {
 
 impl Links<'_> {
     /// The smallest of the rows 7 to 9 that a point meets.
-    fn row_met(&self, index: usize, point: Point) -> Option<Refusal> {
+    fn row_met(&self, index: usize, point: Point) -> Option<Row> {
         match point {
-            Point::Call(callee) if !self.callees.contains(&(callee as usize)) => {
-                Some(Refusal::CallTarget)
-            }
+            Point::Call(callee) if !self.callees.contains(&(callee as usize)) => Some(Row::Callee),
             Point::Call(_) => {
                 let paired = matches!(self.points.get(index + 1), Some(Point::Ensure(_)));
-                (!paired).then_some(Refusal::EnsurePairing)
+                (!paired).then_some(Row::Pairing)
             }
             Point::Ensure(frame) => {
                 let called = index > 0 && matches!(self.points[index - 1], Point::Call(_));
                 let paired = called && u32::from(frame) == self.frame;
-                (!paired).then_some(Refusal::EnsurePairing)
+                (!paired).then_some(Row::Pairing)
             }
-            Point::Goto(target) => (!self.may_jump_to(target)).then_some(Refusal::JumpTarget),
+            Point::Goto(target) => (!self.may_jump_to(target)).then_some(Row::Target),
             Point::Either(first, second) => {
                 let both = self.may_jump_to(first) && self.may_jump_to(second);
-                (!both).then_some(Refusal::JumpTarget)
+                (!both).then_some(Row::Target)
             }
             Point::Load(_) | Point::Store(_) | Point::Return => None,
         }

@@ -1,15 +1,13 @@
 //! The plain stack: frames of numbers without a cache. It reads the text by itself and shares
 //! nothing with the other modules but the names of the refusals.
 
-use crate::refusal::{Refusal, Verdict};
+use crate::refusal::{Row, Verdict};
 
 /// The result of a plain run.
 #[derive(Clone, Debug, PartialEq, Eq)]
 pub struct PlainResult {
-    /// The code of the row met, or 0.
-    pub code: u32,
-    /// The event of the refusal, or 0.
-    pub place: u32,
+    /// All done, or the refusal at an event.
+    pub ending: Verdict,
     /// The events done.
     pub done: u32,
     /// The answer of each event done.
@@ -35,10 +33,10 @@ pub fn run(text: &[u8], events: &[u32]) -> Option<PlainResult> {
     let funcs = read(text)?;
     let mut stack = vec![fresh(&funcs, 0)?];
     let mut answers = Vec::new();
-    let mut verdict = Verdict::ACCEPTED;
+    let mut ending = Ok(());
     for (number, event) in events.chunks_exact(2).enumerate() {
         if let Some(row) = refusal(&funcs, &stack, event[0], event[1])? {
-            verdict = row.at(number as u32);
+            ending = Err(row.at(number as u32));
             break;
         }
         let answer = match event[0] {
@@ -48,8 +46,7 @@ pub fn run(text: &[u8], events: &[u32]) -> Option<PlainResult> {
         answers.push(answer);
     }
     Some(PlainResult {
-        code: verdict.code,
-        place: verdict.place,
+        ending,
         done: answers.len() as u32,
         answers,
     })
@@ -96,16 +93,16 @@ fn point<'a>(funcs: &'a [Func<'a>], frame: &Frame) -> Option<&'a [&'a str]> {
 }
 
 /// The row that an event meets, in the order 22, 20, 21.
-fn refusal(funcs: &[Func], stack: &[Frame], kind: u32, value: u32) -> Option<Option<Refusal>> {
+fn refusal(funcs: &[Func], stack: &[Frame], kind: u32, value: u32) -> Option<Option<Row>> {
     let Some(running) = stack.last() else {
-        return Some(Some(Refusal::AfterFinish));
+        return Some(Some(Row::AfterFinish));
     };
     if kind > 1 {
-        return Some(Some(Refusal::EventKind));
+        return Some(Some(Row::Kind));
     }
     let either = point(funcs, running)?[0] == "either";
     let bad = kind == 0 && either && value > 1;
-    Some(bad.then_some(Refusal::EitherValue))
+    Some(bad.then_some(Row::Choice))
 }
 
 /// Takes one step and gives its answer.

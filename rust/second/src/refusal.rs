@@ -1,85 +1,126 @@
-//! The rows of the refusal table and the pair of code and place.
+//! The rows of the refusal table, and a refusal: a row and a place.
+
+use std::fmt;
 
 /// A row of the refusal table; the value of a variant is its code.
-#[derive(Clone, Copy, Debug, PartialEq, Eq)]
-#[repr(u32)]
-pub enum Refusal {
+#[derive(Clone, Copy, Debug, PartialEq, Eq, PartialOrd, Ord)]
+#[repr(u8)]
+pub enum Row {
     /// The text has more bytes than allowed.
     TextTooLong = 1,
     /// A line has no form allowed at its position, or is missing, or has no line feed.
-    LineForm = 2,
+    Form = 2,
     /// The number of cache blocks is outside its range.
     StackSize = 3,
     /// A frame is larger than the cache.
-    FrameAboveStack = 4,
+    FrameSize = 4,
     /// An offset lies outside its frame.
-    OffsetOutsideFrame = 5,
+    Offset = 5,
     /// One function or one point more than allowed.
     TooMany = 6,
     /// A call of a function that is not a later one of the text.
-    CallTarget = 7,
+    Callee = 7,
     /// A call and an ensure that do not belong together, or a wrong number in the ensure.
-    EnsurePairing = 8,
+    Pairing = 8,
     /// A jump to a point that does not exist or to an ensure.
-    JumpTarget = 9,
+    Target = 9,
     /// The last point of a function leads past its end.
     LastPoint = 10,
     /// A point that is not reachable from point 0.
     Unreachable = 11,
     /// A function that no point calls.
-    NeverCalled = 12,
+    Uncalled = 12,
     /// A load that may happen before any store of its offset.
-    UnstoredLoad = 13,
+    Uninitialised = 13,
     /// The output of the report is too short.
-    OutputTooShort = 14,
+    OutputTooSmall = 14,
     /// The working space is too short.
-    WorkTooShort = 15,
+    WorkTooSmall = 15,
     /// The event list is odd or too long.
     EventList = 16,
     /// Fewer answers than events.
-    AnswersTooShort = 17,
+    AnswersTooSmall = 17,
     /// The cache does not have the length that the task states.
-    CacheLength = 18,
+    CacheSize = 18,
     /// The memory does not hold the deepest stack.
-    MemoryTooShort = 19,
+    MemoryTooSmall = 19,
     /// An event of unknown kind.
-    EventKind = 20,
+    Kind = 20,
     /// A step at an either with a value that selects no branch.
-    EitherValue = 21,
+    Choice = 21,
     /// An event after the task has finished.
     AfterFinish = 22,
 }
 
-impl Refusal {
+impl Row {
+    /// All rows, by code.
+    pub const ALL: [Row; 22] = [
+        Row::TextTooLong,
+        Row::Form,
+        Row::StackSize,
+        Row::FrameSize,
+        Row::Offset,
+        Row::TooMany,
+        Row::Callee,
+        Row::Pairing,
+        Row::Target,
+        Row::LastPoint,
+        Row::Unreachable,
+        Row::Uncalled,
+        Row::Uninitialised,
+        Row::OutputTooSmall,
+        Row::WorkTooSmall,
+        Row::EventList,
+        Row::AnswersTooSmall,
+        Row::CacheSize,
+        Row::MemoryTooSmall,
+        Row::Kind,
+        Row::Choice,
+        Row::AfterFinish,
+    ];
+
     /// The code of the row.
     pub const fn code(self) -> u32 {
         self as u32
     }
 
     /// The refusal of this row at `place`.
-    pub const fn at(self, place: u32) -> Verdict {
-        Verdict {
-            code: self.code(),
-            place,
-        }
+    pub const fn at(self, place: u32) -> Refusal {
+        Refusal { row: self, place }
     }
 }
 
-/// Code and place, both 0 for acceptance.
-#[derive(Clone, Copy, Debug, PartialEq, Eq, Default)]
-pub struct Verdict {
-    /// The code of the row met, or 0.
-    pub code: u32,
+/// Why and where something is refused.
+#[derive(Clone, Copy, Debug, PartialEq, Eq)]
+pub struct Refusal {
+    /// The row that is met.
+    pub row: Row,
     /// The line, event or number that the row names.
     pub place: u32,
 }
 
-impl Verdict {
-    /// The verdict on an accepted input.
-    pub const ACCEPTED: Verdict = Verdict { code: 0, place: 0 };
-
+impl Refusal {
     /// Code and place as the single number given to callers from C.
     pub const fn packed(self) -> u32 {
-        self.code * 65_536 + self.place
+        self.row.code() * 65_536 + self.place
+    }
+}
+
+impl fmt::Display for Refusal {
+    fn fmt(&self, out: &mut fmt::Formatter) -> fmt::Result {
+        write!(out, "(refused {} {})", self.row.code(), self.place)
+    }
+}
+
+impl std::error::Error for Refusal {}
+
+/// Acceptance, or the refusal.
+pub type Verdict = Result<(), Refusal>;
+
+/// Code and place as numbers, both 0 for acceptance.
+pub fn code_and_place(verdict: Verdict) -> (u32, u32) {
+    match verdict {
+        Ok(()) => (0, 0),
+        Err(refusal) => (refusal.row.code(), refusal.place),
     }
 }

@@ -2,25 +2,37 @@
 
 use crate::figures::{figures, Figures};
 use crate::machine::Machine;
-use crate::refusal::{Refusal, Verdict};
+use crate::refusal::{code_and_place, Row, Verdict};
 use crate::text::{Point, Task};
 
 /// The most numbers of an event list.
 pub const EVENTS_MAX: usize = 131_072;
 
 /// The result of a run.
-#[derive(Clone, Copy, Debug, Default, PartialEq, Eq)]
+#[derive(Clone, Copy, Debug, PartialEq, Eq)]
 pub struct RunResult {
-    /// The code of the row met, or 0.
-    pub code: u32,
-    /// The place of the refusal, or 0.
-    pub place: u32,
+    /// All done, or the refusal.
+    pub ending: Verdict,
     /// The events done.
     pub done: u32,
     /// The blocks moved by the events done.
     pub moved: u64,
     /// The sum of the bounds of the sheet for the events done.
     pub allowed: u64,
+}
+
+impl RunResult {
+    /// Code, place, events done, moved and allowed.
+    pub fn numbers(self) -> [u64; 5] {
+        let (code, place) = code_and_place(self.ending);
+        [
+            code.into(),
+            place.into(),
+            self.done.into(),
+            self.moved,
+            self.allowed,
+        ]
+    }
 }
 
 /// Runs a task on lent cache and memory. An event is a pair of kind and value.
@@ -39,10 +51,11 @@ pub fn run(
     });
     match admitted {
         Ok((task, figures)) => Run::new(&task, &figures, cache, memory).all(events, answers),
-        Err(Verdict { code, place }) => RunResult {
-            code,
-            place,
-            ..RunResult::default()
+        Err(refusal) => RunResult {
+            ending: Err(refusal),
+            done: 0,
+            moved: 0,
+            allowed: 0,
         },
     }
 }
@@ -55,16 +68,16 @@ fn lengths(
     answers: &[u32],
     cache: &[u32],
     memory: &[u32],
-) -> Result<(), Verdict> {
+) -> Verdict {
     let longest = figures.funcs[0].longest;
     if events.len() % 2 == 1 || events.len() > EVENTS_MAX {
-        Err(Refusal::EventList.at(0))
+        Err(Row::EventList.at(0))
     } else if answers.len() < events.len() / 2 {
-        Err(Refusal::AnswersTooShort.at(events.len() as u32 / 2))
+        Err(Row::AnswersTooSmall.at(events.len() as u32 / 2))
     } else if cache.len() != task.stack as usize {
-        Err(Refusal::CacheLength.at(task.stack))
+        Err(Row::CacheSize.at(task.stack))
     } else if memory.len() < longest as usize {
-        Err(Refusal::MemoryTooShort.at(longest))
+        Err(Row::MemoryTooSmall.at(longest))
     } else {
         Ok(())
     }
@@ -108,21 +121,20 @@ impl<'a> Run<'a> {
     }
 
     fn all(mut self, events: &[u32], answers: &mut [u32]) -> RunResult {
-        let mut verdict = Verdict::ACCEPTED;
+        let mut ending = Ok(());
         let mut done = 0;
         for (pair, answer) in events.chunks_exact(2).zip(answers) {
             match self.event(pair[0], pair[1]) {
                 Ok(number) => *answer = number,
                 Err(row) => {
-                    verdict = row.at(done);
+                    ending = Err(row.at(done));
                     break;
                 }
             }
             done += 1;
         }
         RunResult {
-            code: verdict.code,
-            place: verdict.place,
+            ending,
             done,
             moved: self.moved,
             allowed: self.allowed,
@@ -130,9 +142,9 @@ impl<'a> Run<'a> {
     }
 
     /// Does one event and gives its answer.
-    fn event(&mut self, kind: u32, value: u32) -> Result<u32, Refusal> {
+    fn event(&mut self, kind: u32, value: u32) -> Result<u32, Row> {
         let Some(&frame) = self.frames.last() else {
-            return Err(Refusal::AfterFinish);
+            return Err(Row::AfterFinish);
         };
         let index = self.task.funcs[frame.func].first + frame.point;
         match kind {
@@ -141,7 +153,7 @@ impl<'a> Run<'a> {
                 self.preempt(index, value);
                 Ok(0)
             }
-            _ => Err(Refusal::EventKind),
+            _ => Err(Row::Kind),
         }
     }
 
@@ -153,7 +165,7 @@ impl<'a> Run<'a> {
             .preempt(point.dead as usize, point.need as usize, left);
     }
 
-    fn step(&mut self, frame: Frame, index: usize, value: u32) -> Result<u32, Refusal> {
+    fn step(&mut self, frame: Frame, index: usize, value: u32) -> Result<u32, Row> {
         let own = self.task.funcs[frame.func].frame as usize;
         let mut next = frame.point + 1;
         let mut answer = 0;
@@ -168,7 +180,7 @@ impl<'a> Run<'a> {
             Point::Either(first, second) => match value {
                 0 => next = first as usize,
                 1 => next = second as usize,
-                _ => return Err(Refusal::EitherValue),
+                _ => return Err(Row::Choice),
             },
             Point::Call(callee) => {
                 self.go(next);

@@ -3,23 +3,41 @@
 use std::fmt::Write;
 
 use crate::figures::{figures, Figures};
-use crate::refusal::{Refusal, Verdict};
+use crate::refusal::{code_and_place, Refusal, Row, Verdict};
 use crate::text::Task;
 
-/// Writes the report of a text to the front of `out`. Gives code, place and the bytes written.
-pub fn report(text: &[u8], work_len: usize, out: &mut [u8]) -> (u32, u32, u32) {
-    match written(text, work_len, out) {
-        Ok(length) => (0, 0, length),
-        Err(Verdict { code, place }) => (code, place, 0),
+/// The result of a report.
+#[derive(Clone, Copy, Debug, PartialEq, Eq)]
+pub struct WriteResult {
+    /// Acceptance, or the refusal.
+    pub verdict: Verdict,
+    /// The bytes written.
+    pub written: u32,
+}
+
+impl WriteResult {
+    /// Code, place and bytes written.
+    pub fn numbers(self) -> [u64; 3] {
+        let (code, place) = code_and_place(self.verdict);
+        [code.into(), place.into(), self.written.into()]
     }
 }
 
-fn written(text: &[u8], work_len: usize, out: &mut [u8]) -> Result<u32, Verdict> {
+/// Writes the report of a text to the front of `out`.
+pub fn report(text: &[u8], work_len: usize, out: &mut [u8]) -> WriteResult {
+    let written = written(text, work_len, out);
+    WriteResult {
+        verdict: written.map(|_| ()),
+        written: written.unwrap_or(0),
+    }
+}
+
+fn written(text: &[u8], work_len: usize, out: &mut [u8]) -> Result<u32, Refusal> {
     let task = crate::admit(text, work_len)?;
     let sheet = print(&task, &figures(&task));
     let length = sheet.len() as u32;
     let Some(front) = out.get_mut(..sheet.len()) else {
-        return Err(Refusal::OutputTooShort.at(length));
+        return Err(Row::OutputTooSmall.at(length));
     };
     front.copy_from_slice(sheet.as_bytes());
     Ok(length)

@@ -1,6 +1,6 @@
 //! The task text: its limits, its parts, and a reader for the rows 2 to 6.
 
-use crate::refusal::{Refusal, Verdict};
+use crate::refusal::{Refusal, Row};
 
 /// The most bytes of a text.
 pub const TEXT_MAX: usize = 32_768;
@@ -71,7 +71,7 @@ impl Task {
 }
 
 /// Reads a text. The first line that meets one of the rows 2 to 6 decides, with its smallest code.
-pub fn read(text: &[u8]) -> Result<Task, Verdict> {
+pub fn read(text: &[u8]) -> Result<Task, Refusal> {
     let mut reader = Reader {
         rest: text,
         line: 1,
@@ -98,7 +98,9 @@ struct Reader<'a> {
 }
 
 impl Reader<'_> {
-    fn refuse<T>(&self, row: Refusal) -> Result<T, Verdict> {
+    // Kept out of line, since it would spread the reader's loop.
+    #[cold]
+    fn refuse<T>(&self, row: Row) -> Result<T, Refusal> {
         Err(row.at(self.line))
     }
 
@@ -167,50 +169,50 @@ impl Reader<'_> {
         }
     }
 
-    fn stack_line(&mut self) -> Result<u32, Verdict> {
+    fn stack_line(&mut self) -> Result<u32, Refusal> {
         let Some(stack) = self.one(b"(stack ", b")\n") else {
-            return self.refuse(Refusal::LineForm);
+            return self.refuse(Row::Form);
         };
         let stack = u32::from(stack);
         if !(1..=STACK_MAX).contains(&stack) {
-            return self.refuse(Refusal::StackSize);
+            return self.refuse(Row::StackSize);
         }
         self.line += 1;
         Ok(stack)
     }
 
-    fn func_line(&mut self, task: &mut Task) -> Result<u32, Verdict> {
+    fn func_line(&mut self, task: &mut Task) -> Result<u32, Refusal> {
         let Some(frame) = self.one(b"(func ", b"\n") else {
-            return self.refuse(Refusal::LineForm);
+            return self.refuse(Row::Form);
         };
         let frame = u32::from(frame);
         if frame > task.stack {
-            return self.refuse(Refusal::FrameAboveStack);
+            return self.refuse(Row::FrameSize);
         }
         if task.funcs.len() == FUNCS_MAX {
-            return self.refuse(Refusal::TooMany);
+            return self.refuse(Row::TooMany);
         }
         self.line += 1;
         Ok(frame)
     }
 
     /// Reads a function from its opening line to its closing one.
-    fn func(&mut self, task: &mut Task) -> Result<(), Verdict> {
+    fn func(&mut self, task: &mut Task) -> Result<(), Refusal> {
         let line = self.line;
         let frame = self.func_line(task)?;
         let first = task.points.len();
         let mut count = 0;
         while count == 0 || self.word(b")\n").is_none() {
             let Some(point) = self.point() else {
-                return self.refuse(Refusal::LineForm);
+                return self.refuse(Row::Form);
             };
             if let Point::Load(offset) | Point::Store(offset) = point {
                 if u32::from(offset) >= frame {
-                    return self.refuse(Refusal::OffsetOutsideFrame);
+                    return self.refuse(Row::Offset);
                 }
             }
             if count == FUNC_POINTS_MAX || task.points.len() == POINTS_MAX {
-                return self.refuse(Refusal::TooMany);
+                return self.refuse(Row::TooMany);
             }
             task.points.push(point);
             count += 1;

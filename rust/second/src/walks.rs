@@ -1,6 +1,6 @@
 //! Walks inside one function: reachability, unstored offsets, and solutions over all walks.
 
-use crate::refusal::{Refusal, Verdict};
+use crate::refusal::{Row, Verdict};
 use crate::text::{Point, Task, FUNC_POINTS_MAX};
 
 const WORDS: usize = FUNC_POINTS_MAX / 64;
@@ -120,7 +120,7 @@ impl Survey {
 }
 
 /// Refuses by the rows 11, 12 and 13, in this order, each at its first line.
-pub fn check(task: &Task) -> Result<(), Verdict> {
+pub fn check(task: &Task) -> Verdict {
     let mut survey = Survey {
         called: 1,
         ..Survey::default()
@@ -130,15 +130,15 @@ pub fn check(task: &Task) -> Result<(), Verdict> {
         survey.of(task.points_of(func), func.frame);
         let absent = survey.reached.first_absent();
         if absent < func.count {
-            return Err(Refusal::Unreachable.at(func.point_line(absent)));
+            return Err(Row::Unreachable.at(func.point_line(absent)));
         }
         if let (Ok(()), Some(index)) = (unstored_load, survey.load) {
-            unstored_load = Err(Refusal::UnstoredLoad.at(func.point_line(index)));
+            unstored_load = Err(Row::Uninitialised.at(func.point_line(index)));
         }
     }
     let never = survey.called.trailing_ones() as usize;
     match task.funcs.get(never) {
-        Some(func) => Err(Refusal::NeverCalled.at(func.line)),
+        Some(func) => Err(Row::Uncalled.at(func.line)),
         None => unstored_load,
     }
 }

@@ -1,23 +1,43 @@
 //! Each limit: accepted at the limit, refused one past it.
 
-mod common;
+use second::{Row, WORK_MIN};
+use tests::{noise, report, run, steps, text, verdict, Lent, Ran, TWO};
 
-use common::{run_on, steps, text, verdict, TWO};
-use second::{check, report, run, Verdict, WORK_MIN};
+fn run_on(text: &str, cache: usize, memory: usize, events: &[u32]) -> Ran {
+    let lent = Lent::noisy(events.len() / 2, cache, memory);
+    run(text.as_bytes(), events, &lent, WORK_MIN)
+}
+
+/// Code, place and events done.
+fn ending(ran: &Ran) -> (u32, u32, u32) {
+    let (code, place) = ran.verdict();
+    (code, place, ran.result.done)
+}
 
 #[test]
 fn working_space() {
-    let short = Verdict {
-        code: 15,
-        place: 16_384,
-    };
-    assert_eq!(check(TWO.as_bytes(), 16_383), short);
-    assert_eq!(check(TWO.as_bytes(), 16_384), Verdict::ACCEPTED);
-    assert_eq!(check(TWO.as_bytes(), 16_385), Verdict::ACCEPTED);
-    let mut out = [0; 400];
-    assert_eq!(report(TWO.as_bytes(), 16_383, &mut out), (15, 16_384, 0));
-    let result = run(TWO.as_bytes(), 0, &[0], &mut [], &mut [], &mut []);
-    assert_eq!((result.code, result.place), (15, 16_384));
+    let text = TWO.as_bytes();
+    let short = Err(Row::WorkTooSmall.at(16_384));
+    for (work, wanted) in [
+        (0, short),
+        (16_383, short),
+        (16_384, Ok(())),
+        (16_385, Ok(())),
+    ] {
+        assert_eq!(second::check(text, work), wanted, "{work}");
+        let reported = report(text, 400, work);
+        assert_eq!(reported.result.verdict, wanted, "{work}");
+        let ran = run(text, &[], &Lent::noisy(0, 5, 6), work);
+        assert_eq!(ran.result.ending, wanted, "{work}");
+    }
+    // It comes before every other refusal, and nothing is touched.
+    let reported = report(&[0; 40_000], 400, 16_383);
+    assert_eq!(reported.result.numbers(), [15, 16_384, 0]);
+    assert_eq!(reported.output, noise(400));
+    let lent = Lent::noisy(1, 2, 3);
+    let ran = run(b"", &[0], &lent, 16_383);
+    assert_eq!(ran.result.numbers(), [15, 16_384, 0, 0, 0]);
+    assert_eq!(ran.lent, lent);
 }
 
 #[test]
@@ -135,61 +155,49 @@ fn points_of_a_task() {
 
 #[test]
 fn output_length() {
-    let mut out = [7; 300];
-    let (_, _, wanted) = report(TWO.as_bytes(), WORK_MIN, &mut out);
-    let length = wanted as usize;
-    let mut exact = vec![7; length];
-    assert_eq!(report(TWO.as_bytes(), WORK_MIN, &mut exact), (0, 0, wanted));
-    assert_eq!(exact, out[..length]);
-    let mut short = vec![7; length - 1];
-    let refused = report(TWO.as_bytes(), WORK_MIN, &mut short);
-    assert_eq!(refused, (14, wanted, 0));
-    assert_eq!(short, vec![7; length - 1]);
+    let text = TWO.as_bytes();
+    let long = report(text, 300, WORK_MIN);
+    let length = long.result.written as usize;
+    let wanted = length as u64;
+    let exact = report(text, length, WORK_MIN);
+    assert_eq!(exact.result.numbers(), [0, 0, wanted]);
+    assert_eq!(exact.output, long.output[..length]);
+    for short in 0..length {
+        let reported = report(text, short, WORK_MIN);
+        assert_eq!(reported.result.numbers(), [14, wanted, 0], "{short}");
+        assert_eq!(reported.output, noise(short));
+    }
 }
 
 #[test]
 fn event_count() {
     let endless = text(1, &[(1, &["store 0", "goto 0"])]);
-    let most = run_on(&endless, 1, 1, &steps(65_536, 5)).result;
-    assert_eq!((most.code, most.place, most.done), (0, 0, 65_536));
-    let odd = run_on(&endless, 1, 1, &vec![0; 131_071]).result;
-    assert_eq!((odd.code, odd.place, odd.done), (16, 0, 0));
-    let long = run_on(&endless, 1, 1, &steps(65_537, 5)).result;
-    assert_eq!((long.code, long.place, long.done), (16, 0, 0));
+    let most = run_on(&endless, 1, 1, &steps(65_536, 5));
+    assert_eq!(ending(&most), (0, 0, 65_536));
+    let odd = run_on(&endless, 1, 1, &vec![0; 131_071]);
+    assert_eq!(ending(&odd), (16, 0, 0));
+    let long = run_on(&endless, 1, 1, &steps(65_537, 5));
+    assert_eq!(ending(&long), (16, 0, 0));
 }
 
 #[test]
 fn lent_lengths() {
-    let on = |cache, memory| {
-        let result = run_on(TWO, cache, memory, &steps(1, 3)).result;
-        (result.code, result.place, result.done)
-    };
+    let on = |cache, memory| ending(&run_on(TWO, cache, memory, &steps(1, 3)));
     assert_eq!(on(5, 6), (0, 0, 1));
     assert_eq!(on(4, 6), (18, 5, 0));
     assert_eq!(on(6, 6), (18, 5, 0));
     assert_eq!(on(5, 5), (19, 6, 0));
-    let mut answers = [9; 6];
-    let mut call = |count| {
-        let events = steps(count, 3);
-        let (mut cache, mut memory) = ([9; 5], [9; 6]);
-        let text = TWO.as_bytes();
-        let result = run(
-            text,
-            WORK_MIN,
-            &events,
-            &mut answers,
-            &mut cache,
-            &mut memory,
-        );
-        (result.code, result.place, result.done)
+    let answers = |count| {
+        let lent = Lent::noisy(6, 5, 6);
+        ending(&run(TWO.as_bytes(), &steps(count, 3), &lent, WORK_MIN))
     };
-    assert_eq!(call(7), (17, 7, 0));
-    assert_eq!(call(6), (0, 0, 6));
+    assert_eq!(answers(7), (17, 7, 0));
+    assert_eq!(answers(6), (0, 0, 6));
 }
 
 #[test]
 fn task_without_memory() {
     let empty = text(1, &[(0, &["return"])]);
-    let result = run_on(&empty, 1, 0, &[1, 4, 0, 0]).result;
-    assert_eq!((result.code, result.done, result.moved), (0, 2, 0));
+    let ran = run_on(&empty, 1, 0, &[1, 4, 0, 0]);
+    assert_eq!((ending(&ran), ran.result.moved), ((0, 0, 2), 0));
 }

@@ -1,15 +1,7 @@
 //! The order of the refusals, and the line that each names.
 
-mod common;
-
-use common::{run_on, steps, text, verdict, TWO};
-use second::{check, report, run, WORK_MIN};
-
-#[test]
-fn working_space_before_text_length() {
-    let verdict = check(&[0; 40_000], 5);
-    assert_eq!((verdict.code, verdict.place), (15, 16_384));
-}
+use second::WORK_MIN;
+use tests::{report, run, steps, text, verdict, Lent, TWO};
 
 #[test]
 fn forms_of_lines() {
@@ -203,26 +195,16 @@ fn row_13_names_the_first_load_by_line() {
 #[test]
 fn report_length_after_the_checks() {
     let refused = text(5, &[(1, &["load 0", "return"])]);
-    assert_eq!(report(refused.as_bytes(), WORK_MIN, &mut []), (13, 3, 0));
+    let reported = report(refused.as_bytes(), 0, WORK_MIN);
+    assert_eq!(reported.result.numbers(), [13, 3, 0]);
 }
 
 /// Lengths that meet the rows 16 to 19 together, mended one after another.
 #[test]
 fn rows_16_to_19() {
     let of = |events: &[u32], answers, cache, memory| {
-        let mut answers = vec![0; answers];
-        let mut cache = vec![0; cache];
-        let mut memory = vec![0; memory];
-        let text = TWO.as_bytes();
-        let result = run(
-            text,
-            WORK_MIN,
-            events,
-            &mut answers,
-            &mut cache,
-            &mut memory,
-        );
-        (result.code, result.place)
+        let lent = Lent::noisy(answers, cache, memory);
+        run(TWO.as_bytes(), events, &lent, WORK_MIN).verdict()
     };
     assert_eq!(of(&[0, 0, 0], 0, 0, 0), (16, 0));
     assert_eq!(of(&[0, 0, 7, 0], 1, 0, 0), (17, 2));
@@ -235,11 +217,12 @@ fn rows_16_to_19() {
 fn rows_of_one_event() {
     let of = |events: &[u32]| {
         let text = text(1, &[(0, &["either 1 1", "return"])]);
-        let held = run_on(&text, 1, 0, events);
-        assert!(held.answers[held.result.done as usize..]
-            .iter()
-            .all(|&answer| answer == 9));
-        (held.result.code, held.result.place, held.result.done)
+        let lent = Lent::noisy(events.len() / 2, 1, 0);
+        let ran = run(text.as_bytes(), events, &lent, WORK_MIN);
+        let done = ran.result.done as usize;
+        assert_eq!(ran.lent.answers[done..], lent.answers[done..]);
+        let (code, place) = ran.verdict();
+        (code, place, ran.result.done)
     };
     assert_eq!(of(&[0, 2]), (21, 0, 0));
     assert_eq!(of(&[2, 2]), (20, 0, 0));
@@ -252,9 +235,13 @@ fn rows_of_one_event() {
 #[test]
 fn refused_event_leaves_the_rest() {
     let events = [steps(4, 3), vec![2, 0], steps(3, 3)].concat();
-    let held = run_on(TWO, 5, 6, &events);
-    assert_eq!((held.result.code, held.result.place), (20, 4));
-    assert_eq!((held.result.moved, held.result.allowed), (1, 1));
-    assert_eq!(held.answers, [0, 0, 0, 3, 9, 9, 9, 9]);
-    assert_eq!(held.memory, [9, 9, 9, 9, 9, 3]);
+    let lent = Lent {
+        answers: vec![9; 8],
+        cache: vec![9; 5],
+        memory: vec![9; 6],
+    };
+    let ran = run(TWO.as_bytes(), &events, &lent, WORK_MIN);
+    assert_eq!(ran.result.numbers(), [20, 4, 4, 1, 1]);
+    assert_eq!(ran.lent.answers, [0, 0, 0, 3, 9, 9, 9, 9]);
+    assert_eq!(ran.lent.memory, [9, 9, 9, 9, 9, 3]);
 }

@@ -1,9 +1,12 @@
-//! Check against a plain evaluation of each row by itself, on generated texts.
+//! Check, in the archive and in the second implementation, against a plain evaluation of each row by itself.
 
 use generate::Case;
-use second::{check, Verdict, WORK_MIN};
+use tests::{text, verdict};
 
 const TEXTS: u64 = 10_000;
+
+/// Code and place, both 0 for acceptance.
+type Answer = (u32, u32);
 
 /// A line taken apart: its word and its numbers.
 type Line = (&'static str, Vec<usize>);
@@ -104,17 +107,17 @@ impl Sofar {
 }
 
 /// The functions of a text, or its refusal by the rows 2 to 6.
-fn read(text: &[u8]) -> Result<Vec<Func>, Verdict> {
+fn read(text: &[u8]) -> Result<Vec<Func>, Answer> {
     let mut sofar = Sofar::default();
     let mut place = 1;
     for bytes in text.split_inclusive(|&byte| byte == b'\n') {
         let taken = sofar.take(place, bytes);
-        taken.map_err(|code| Verdict { code, place })?;
+        taken.map_err(|code| (code, place))?;
         place += 1;
     }
     match sofar.word {
         "end" => Ok(sofar.funcs),
-        _ => Err(Verdict { code: 2, place }),
+        _ => Err((2, place)),
     }
 }
 
@@ -171,31 +174,29 @@ fn unstored(func: &Func) -> Option<usize> {
 }
 
 /// The refusal at the first point in text order that `row` gives for a function.
-fn first(
-    funcs: &[Func],
-    code: u32,
-    row: impl Fn(usize, &Func) -> Option<usize>,
-) -> Option<Verdict> {
+fn first(funcs: &[Func], code: u32, row: impl Fn(usize, &Func) -> Option<usize>) -> Option<Answer> {
     funcs.iter().enumerate().find_map(|(number, func)| {
         let index = row(number, func)?;
-        let place = func.line + 1 + index as u32;
-        Some(Verdict { code, place })
+        Some((code, func.line + 1 + index as u32))
     })
 }
 
-fn never_called(funcs: &[Func]) -> Option<Verdict> {
+fn never_called(funcs: &[Func]) -> Option<Answer> {
     let number = (1..funcs.len()).find(|&callee| {
         let call = ("call", vec![callee]);
         !funcs.iter().any(|func| func.points.contains(&call))
     })?;
-    let place = funcs[number].line;
-    Some(Verdict { code: 12, place })
+    Some((12, funcs[number].line))
 }
 
-fn by_rows(text: &[u8]) -> Verdict {
+/// What check has to answer.
+fn by_rows(text: &[u8]) -> Answer {
+    if text.len() > 32_768 {
+        return (1, 0);
+    }
     let funcs = match read(text) {
         Ok(funcs) => funcs,
-        Err(verdict) => return verdict,
+        Err(answer) => return answer,
     };
     let links = (7..=10).filter_map(|code| {
         first(&funcs, code, |number, func| {
@@ -203,18 +204,17 @@ fn by_rows(text: &[u8]) -> Verdict {
         })
     });
     links
-        .min_by_key(|verdict| (verdict.place, verdict.code))
+        .min_by_key(|&(code, place)| (place, code))
         .or_else(|| first(&funcs, 11, |_, func| unreached(func)))
         .or_else(|| never_called(&funcs))
         .or_else(|| first(&funcs, 13, |_, func| unstored(func)))
-        .unwrap_or(Verdict::ACCEPTED)
+        .unwrap_or((0, 0))
 }
 
 fn compare(make: fn(u64) -> Case, first: u64, count: u64) {
     for seed in first..first + count {
         let case = make(seed);
-        let wanted = by_rows(&case.text);
-        assert_eq!(check(&case.text, WORK_MIN), wanted, "{case}");
+        assert_eq!(verdict(&case.text), by_rows(&case.text), "{case}");
     }
 }
 
@@ -231,4 +231,57 @@ fn near_valid_texts() {
 #[test]
 fn valid_texts() {
     compare(generate::valid, 3_000_000, 2_000);
+}
+
+#[test]
+fn refused_vectors() {
+    for (name, text, code, place) in vectors::refused() {
+        assert_eq!(by_rows(&text), (code, place), "case {name}");
+    }
+}
+
+/// The points of the small functions, with numbers at and past their limits.
+fn small_points() -> Vec<String> {
+    let mut points = vec!["return".to_string()];
+    for number in 0..3 {
+        for word in ["load", "store", "call", "ensure"] {
+            points.push(format!("{word} {number}"));
+        }
+    }
+    for first in 0..4 {
+        points.push(format!("goto {first}"));
+        points.extend((0..4).map(|second| format!("either {first} {second}")));
+    }
+    points
+}
+
+/// Every function of up to three such points, with each frame up to 2, alone and before a second function that returns.
+#[test]
+fn every_small_text() {
+    let points = small_points();
+    let mut met = [0; 14];
+    let mut judge = |points: &[&str]| {
+        for frame in 0..3 {
+            let funcs: [(usize, &[&str]); 2] = [(frame, points), (0, &["return"])];
+            for count in 1..=2 {
+                let text = text(2, &funcs[..count]);
+                let answer = verdict(&text);
+                assert_eq!(answer, by_rows(text.as_bytes()), "{text}");
+                met[answer.0 as usize] += 1;
+            }
+        }
+    };
+    for first in &points {
+        judge(&[first]);
+        for second in &points {
+            judge(&[first, second]);
+            for third in &points {
+                judge(&[first, second, third]);
+            }
+        }
+    }
+    assert_eq!(met.iter().sum::<usize>(), 6 * (33 + 33 * 33 + 33 * 33 * 33));
+    for code in [0, 5, 7, 8, 9, 10, 11, 12, 13] {
+        assert!(met[code] > 0, "code {code} was not met");
+    }
 }

@@ -1,10 +1,8 @@
 //! The examples that settle the rules, and one task for each known wrong turn.
 
-mod common;
-
-use common::{run_on, steps, text, verdict, TWO};
 use second::figures::{figures, PointFigures};
-use second::{admit, check, machine, plain, report, RunResult, Verdict, WORK_MIN};
+use second::{admit, machine, plain, Row, RunResult, WriteResult, WORK_MIN};
+use tests::{is_noise_from, report, run, steps, text, verdict, Lent, Ran, TWO};
 
 const TWO_REPORT: &str = "(report
   (func 0 2 6 6 0 0)
@@ -25,16 +23,35 @@ fn point_figures(text: &str) -> Vec<PointFigures> {
     figures(&task).points
 }
 
+/// Runs a text with a cache and a memory of these lengths, all their numbers 9.
+fn run_on(text: &str, cache: usize, memory: usize, events: &[u32]) -> Ran {
+    let lent = Lent {
+        answers: vec![9; events.len() / 2],
+        cache: vec![9; cache],
+        memory: vec![9; memory],
+    };
+    run(text.as_bytes(), events, &lent, WORK_MIN)
+}
+
 /// Runs a text and requires that the plain stack gives the same.
 fn run_like_plain(text: &str, cache: usize, memory: usize, events: &[u32]) -> RunResult {
-    let held = run_on(text, cache, memory, events);
+    let ran = run_on(text, cache, memory, events);
     let plain = plain::run(text.as_bytes(), events).expect("an accepted text");
-    let result = held.result;
-    let shared = (result.code, result.place, result.done);
-    assert_eq!(shared, (plain.code, plain.place, plain.done));
-    assert_eq!(held.answers[..plain.answers.len()], plain.answers);
+    let result = ran.result;
+    assert_eq!((result.ending, result.done), (plain.ending, plain.done));
+    assert_eq!(ran.lent.answers[..plain.answers.len()], plain.answers);
     assert!(result.moved <= result.allowed);
     result
+}
+
+/// The result of a run whose events are all done.
+fn all_done(done: u32, moved: u64, allowed: u64) -> RunResult {
+    RunResult {
+        ending: Ok(()),
+        done,
+        moved,
+        allowed,
+    }
 }
 
 #[test]
@@ -56,51 +73,44 @@ fn free() {
 
 #[test]
 fn report_of_two() {
-    let mut out = [7; 400];
     let length = TWO_REPORT.len();
-    let result = report(TWO.as_bytes(), WORK_MIN, &mut out);
-    assert_eq!(result, (0, 0, length as u32));
-    assert_eq!(&out[..length], TWO_REPORT.as_bytes());
-    assert!(out[length..].iter().all(|&byte| byte == 7));
+    let reported = report(TWO.as_bytes(), 400, WORK_MIN);
+    let accepted = WriteResult {
+        verdict: Ok(()),
+        written: length as u32,
+    };
+    assert_eq!(reported.result, accepted);
+    assert_eq!(&reported.output[..length], TWO_REPORT.as_bytes());
+    assert!(is_noise_from(length, &reported.output[length..]));
 }
 
 #[test]
 fn run_of_two_without_preemption() {
     let result = run_like_plain(TWO, 5, 6, &steps(7, 3));
-    let wanted = RunResult {
-        done: 7,
-        moved: 2,
-        allowed: 2,
-        ..RunResult::default()
-    };
-    assert_eq!(result, wanted);
+    assert_eq!(result, all_done(7, 2, 2));
 }
 
 #[test]
 fn run_of_two_with_a_preemption() {
     let events = [steps(3, 3), vec![1, 8], steps(4, 3)].concat();
     let result = run_like_plain(TWO, 5, 6, &events);
-    let wanted = RunResult {
-        done: 8,
-        moved: 9,
-        allowed: 9,
-        ..RunResult::default()
-    };
-    assert_eq!(result, wanted);
+    assert_eq!(result, all_done(8, 9, 9));
 }
 
 #[test]
 fn run_without_events() {
-    let held = run_on(TWO, 5, 6, &[]);
-    assert_eq!(held.result, RunResult::default());
-    assert_eq!((held.cache, held.memory), (vec![9; 5], vec![9; 6]));
+    let ran = run_on(TWO, 5, 6, &[]);
+    assert_eq!(ran.result, all_done(0, 0, 0));
+    let held = (ran.lent.cache, ran.lent.memory);
+    assert_eq!(held, (vec![9; 5], vec![9; 6]));
 }
 
 #[test]
 fn run_to_the_end() {
     let events = [steps(2, 3), steps(6, 4)].concat();
-    let held = run_on(TWO, 5, 7, &events);
-    assert_eq!((held.result.code, held.result.done), (0, 8));
+    let ran = run_on(TWO, 5, 7, &events);
+    assert_eq!((ran.result.ending, ran.result.done), (Ok(()), 8));
+    let held = ran.lent;
     assert_eq!(held.answers, [0, 0, 0, 4, 0, 0, 3, 0]);
     // Offset 1 of function 0 is address 6, in block 1: spilled by the call, filled by the ensure.
     assert_eq!(held.memory, [9, 9, 9, 9, 9, 9, 3]);
@@ -131,9 +141,8 @@ fn load_without_frame() {
 
 #[test]
 fn code_and_place_as_one_number() {
-    assert_eq!(check(b"", WORK_MIN).packed(), 2 * 65_536 + 1);
-    assert_eq!(Verdict::ACCEPTED.packed(), 0);
-    assert_eq!(check(b"", 0).packed(), 15 * 65_536 + 16_384);
+    assert_eq!(Row::Form.at(1).packed(), 2 * 65_536 + 1);
+    assert_eq!(Row::WorkTooSmall.at(16_384).packed(), 15 * 65_536 + 16_384);
 }
 
 /// A preemption two calls deep makes the ensures of both callers fill.
@@ -184,7 +193,7 @@ fn occupancy_covers_a_coming_store() {
     assert_eq!((at.dead, at.need), (0, 2));
     let events = [steps(1, 3), vec![1, 8], steps(9, 4)].concat();
     let result = run_like_plain(&text, 2, 4, &events);
-    assert_eq!((result.code, result.done), (0, 11));
+    assert_eq!((result.ending, result.done), (Ok(()), 11));
 }
 
 /// One branch stores the offset, the other loads it: it is live before the branch.

@@ -1,10 +1,11 @@
-//! The figures again, by searching the walks themselves, on generated tasks.
+//! The figures and the report again, by searching the walks themselves, on generated tasks.
 
 use std::collections::HashSet;
 
-use second::figures::{figures, FuncFigures, PointFigures};
+use second::figures::{figures, Figures, FuncFigures, PointFigures};
 use second::text::{Point, Task};
-use second::{admit, WORK_MIN};
+use second::{admit, sheet, WORK_MIN};
+use tests::report;
 
 /// The points that a point leads to.
 fn leads(point: Point, index: usize) -> Vec<usize> {
@@ -201,6 +202,10 @@ fn figures_equal_a_search_over_walks() {
         let got = figures(&task);
         assert_eq!(got.funcs, search.funcs, "{case}");
         assert_eq!(got.points, search.points, "{case}");
+        let (funcs, points) = (search.funcs, search.points);
+        let wanted = sheet::print(&task, &Figures { funcs, points });
+        let reported = report(&case.text, wanted.len(), WORK_MIN);
+        assert!(reported.output == wanted.as_bytes(), "{case}");
         compared += 1;
     }
     assert!(compared > 2_000);

@@ -1,0 +1,15 @@
+//! Each service, called in the proved archive and in the second implementation. The two have to agree, and in the archive nothing but what
+//! the rules name may change. Report and run are called in the archive under the features `report` and `run`.
+
+mod guarded;
+mod services;
+mod texts;
+
+pub use guarded::{is_noise_from, noise, Guarded, Noise};
+pub use services::{check, report, run, verdict, Lent, Ran, Reported};
+pub use texts::{steps, text, TWO};
+
+#[cfg(feature = "report")]
+pub use services::raw_report;
+#[cfg(feature = "run")]
+pub use services::raw_run;

@@ -1,0 +1,62 @@
+//! The rows of the table of refusals have the same names and codes in the model, in the binding and in the second implementation, and the
+//! header lists what check can return.
+
+use std::path::{Path, PathBuf};
+
+fn root(path: &str) -> PathBuf {
+    Path::new(env!("CARGO_MANIFEST_DIR"))
+        .join("../..")
+        .join(path)
+}
+
+/// The words between `start` and the next `}` in a file.
+fn variants(path: &str, start: &str) -> Vec<String> {
+    let text = vectors::read_text(&root(path));
+    let at = text.find(start).expect("the declaration is there") + start.len();
+    let body = text[at..].split('}').next().expect("it ends");
+    let names = body.split(',').map(|name| name.trim().to_string());
+    names.filter(|name| !name.is_empty()).collect()
+}
+
+/// Names with their codes, by code.
+fn sorted(mut rows: Vec<(String, u32)>) -> Vec<(String, u32)> {
+    rows.sort_by_key(|row| row.1);
+    rows
+}
+
+/// The equations `codeOf NAME = NUMBER` of the model.
+fn in_model() -> Vec<(String, u32)> {
+    let text = vectors::read_text(&root("crates/model/specs/Rows.antt"));
+    let equation = |line: &str| {
+        let (name, number) = line.strip_prefix("codeOf ")?.split_once(" = ")?;
+        Some((name.to_string(), number.parse().ok()?))
+    };
+    sorted(text.lines().filter_map(equation).collect())
+}
+
+#[test]
+fn rows_agree() {
+    let model = in_model();
+    assert_eq!(model.len(), 22);
+    let mut declared = variants("crates/model/src/lib.rt", "pub enum Row {");
+    declared.sort();
+    let mut named: Vec<String> = model.iter().map(|row| row.0.clone()).collect();
+    named.sort();
+    assert_eq!(declared, named);
+    let binding = felknost::Row::ALL.map(|row| (format!("{row:?}"), row.code()));
+    assert_eq!(binding.to_vec(), model);
+    let second = second::Row::ALL.map(|row| (format!("{row:?}"), row.code()));
+    assert_eq!(second.to_vec(), model);
+}
+
+/// The lines of the header that begin with a code.
+#[test]
+fn header_lists_the_codes_of_check() {
+    let text = vectors::read_text(&root("include/felknost.h"));
+    let codes: Vec<u32> = text
+        .lines()
+        .filter_map(|line| line.strip_prefix(" *")?.split_once("  "))
+        .filter_map(|(_, rest)| rest.trim_start().split("  ").next()?.parse().ok())
+        .collect();
+    assert_eq!(codes, (1..=13).collect::<Vec<u32>>());
+}

@@ -1,0 +1,206 @@
+//! Run on generated event lists, against the plain stack and within what the sheet allows.
+
+use std::collections::BTreeMap;
+
+use generate::RunCase;
+use second::{code_and_place, plain, RunResult, WORK_MIN};
+use tests::{run, Lent, Ran};
+
+/// The tasks of the random lists, and how many lists each has.
+const TASKS: u64 = 20_000;
+const LISTS: usize = 10;
+
+/// The small tasks whose event lists are all tried, their most points, and the most events of a list.
+const SMALL: u64 = 400;
+const POINTS: usize = 6;
+const EVENTS: usize = 7;
+
+fn lent(case: &generate::Lent) -> Lent {
+    Lent {
+        answers: case.answers.clone(),
+        cache: case.cache.clone(),
+        memory: case.memory.clone(),
+    }
+}
+
+/// Runs an event list, and requires that ending, events done and answers are the plain stack's, that the other answers are as they were, and
+/// that no more is moved than is allowed.
+fn run_like_plain(text: &[u8], case: &generate::Lent, work: usize) -> RunResult {
+    let lent = lent(case);
+    let ran = run(text, &case.events, &lent, work);
+    let plain = plain::run(text, &case.events).expect("an accepted text");
+    let result = ran.result;
+    assert_eq!((result.ending, result.done), (plain.ending, plain.done));
+    let (done, rest) = ran.lent.answers.split_at(plain.answers.len());
+    assert_eq!(done, plain.answers);
+    assert_eq!(rest, &lent.answers[done.len()..]);
+    assert!(result.moved <= result.allowed, "{result:?}");
+    result
+}
+
+fn run_case(case: &RunCase) -> Ran {
+    run(&case.text, &case.lent.events, &lent(&case.lent), WORK_MIN)
+}
+
+fn preempts(events: &[u32]) -> bool {
+    events.chunks_exact(2).any(|event| event[0] == 1)
+}
+
+#[test]
+fn runs_agree_with_the_plain_stack() {
+    let mut codes = BTreeMap::new();
+    let (mut preempted, mut tight) = (0, 0);
+    for seed in 0..TASKS {
+        for case in generate::runs(seed, LISTS) {
+            let got = run_like_plain(&case.text, &case.lent, WORK_MIN + seed as usize % 3);
+            *codes.entry(code_and_place(got.ending).0).or_insert(0u32) += 1;
+            preempted += u32::from(preempts(&case.lent.events));
+            tight += u32::from(got.moved == got.allowed && got.moved > 0);
+        }
+    }
+    let all = TASKS as usize * LISTS;
+    println!("codes of {all} runs: {codes:?}; {preempted} with a preemption, {tight} at the bound");
+    assert!([0, 20, 21, 22].iter().all(|code| codes.contains_key(code)));
+}
+
+#[test]
+fn runs_with_lengths_that_do_not_fit_change_nothing() {
+    let mut codes = BTreeMap::new();
+    for seed in 0..4_000 {
+        let case = generate::unfit_run(seed);
+        let ran = run_case(&case);
+        let (code, _) = ran.verdict();
+        assert!((16..=19).contains(&code), "{case}");
+        assert_eq!(ran.result.numbers()[2..], [0, 0, 0], "{case}");
+        assert_eq!(ran.lent, lent(&case.lent), "{case}");
+        *codes.entry(code).or_insert(0u32) += 1;
+    }
+    println!("codes of runs with a length that does not fit: {codes:?}");
+    assert_eq!(codes.len(), 4);
+}
+
+#[test]
+fn runs_of_refused_texts_change_nothing() {
+    for seed in 0..4_000 {
+        let case = generate::damaged(seed + 7_000_000);
+        let Err(refusal) = second::check(&case.text, WORK_MIN) else {
+            continue;
+        };
+        let lent = Lent::noisy(2, 4, 9);
+        let ran = run(&case.text, &[0, 1, 1, 0], &lent, WORK_MIN + 2);
+        assert_eq!(ran.result.ending, Err(refusal), "{case}");
+        assert_eq!(ran.result.numbers()[2..], [0, 0, 0], "{case}");
+        assert_eq!(ran.lent, lent, "{case}");
+    }
+}
+
+/// Every event list of up to `EVENTS` events on tasks of up to `POINTS` points.
+#[test]
+fn every_list_of_small_tasks() {
+    let mut lists = 0;
+    for seed in 0..SMALL {
+        let small = generate::small(seed, POINTS);
+        small.every_list(EVENTS, |events| {
+            run_like_plain(&small.text, &small.lent(events), WORK_MIN);
+            lists += 1;
+        });
+    }
+    println!("{lists} lists of up to {EVENTS} events on {SMALL} tasks of up to {POINTS} points");
+    assert!(lists > 100_000);
+}
+
+/// Prints how tight the sheet is: for each task, the largest part of what is allowed that a list with a preemption moves.
+#[test]
+fn tightness() {
+    let mut small = [0; 11];
+    for seed in 0..SMALL / 4 {
+        let task = generate::small(seed + 1_000_000, POINTS);
+        let mut best = None;
+        task.every_list(EVENTS, |events| {
+            if preempts(events) {
+                let ran = run_like_plain(&task.text, &task.lent(events), WORK_MIN);
+                best = best.max(tenths(ran));
+            }
+        });
+        count(&mut small, best);
+    }
+    let mut large = [0; 11];
+    for seed in 0..1_000 {
+        let cases = generate::runs(seed + 2_000_000, 20);
+        let ran = cases
+            .iter()
+            .filter(|case| preempts(&case.lent.events))
+            .map(run_case);
+        let best = ran.filter_map(|ran| tenths(ran.result)).max();
+        count(&mut large, best);
+    }
+    println!("tasks by the largest moved / allowed found, in tenths from 0 to 10:");
+    println!("  up to {POINTS} points, every list of up to {EVENTS} events: {small:?}");
+    println!("  any size, 20 random lists each: {large:?}");
+    assert!(small[10] > 0 && large[10] > 0);
+}
+
+fn count(tasks: &mut [u32; 11], best: Option<usize>) {
+    if let Some(tenths) = best {
+        tasks[tenths] += 1;
+    }
+}
+
+/// Moved by allowed in tenths, rounded down, where something is allowed.
+fn tenths(result: RunResult) -> Option<usize> {
+    let tenths = (10 * result.moved).checked_div(result.allowed)?;
+    Some(tenths as usize)
+}
+
+/// What only the archive can show.
+#[cfg(feature = "run")]
+mod in_archive {
+    use super::*;
+    use felknost::{Refusal, Row};
+    use tests::{noise, raw_run, steps, Guarded, TWO};
+
+    #[test]
+    fn a_result_that_is_too_short_leaves_all_as_it_was() {
+        for length in 0..5 {
+            let mut answers = Guarded::noisy(7);
+            let mut cache = Guarded::noisy(5);
+            let mut memory = Guarded::noisy(6);
+            let mut work = Guarded::noisy(WORK_MIN);
+            let mut result = Guarded::noisy(length);
+            let answer = raw_run(
+                TWO.as_bytes(),
+                &steps(7, 3),
+                answers.lent(),
+                cache.lent(),
+                memory.lent(),
+                work.lent(),
+                result.lent(),
+            );
+            assert_eq!(answer, 0);
+            assert_eq!(answers.held("the answers"), noise::<u32>(7));
+            assert_eq!(cache.held("the cache"), noise::<u32>(5));
+            assert_eq!(memory.held("the memory"), noise::<u32>(6));
+            assert_eq!(work.held("the working space"), noise::<u32>(WORK_MIN));
+            assert_eq!(result.held("the result"), noise::<u64>(length));
+        }
+    }
+
+    #[test]
+    fn binding() {
+        let mut answers = [7; 7];
+        let (mut cache, mut memory) = ([7; 5], [7; 6]);
+        let mut work = vec![7; felknost::WORK];
+        let mut call = |events: &[u32], answers: &mut [u32]| {
+            let text = TWO.as_bytes();
+            felknost::run(text, events, answers, &mut cache, &mut memory, &mut work)
+        };
+        let ran = call(&steps(7, 3), &mut answers);
+        assert_eq!((ran.ending, ran.done), (Ok(()), 7));
+        assert_eq!((ran.moved, ran.allowed), (2, 2));
+        assert_eq!(answers, [0, 0, 0, 3, 0, 0, 3]);
+        let place = 7;
+        let row = Row::AnswersTooSmall;
+        let short = call(&steps(7, 3), &mut answers[..6]);
+        assert_eq!(short.ending, Err(Refusal { row, place }));
+    }
+}
