@@ -16,7 +16,7 @@ use Rattle.machine.specs.Moves.{Good}
 pub good-as : {c d : Core} → c ≡ d → Good d → Good c
 good-as e g = rw e g
 
--- ---- the moves
+-- ---- each move leaves a good core
 
 module _ (c : Core) (g : Good c) where
   pub reserve-good : (k : ℕ) → k ≤ c .st → Good (reserve k c .core)
@@ -56,7 +56,8 @@ module _ (c : Core) (g : Good c) where
       let l : length (resume dead need c .core .cache) ≡ length (c .cache) = length-filled _ _ _ _ in
       record { nonempty = omega (arith, l); fits = omega (arith, l); inside = omega arith }
 
--- and the most that it moves
+-- ---- the most blocks that each moves
+
 module _ (c : Core) where
   pub reserve-blocks : (k : ℕ) → c .occupancy ≤ length (c .cache) → reserve k c .blocks ≤ k
   unfolding reserve
@@ -74,7 +75,7 @@ module _ (c : Core) where
   unfolding resume
   resume-blocks dead need = omega arith
 
--- ---- the start
+-- ---- a start
 
 pub idle-good : (cache memory : List ℕ) → 0 < length cache → Good (idle cache memory)
 idle-good cache memory h = record { nonempty = h; fits = omega arith; inside = omega arith }
