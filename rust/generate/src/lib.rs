@@ -55,6 +55,8 @@ impl fmt::Display for Case {
 pub struct RunCase {
     /// The seed that makes this case.
     pub seed: u64,
+    /// Which of the lists of this seed it is, from 0.
+    pub list: usize,
     /// The text.
     pub text: Vec<u8>,
     /// The events, answers, cache and memory.
@@ -64,7 +66,8 @@ pub struct RunCase {
 impl fmt::Display for RunCase {
     fn fmt(&self, out: &mut fmt::Formatter) -> fmt::Result {
         let events = self.lent.events.len() / 2;
-        write!(out, "run seed {} with {events} events", self.seed)
+        let RunCase { seed, list, .. } = self;
+        write!(out, "run seed {seed} list {list} with {events} events")
     }
 }
 
@@ -107,17 +110,6 @@ pub fn damaged(seed: u64) -> Case {
     }
 }
 
-/// A valid task with lengths that fit and some bad events.
-pub fn run(seed: u64) -> RunCase {
-    let mut rng = Rng::new(seed);
-    let task = valid::task(&mut rng);
-    RunCase {
-        seed,
-        text: task.text(),
-        lent: events::lent(&mut rng, &task),
-    }
-}
-
 /// A valid task with one length that does not fit.
 pub fn unfit_run(seed: u64) -> RunCase {
     let mut rng = Rng::new(seed);
@@ -126,24 +118,24 @@ pub fn unfit_run(seed: u64) -> RunCase {
     events::unfit(&mut rng, &task, &mut lent);
     RunCase {
         seed,
+        list: 0,
         text: task.text(),
         lent,
     }
 }
 
-/// A valid task with `count` event lists, and lengths that fit each.
+/// A valid task with `count` event lists, some of which have bad events, and lengths that fit each.
 pub fn runs(seed: u64, count: usize) -> Vec<RunCase> {
     let mut rng = Rng::new(seed);
     let task = valid::task(&mut rng);
     let text = task.text();
-    let case = |lent| RunCase {
+    let case = |list| RunCase {
         seed,
+        list,
         text: text.clone(),
-        lent,
+        lent: events::lent(&mut rng, &task),
     };
-    (0..count)
-        .map(|_| case(events::lent(&mut rng, &task)))
-        .collect()
+    (0..count).map(case).collect()
 }
 
 /// A valid task of few points.

@@ -3,41 +3,45 @@
 use std::io::Write;
 use std::process::ExitCode;
 
+use generate::{Case, RunCase};
+
+const USAGE: &str =
+    "usage: generate valid|near|damaged|unfit SEED | run SEED LIST | small SEED POINTS";
+
 fn main() -> ExitCode {
     let arguments: Vec<String> = std::env::args().skip(1).collect();
-    let seed = arguments.get(1).and_then(|seed| seed.parse().ok());
-    let (Some(kind), Some(seed)) = (arguments.first(), seed) else {
-        eprintln!("usage: generate valid|near|damaged|run|unfit SEED");
-        return ExitCode::FAILURE;
-    };
-    let (title, text, lent) = match kind.as_str() {
-        "valid" | "near" | "damaged" => {
-            let case = match kind.as_str() {
-                "valid" => generate::valid(seed),
-                "near" => generate::near(seed),
-                _ => generate::damaged(seed),
-            };
-            (case.to_string(), case.text, None)
+    match case(&arguments) {
+        Some((title, text)) => {
+            eprintln!("{title}");
+            match std::io::stdout().write_all(&text) {
+                Ok(()) => ExitCode::SUCCESS,
+                Err(_) => ExitCode::FAILURE,
+            }
         }
-        "run" | "unfit" => {
-            let case = match kind.as_str() {
-                "run" => generate::run(seed),
-                _ => generate::unfit_run(seed),
-            };
-            (case.to_string(), case.text, Some(case.lent))
+        None => {
+            eprintln!("{USAGE}");
+            ExitCode::FAILURE
         }
-        _ => {
-            eprintln!("unknown kind {kind}");
-            return ExitCode::FAILURE;
-        }
-    };
-    eprintln!("{title}");
-    let written = std::io::stdout().write_all(&text);
-    if let Some(lent) = lent {
-        eprintln!("{lent:?}");
     }
-    match written {
-        Ok(()) => ExitCode::SUCCESS,
-        Err(_) => ExitCode::FAILURE,
+}
+
+/// What the arguments name, and its text.
+fn case(arguments: &[String]) -> Option<(String, Vec<u8>)> {
+    let kind = arguments.first()?.as_str();
+    let seed = arguments.get(1)?.parse().ok()?;
+    let number = arguments.get(2).and_then(|number| number.parse().ok());
+    let of_text = |case: Case| Some((case.to_string(), case.text));
+    let of_run = |case: RunCase| Some((format!("{case}\n{:?}", case.lent), case.text));
+    match (kind, number) {
+        ("valid", None) => of_text(generate::valid(seed)),
+        ("near", None) => of_text(generate::near(seed)),
+        ("damaged", None) => of_text(generate::damaged(seed)),
+        ("unfit", None) => of_run(generate::unfit_run(seed)),
+        ("run", Some(list)) => of_run(generate::runs(seed, list + 1).pop()?),
+        ("small", Some(most)) => {
+            let small = generate::small(seed, most);
+            Some((small.to_string(), small.text))
+        }
+        _ => None,
     }
 }

@@ -187,33 +187,47 @@ fn set_targets(rng: &mut Rng, points: &mut [Point]) {
     }
 }
 
-/// The first point that no walk from point 0 reaches.
-fn first_unreached(points: &[Point]) -> Option<usize> {
-    let mut reached = vec![false; points.len()];
-    let mut pending = vec![0];
+/// Marks the points of walks from `start`, but for those behind marked ones.
+fn reach(points: &[Point], start: usize, reached: &mut [bool]) {
+    let mut pending = vec![start];
     while let Some(index) = pending.pop() {
         if !reached[index] {
             reached[index] = true;
             pending.extend(points[index].leads(index));
         }
     }
-    reached.iter().position(|&seen| !seen)
 }
 
-/// Makes every point reachable. Each round adds a lead from a point to the next one and takes
-/// away no such lead, so the rounds end.
+/// Makes every point reachable. Each step adds a lead from a point to the next one and takes away no such lead, so the steps end. One may take
+/// another lead away, so what is reached is worked out again until all is.
 fn make_reachable(rng: &mut Rng, points: &mut [Point]) {
-    while let Some(index) = first_unreached(points) {
-        let before = &mut points[index - 1];
-        *before = match (*before, rng.chance(1, 2)) {
-            (Point::Goto(target), true) => Point::Either(target, index),
-            (Point::Goto(target), false) => Point::Either(index, target),
-            (Point::Either(first, _), true) => Point::Either(first, index),
-            (Point::Either(_, second), false) => Point::Either(index, second),
-            (_, true) => Point::Goto(index),
-            (_, false) => Point::Either(index, index),
-        };
+    let mut reached = vec![false; points.len()];
+    loop {
+        reached.fill(false);
+        reach(points, 0, &mut reached);
+        if reached.iter().all(|&seen| seen) {
+            return;
+        }
+        for index in 1..points.len() {
+            if !reached[index] {
+                lead_on(rng, points, index);
+                reach(points, index, &mut reached);
+            }
+        }
     }
+}
+
+/// Lets the point before `index` lead to it.
+fn lead_on(rng: &mut Rng, points: &mut [Point], index: usize) {
+    let before = &mut points[index - 1];
+    *before = match (*before, rng.chance(1, 2)) {
+        (Point::Goto(target), true) => Point::Either(target, index),
+        (Point::Goto(target), false) => Point::Either(index, target),
+        (Point::Either(first, _), true) => Point::Either(first, index),
+        (Point::Either(_, second), false) => Point::Either(index, second),
+        (_, true) => Point::Goto(index),
+        (_, false) => Point::Either(index, index),
+    };
 }
 
 /// The offsets, as bits, that every walk from point 0 has stored before each point.

@@ -6,6 +6,16 @@ use crate::guarded::noise;
 #[cfg(any(feature = "report", feature = "run"))]
 use crate::guarded::{is_noise_from, Guarded};
 
+/// Requires that a service refuses a text where check does, and likewise, and else by none of check's rows.
+fn assert_checked(text: &[u8], work: usize, verdict: Verdict) {
+    if work >= WORK_MIN {
+        match check(text) {
+            Ok(()) => assert!(!matches!(code_and_place(verdict).0, 1..=13 | 15)),
+            refused => assert_eq!(verdict, refused),
+        }
+    }
+}
+
 /// Checks a text in both implementations.
 pub fn check(text: &[u8]) -> Verdict {
     let verdict = second::check(text, WORK_MIN);
@@ -31,6 +41,7 @@ pub struct Reported {
 pub fn report(text: &[u8], output: usize, work: usize) -> Reported {
     let mut output = noise(output);
     let result = second::report(text, work, &mut output);
+    assert_checked(text, work, result.verdict);
     let reported = Reported { result, output };
     #[cfg(feature = "report")]
     report_in_archive(text, work, &reported);
@@ -81,6 +92,7 @@ pub fn run(text: &[u8], events: &[u32], lent: &Lent, work: usize) -> Ran {
         &mut after.cache,
         &mut after.memory,
     );
+    assert_checked(text, work, result.ending);
     let ran = Ran {
         result,
         lent: after,

@@ -1,6 +1,7 @@
 //! Run on generated event lists, against the plain stack and within what the sheet allows.
 
 use std::collections::BTreeMap;
+use std::fmt::Display;
 
 use generate::RunCase;
 use second::{code_and_place, plain, RunResult, WORK_MIN};
@@ -25,16 +26,24 @@ fn lent(case: &generate::Lent) -> Lent {
 
 /// Runs an event list, and requires that ending, events done and answers are the plain stack's, that the other answers are as they were, and
 /// that no more is moved than is allowed.
-fn run_like_plain(text: &[u8], case: &generate::Lent, work: usize) -> RunResult {
-    let lent = lent(case);
-    let ran = run(text, &case.events, &lent, work);
-    let plain = plain::run(text, &case.events).expect("an accepted text");
+fn run_like_plain(
+    case: &impl Display,
+    text: &[u8],
+    buffers: &generate::Lent,
+    work: usize,
+) -> RunResult {
+    let events = &buffers.events;
+    let lent = lent(buffers);
+    let ran = run(text, events, &lent, work);
+    let plain = plain::run(text, events).expect("an accepted text");
     let result = ran.result;
-    assert_eq!((result.ending, result.done), (plain.ending, plain.done));
+    let ending = (result.ending, result.done);
+    assert_eq!(ending, (plain.ending, plain.done), "{case} {events:?}");
     let (done, rest) = ran.lent.answers.split_at(plain.answers.len());
-    assert_eq!(done, plain.answers);
-    assert_eq!(rest, &lent.answers[done.len()..]);
-    assert!(result.moved <= result.allowed, "{result:?}");
+    assert_eq!(done, plain.answers, "{case} {events:?}");
+    assert_eq!(rest, &lent.answers[done.len()..], "{case} {events:?}");
+    let bounded = result.moved <= result.allowed;
+    assert!(bounded, "{case} {events:?}: {result:?}");
     result
 }
 
@@ -52,7 +61,8 @@ fn runs_agree_with_the_plain_stack() {
     let (mut preempted, mut tight) = (0, 0);
     for seed in 0..TASKS {
         for case in generate::runs(seed, LISTS) {
-            let got = run_like_plain(&case.text, &case.lent, WORK_MIN + seed as usize % 3);
+            let work = WORK_MIN + seed as usize % 3;
+            let got = run_like_plain(&case, &case.text, &case.lent, work);
             *codes.entry(code_and_place(got.ending).0).or_insert(0u32) += 1;
             preempted += u32::from(preempts(&case.lent.events));
             tight += u32::from(got.moved == got.allowed && got.moved > 0);
@@ -101,7 +111,7 @@ fn every_list_of_small_tasks() {
     for seed in 0..SMALL {
         let small = generate::small(seed, POINTS);
         small.every_list(EVENTS, |events| {
-            run_like_plain(&small.text, &small.lent(events), WORK_MIN);
+            run_like_plain(&small, &small.text, &small.lent(events), WORK_MIN);
             lists += 1;
         });
     }
@@ -118,7 +128,7 @@ fn tightness() {
         let mut best = None;
         task.every_list(EVENTS, |events| {
             if preempts(events) {
-                let ran = run_like_plain(&task.text, &task.lent(events), WORK_MIN);
+                let ran = run_like_plain(&task, &task.text, &task.lent(events), WORK_MIN);
                 best = best.max(tenths(ran));
             }
         });
