@@ -14,8 +14,8 @@ use Rattle.model.specs.Basic.{if_then_else_}
 use Rattle.model.specs.Text.{starts, same, isDigit, digits, isNumber, numberOf, afterNumber, numberThen, oneNumber, withFirst, numbersThen, twoNumbers, lineOf, linesFrom, linesOf}
 use Rattle.model.specs.declared.Line.{Line}
 use Rattle.model.specs.declared.Line.the-variants.{Malformed}
-use Rattle.words.specs.Answers.{Front, Two, later, numberFront, oneFront, withSecond, thenNumber, twoFront}
-use Rattle.words.proofs.Laws.{either-way, starts-fits, digits-fit}
+use Rattle.scan.specs.Answers.{Front, Two, later, numberFront, oneFront, withSecond, thenNumber, twoFront}
+use Rattle.scan.proofs.Laws.{either-way, starts-fits, digits-fit}
 use Rattle.line.specs.Lines.{First, firstIs}
 
 -- both tests hold

@@ -17,11 +17,11 @@ use Rattle.model.specs.declared.Point.{Point}
 use Rattle.model.specs.declared.Point.the-variants.{Load, Store, Call, Ensure, Goto, Either, Return}
 use Rattle.model.specs.declared.Line.{Line}
 use Rattle.model.specs.declared.Line.the-variants.{Stack, Func, At, Close, Malformed}
-use Rattle.words.specs.Answers.{Front, numberFront, oneFront, twoFront, num, pair}
-use Rattle.words.specs.declared.Num.{Num}
-use Rattle.words.specs.declared.Num.the-variants.{Value, Nothing}
-use Rattle.words.specs.declared.Pair.the-variants.{Are, No}
-use Rattle.words.proofs.Laws.{either-way, starts-off, starts-short, digits-fit, num-is, num-not, pair-are, pair-no}
+use Rattle.scan.specs.Answers.{Front, numberFront, oneFront, twoFront, num, pair}
+use Rattle.scan.specs.declared.Num.{Num}
+use Rattle.scan.specs.declared.Num.the-variants.{Value, Nothing}
+use Rattle.scan.specs.declared.Pair.the-variants.{Are, No}
+use Rattle.scan.proofs.Laws.{either-way, starts-off, starts-short, digits-fit, num-is, num-not, pair-are, pair-no}
 use Rattle.line.specs.declared.Inside.{Inside}
 use Rattle.line.specs.declared.Inside.the-variants as inside
 use Rattle.line.specs.Lines.{First, isStack, isFunc, isInside, firstIs, stackAs, funcAs, insideAs}

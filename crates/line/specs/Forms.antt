@@ -6,7 +6,7 @@ use Rattle.model.specs.Basic.{if_then_else_}
 use Rattle.model.specs.Text.{bytes, starts}
 use Rattle.model.specs.declared.Point.{Point}
 use Rattle.model.specs.declared.Point.the-variants.{Load, Store, Call, Ensure, Goto, Either, Return}
-use Rattle.words.specs.Answers.{Front, Two, oneFront, twoFront}
+use Rattle.scan.specs.Answers.{Front, Two, oneFront, twoFront}
 use Rattle.line.specs.declared.Inside.{Inside}
 use Rattle.line.specs.declared.Inside.the-variants as inside
 

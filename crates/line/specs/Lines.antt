@@ -7,8 +7,8 @@ use lib.ListN.{length, drop}
 use Rattle.model.specs.Text.{linesOf}
 use Rattle.model.specs.declared.Line.{Line}
 use Rattle.model.specs.declared.Line.the-variants.{Stack, Func, At, Close, Malformed}
-use Rattle.words.specs.declared.Num.{Num}
-use Rattle.words.specs.declared.Num.the-variants.{Value, Nothing}
+use Rattle.scan.specs.declared.Num.{Num}
+use Rattle.scan.specs.declared.Num.the-variants.{Value, Nothing}
 use Rattle.line.specs.declared.Inside.{Inside}
 use Rattle.line.specs.declared.Inside.the-variants as inside
 

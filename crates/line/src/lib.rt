@@ -1,7 +1,7 @@
 // The first line of a text, read by its form to its line feed. A byte of the line picks the form that is tried.
 use model::Point;
-use words::Num;
-use words::Pair;
+use scan::Num;
+use scan::Pair;
 ghost use mathlib.Core.Path.{_≡_};
 ghost use Prim.Native.Nat.{_≤_};
 ghost use lib.ListN.{length};
@@ -18,7 +18,7 @@ pub enum Inside {
 fn load_line(s: &[u8]) -> Inside
     ensures { λ r. ⌜ r ≡ loadFront (now (s .entry)) ⌝ }
 {
-    let Num::Value(n, k) = words::one(b"  (load ", b")\n", s) else {
+    let Num::Value(n, k) = scan::one(b"  (load ", b")\n", s) else {
         return Inside::Other;
     };
     Inside::Point(Point::Load(n), k)
@@ -27,7 +27,7 @@ fn load_line(s: &[u8]) -> Inside
 fn store_line(s: &[u8]) -> Inside
     ensures { λ r. ⌜ r ≡ storeFront (now (s .entry)) ⌝ }
 {
-    let Num::Value(n, k) = words::one(b"  (store ", b")\n", s) else {
+    let Num::Value(n, k) = scan::one(b"  (store ", b")\n", s) else {
         return Inside::Other;
     };
     Inside::Point(Point::Store(n), k)
@@ -36,7 +36,7 @@ fn store_line(s: &[u8]) -> Inside
 fn call_line(s: &[u8]) -> Inside
     ensures { λ r. ⌜ r ≡ callFront (now (s .entry)) ⌝ }
 {
-    let Num::Value(n, k) = words::one(b"  (call ", b")\n", s) else {
+    let Num::Value(n, k) = scan::one(b"  (call ", b")\n", s) else {
         return Inside::Other;
     };
     Inside::Point(Point::Call(n), k)
@@ -45,7 +45,7 @@ fn call_line(s: &[u8]) -> Inside
 fn ensure_line(s: &[u8]) -> Inside
     ensures { λ r. ⌜ r ≡ ensureFront (now (s .entry)) ⌝ }
 {
-    let Num::Value(n, k) = words::one(b"  (ensure ", b")\n", s) else {
+    let Num::Value(n, k) = scan::one(b"  (ensure ", b")\n", s) else {
         return Inside::Other;
     };
     Inside::Point(Point::Ensure(n), k)
@@ -54,7 +54,7 @@ fn ensure_line(s: &[u8]) -> Inside
 fn either_line(s: &[u8]) -> Inside
     ensures { λ r. ⌜ r ≡ eitherFront (now (s .entry)) ⌝ }
 {
-    let Pair::Are(p, q, k) = words::two(b"  (either ", b" ", b")\n", s) else {
+    let Pair::Are(p, q, k) = scan::two(b"  (either ", b" ", b")\n", s) else {
         return Inside::Other;
     };
     Inside::Point(Point::Either(p, q), k)
@@ -76,7 +76,7 @@ fn e_line(s: &[u8]) -> Inside
 fn goto_line(s: &[u8]) -> Inside
     ensures { λ r. ⌜ r ≡ gotoFront (now (s .entry)) ⌝ }
 {
-    let Num::Value(n, k) = words::one(b"  (goto ", b")\n", s) else {
+    let Num::Value(n, k) = scan::one(b"  (goto ", b")\n", s) else {
         return Inside::Other;
     };
     Inside::Point(Point::Goto(n), k)
@@ -85,7 +85,7 @@ fn goto_line(s: &[u8]) -> Inside
 fn return_line(s: &[u8]) -> Inside
     ensures { λ r. ⌜ r ≡ returnFront (now (s .entry)) ⌝ }
 {
-    if words::starts(b"  (return)\n", s) {
+    if scan::starts(b"  (return)\n", s) {
         Inside::Point(Point::Return, 11)
     } else {
         Inside::Other
@@ -114,7 +114,7 @@ fn point_line(s: &[u8]) -> Inside
 fn close_line(s: &[u8]) -> Inside
     ensures { λ r. ⌜ r ≡ closeFront (now (s .entry)) ⌝ }
 {
-    if words::starts(b")\n", s) {
+    if scan::starts(b")\n", s) {
         Inside::Close
     } else {
         Inside::Other
@@ -136,12 +136,12 @@ pub fn inside_line(s: &[u8]) -> Inside
 pub fn stack_line(s: &[u8]) -> Num
     ensures { λ r. ⌜ stackAs r (now (s .entry)) ⌝ }
 {
-    words::one(b"(stack ", b")\n", s)
+    scan::one(b"(stack ", b")\n", s)
 }
 
 // The func line that s begins with: the frame, and how many bytes the line takes.
 pub fn func_line(s: &[u8]) -> Num
     ensures { λ r. ⌜ funcAs r (now (s .entry)) ⌝ }
 {
-    words::one(b"(func ", b"\n", s)
+    scan::one(b"(func ", b"\n", s)
 }

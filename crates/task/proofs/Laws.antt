@@ -24,8 +24,8 @@ use Rattle.model.specs.Task.{Task, Progress, start, between, inside, refused, t
 use Rattle.tables.specs.Tables.{putPoint, pointsOf, funcsOf, taskOf}
 use Rattle.tables.proofs.Laws.{length-points, length-funcs, sum-funcs}
 use Rattle.tables.proofs.Writes.{funcs-agree, stacked-agree, put-point-agree, put-point-more, put-point-past, put-point-length}
-use Rattle.words.specs.declared.Num.{Num}
-use Rattle.words.specs.declared.Num.the-variants.{Nothing}
+use Rattle.scan.specs.declared.Num.{Num}
+use Rattle.scan.specs.declared.Num.the-variants.{Nothing}
 use Rattle.line.specs.Lines.{First, isStack, isFunc, isInside, firstIs, stackAs, funcAs}
 use Rattle.task.specs.declared.Tables.{Tables}
 use Rattle.task.specs.declared.Took.the-variants as took

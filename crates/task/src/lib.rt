@@ -9,9 +9,9 @@ use line::Inside;
 use model::Point;
 use model::Refusal;
 use model::Row;
+use scan::Num;
 use tables::put_func;
 use tables::put_point;
-use words::Num;
 
 // The tables of a task: the cache blocks S, how many functions, and how many points in all.
 pub struct Tables {

@@ -1,20 +1,20 @@
 // The words and numbers that a text begins with.
 ghost use mathlib.Core.Path.{_≡_};
 ghost use Prim.Native.Nat.{_+_, _%_, _^_, _≤_, min};
-ghost use lib.ListN.{length};
-ghost use Rattle.model.specs.Text.{starts, digits};
-ghost use Rattle.words.specs.Answers.{numberFront, oneFront, twoFront, num, pair, limit, taken, taking};
+ghost use mathlib.Core.Bool.{true};
+ghost use Rattle.model.specs.Text.{starts};
+ghost use Rattle.scan.specs.Answers.{delimits, scanNumber, scanOne, scanTwo, limit, takenAs};
 
 // A number, and how many bytes it takes with the words around it.
 pub enum Num {
     Value(u32, usize),
-    Nothing,
+    Absent,
 }
 
 // Two numbers, and how many bytes they take with the words around them.
 pub enum Pair {
-    Are(u32, u32, usize),
-    No,
+    Values(u32, u32, usize),
+    Absent,
 }
 
 // s begins with the word w. The loop always runs through, so that a fixed word is compared several bytes at a time.
@@ -45,7 +45,7 @@ fn digit(b: u8) -> u32
 // Where a number ends at the latest that begins with the digit v, in a text of n bytes.
 fn most(v: u32, n: usize) -> usize
     requires { ⌜ 1 ≤ n ⌝ }
-    ensures { λ r. ⌜ r ≡ min n (limit v) ⌝ }
+    ensures { λ r. ⌜ (1 ≤ r) × (r ≤ 4) × (r ≡ min n (limit v)) ⌝ }
 {
     if v == 0 {
         return 1;
@@ -58,14 +58,14 @@ fn most(v: u32, n: usize) -> usize
 
 // The digits that s begins with, as a number: at most four, and one after a 0. A digit too many is left.
 fn number(s: &[u8]) -> Num
-    ensures { λ r. ⌜ r ≡ taking (taken (now (s .entry))) (now (s .entry)) ⌝ }
+    ensures { λ r. ⌜ takenAs r (now (s .entry)) ⌝ }
 {
     if s.len() < 1 {
-        return Num::Nothing;
+        return Num::Absent;
     }
     let mut v = digit(s[0]);
     if 9 < v {
-        return Num::Nothing;
+        return Num::Absent;
     }
     let end = most(v, s.len());
     let mut i: usize = 1;
@@ -80,46 +80,46 @@ fn number(s: &[u8]) -> Num
     Num::Value(v, i)
 }
 
-// s begins with a number and the word e. A digit too many is no byte of e.
+// s begins with a number and the word e. A digit that is left is not the first byte of e.
 fn number_then(e: &[u8], s: &[u8]) -> Num
-    requires { ⌜ (1 ≤ length (now e)) × (digits (now e) ≡ 0) ⌝ }
-    ensures { λ r. ⌜ r ≡ num (numberFront (now (e .entry)) (now (s .entry))) ⌝ }
+    requires { ⌜ delimits (now e) ≡ true ⌝ }
+    ensures { λ r. ⌜ r ≡ scanNumber (now (e .entry)) (now (s .entry)) ⌝ }
 {
     let Num::Value(v, k) = number(s) else {
-        return Num::Nothing;
+        return Num::Absent;
     };
     if starts(e, &s[k..]) {
         return Num::Value(v, k + e.len());
     }
-    Num::Nothing
+    Num::Absent
 }
 
 // s begins with the word w, a number and the word e.
 pub fn one(w: &[u8], e: &[u8], s: &[u8]) -> Num
-    requires { ⌜ (1 ≤ length (now e)) × (digits (now e) ≡ 0) ⌝ }
-    ensures { λ r. ⌜ r ≡ num (oneFront (now (w .entry)) (now (e .entry)) (now (s .entry))) ⌝ }
+    requires { ⌜ delimits (now e) ≡ true ⌝ }
+    ensures { λ r. ⌜ r ≡ scanOne (now (w .entry)) (now (e .entry)) (now (s .entry)) ⌝ }
 {
     if !starts(w, s) {
-        return Num::Nothing;
+        return Num::Absent;
     }
     let a = w.len();
     let Num::Value(v, k) = number_then(e, &s[a..]) else {
-        return Num::Nothing;
+        return Num::Absent;
     };
     Num::Value(v, a + k)
 }
 
 // s begins with the word w, a number, the word m, a number and the word e.
 pub fn two(w: &[u8], m: &[u8], e: &[u8], s: &[u8]) -> Pair
-    requires { ⌜ (1 ≤ length (now m)) × (digits (now m) ≡ 0) ⌝ }
-    requires { ⌜ (1 ≤ length (now e)) × (digits (now e) ≡ 0) ⌝ }
-    ensures { λ r. ⌜ r ≡ pair (twoFront (now (w .entry)) (now (m .entry)) (now (e .entry)) (now (s .entry))) ⌝ }
+    requires { ⌜ delimits (now m) ≡ true ⌝ }
+    requires { ⌜ delimits (now e) ≡ true ⌝ }
+    ensures { λ r. ⌜ r ≡ scanTwo (now (w .entry)) (now (m .entry)) (now (e .entry)) (now (s .entry)) ⌝ }
 {
     let Num::Value(p, a) = one(w, m, s) else {
-        return Pair::No;
+        return Pair::Absent;
     };
     let Num::Value(q, b) = number_then(e, &s[a..]) else {
-        return Pair::No;
+        return Pair::Absent;
     };
-    Pair::Are(p, q, a + b)
+    Pair::Values(p, q, a + b)
 }
