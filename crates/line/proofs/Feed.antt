@@ -19,7 +19,7 @@ use Rattle.scan.specs.declared.Num.the-variants as num
 use Rattle.scan.specs.declared.Pair.{Pair}
 use Rattle.scan.specs.declared.Pair.the-variants as pair
 use Rattle.scan.specs.Answers.{scanNumber, later, scanOne, second, scanSecond, scanTwo}
-use Rattle.scan.proofs.Laws.{both, starts-fits, digits-fit, ends, one-fits}
+use Rattle.scan.proofs.Laws.{if-same, if-by, both, starts-fits, digits-fit, ends, one-fits}
 use Rattle.line.specs.Lines.{First, firstIs}
 use Rattle.line.specs.Patterns.{_↵_}
 
@@ -144,15 +144,10 @@ number-line : (e l t : List ℕ) → noFeed e ≡ true → noFeed l ≡ true →
 unfolding scanNumber numberThen
 number-line e l t p q =
     rw (number-feed l t, value-feed l t, after-feed l t, digits-feed l t, starts-line e (afterNumber l) t p (no-drop (digits l) l q), length-append e (10 ∷ []))
-    (go (isNumber l && same e (afterNumber l)) refl)
+    (if-by (withBytes (length l + 1)) (isNumber l && same e (afterNumber l)) (λ h. ap (num.Value (numberOf l)) (omega (arith, fits h))) refl)
   where
-    go :
-        (b : Bool) → isNumber l && same e (afterNumber l) ≡ b
-        → (if b then num.Value (numberOf l) (digits l + (length e + 1)) else num.Absent) ≡ withBytes (length l + 1) (if b then some (numberOf l) else none)
-    go true h =
-        let n = same-length e (afterNumber l) (both (isNumber l) (same e (afterNumber l)) h .1) in
-        ap (num.Value (numberOf l)) (omega (arith, digits-fit l, length-drop (digits l) l))
-    go false h = refl
+    fits : isNumber l && same e (afterNumber l) ≡ true → digits l + length e ≡ length l
+    fits h = omega (arith, digits-fit l, length-drop (digits l) l, same-length e (afterNumber l) (both (isNumber l) (same e (afterNumber l)) h .1))
 
 number-feeds : (m l t : List ℕ) → noFeed m ≡ true → scanNumber m (l ↵ t) ≡ scanNumber m l
 unfolding scanNumber
@@ -169,37 +164,23 @@ later-bytes (some n) a b c h = rw h
 module _ (w e : List ℕ) where
   pub one-none : (s : List ℕ) → noFeed s ≡ true → scanOne w (e ↵ []) s ≡ num.Absent
   unfolding scanOne
-  one-none s p = rw (number-none e (drop (length w) s) (no-drop (length w) s p)) (go (starts w s))
-    where
-      go : (b : Bool) → (if b then num.Absent else num.Absent) ≡ num.Absent
-      go true = refl
-      go false = refl
+  one-none s p = rw (number-none e (drop (length w) s) (no-drop (length w) s p)) (if-same (starts w s) num.Absent)
 
   module _ (l t : List ℕ) (p : noFeed w ≡ true) (q : noFeed e ≡ true) where
     pub one-line : noFeed l ≡ true → scanOne w (e ↵ []) (l ↵ t) ≡ withBytes (length l + 1) (oneNumber w e l)
     unfolding scanOne oneNumber
-    one-line r = rw (starts-feed w l t p) (go (starts w l) refl)
-      where
-        go :
-            (b : Bool) → starts w l ≡ b
-            → (if b then later (length w) (scanNumber (e ↵ []) (drop (length w) (l ↵ t))) else num.Absent)
-            ≡ withBytes (length l + 1) (if b then numberThen e (drop (length w) l) else none)
-        go true h =
-            let f = starts-fits w l h in
-            rw (drop-append-le (length w) l (10 ∷ t) f, number-line e (drop (length w) l) t q (no-drop (length w) l r))
-            (later-bytes (numberThen e (drop (length w) l)) _ _ _ (rw (length-drop (length w) l) (omega arith)))
-        go false h = refl
+    one-line r =
+        rw (starts-feed w l t p)
+        (if-by (withBytes (length l + 1)) (starts w l) (λ h.
+        rw (drop-append-le (length w) l (10 ∷ t) (starts-fits w l h), number-line e (drop (length w) l) t q (no-drop (length w) l r))
+        (later-bytes (numberThen e (drop (length w) l)) _ _ _ (omega (arith, length-drop (length w) l, starts-fits w l h)))) refl)
 
     one-feeds : scanOne w e (l ↵ t) ≡ scanOne w e l
     unfolding scanOne
-    one-feeds = rw (starts-feed w l t p) (go (starts w l) refl)
-      where
-        go :
-            (b : Bool) → starts w l ≡ b
-            → (if b then later (length w) (scanNumber e (drop (length w) (l ↵ t))) else num.Absent)
-            ≡ (if b then later (length w) (scanNumber e (drop (length w) l)) else num.Absent)
-        go true h = rw (drop-append-le (length w) l (10 ∷ t) (starts-fits w l h), number-feeds e (drop (length w) l) t q)
-        go false h = refl
+    one-feeds =
+        rw (starts-feed w l t p)
+        (if-by (λ (x : Num). x) (starts w l) (λ h.
+        rw (drop-append-le (length w) l (10 ∷ t) (starts-fits w l h), number-feeds e (drop (length w) l) t q)) refl)
 
 -- two numbers
 
@@ -228,18 +209,11 @@ module _ (w m e : List ℕ) where
 
   two-by : (l : List ℕ) → twoNumbers w m e l ≡ secondOf e l (scanOne w m l)
   unfolding twoNumbers numbersThen scanNumber scanOne
-  two-by l = go (starts w l) (isNumber d && starts m (afterNumber d))
-    where
-      d : List ℕ
-      d = drop (length w) l
-
-      go :
-          (a b : Bool)
-          → (if a then (if b then withFirst (numberOf d) (numberThen e (drop (length m) (afterNumber d))) else none) else none)
-          ≡ secondOf e l (if a then later (length w) (if b then num.Value (numberOf d) (digits d + length m) else num.Absent) else num.Absent)
-      go true true = rw (drop-drop (length m) (digits d) d, drop-drop (digits d + length m) (length w) l)
-      go true false = refl
-      go false b = refl
+  two-by l =
+      let d = drop (length w) l in
+      if-by (secondOf e l) (starts w l) (λ h.
+      if-by (λ x. secondOf e l (later (length w) x)) (isNumber d && starts m (afterNumber d)) (λ k.
+      rw (drop-drop (length m) (digits d) d, drop-drop (digits d + length m) (length w) l)) refl) refl
 
   pub two-line :
       (l t : List ℕ) → noFeed w ≡ true → noFeed m ≡ true → noFeed e ≡ true → noFeed l ≡ true

@@ -1,12 +1,12 @@
 -- The first line of a text by its patterns. A byte rules out every pattern whose opening word has another byte there.
-use Prim.Native.Nat.{ℕ, _+_, _≤_}
+use Prim.Native.Nat.{ℕ, _+_, _<_}
 use mathlib.Core.Path.{_≡_, refl, sym, ap, _∙_}
 use mathlib.Core.Bool.{Bool, true, false, _&&_}
 use mathlib.Core.List.{List, [], _∷_}
 use mathlib.Core.Option.{Option, none, some}
 use native.Mathlib.Decide.{ℕ-discrete}
 use native.Mathlib.Omega.{arith}
-use lib.ListN.{length, getD, List·getD-eq-default}
+use lib.ListN.{length, getD}
 use lib.Dec.{eqb}
 use borrow.Author.Tests.{eqb-false, ne-eqb}
 use Rattle.model.specs.Basic.{if_then_else_}
@@ -19,24 +19,10 @@ use Rattle.scan.specs.declared.Num.the-variants as num
 use Rattle.scan.specs.declared.Pair.{Pair}
 use Rattle.scan.specs.declared.Pair.the-variants as pair
 use Rattle.scan.specs.Answers.{scanOne, scanTwo}
-use Rattle.scan.proofs.Laws.{both, starts-off, one-off, two-by}
+use Rattle.scan.proofs.Laws.{both, starts-off, starts-short, one-off, one-short, two-by}
 use Rattle.line.specs.Lines.{First, isStack, isFunc, isInside, firstIs, numAs, stackAs, funcAs, insideAs}
 use Rattle.line.specs.Patterns.{Pattern, fixed, one, two, Parse, parseOne, parseTwo, _↵_, parse, orElse, parseBy, points, stack, func, close, lines}
 use Rattle.line.proofs.Feed.{noFeed, by-feed, first-off, first-is, first-line, starts-line, starts-none, same-length, withBytes, pairWithBytes, one-none, one-line, two-none, two-line}
-
--- a line of a pattern, by the answer of scan
-
-pub parse-fixed : (w s : List ℕ) (l : Line) (b : Bool) → starts (w ↵ []) s ≡ b → (if b then some (l, length w + 1) else none) ≡ parse (fixed w l) s
-unfolding parse
-parse-fixed w s l b h = rw h
-
-pub parse-one : (w e s : List ℕ) (f : ℕ → Line) (x : Num) → x ≡ scanOne w (e ↵ []) s → parseOne f x ≡ parse (one w e f) s
-unfolding parse
-parse-one w e s f x h = ap (parseOne f) h
-
-pub parse-two : (w m e s : List ℕ) (f : ℕ → ℕ → Line) (x : Pair) → x ≡ scanTwo w m (e ↵ []) s → parseTwo f x ≡ parse (two w m e f) s
-unfolding parse
-parse-two w m e s f x h = ap (parseTwo f) h
 
 -- a pattern is left only if its opening word has the text's byte at a place
 
@@ -47,7 +33,6 @@ opening (one w e f) = w
 opening (two w m e f) = w
 
 parse-off : (p : Pattern) (s : List ℕ) → starts (opening p) s ≡ false → parse p s ≡ none
-unfolding parse
 parse-off (fixed w l) s h = rw h
 parse-off (one w e f) s h = rw (← one-off w (e ↵ []) s h)
 parse-off (two w m e f) s h = rw (← two-by w m (e ↵ []) s _ (one-off w m s h))
@@ -85,25 +70,36 @@ module _ (i b : ℕ) (s : List ℕ) (e : getD s i 0 ≡ b) (ps : List Pattern) w
   unfolding parseBy
   left-none h = left-some [] h
 
-pub short-none : (i : ℕ) (s : List ℕ) (ps : List Pattern) → length s ≤ i → leaves i 0 ps ≡ [] → none ≡ parseBy ps s
-short-none i s ps h = left-none i 0 s (List·getD-eq-default s 0 h) ps
+-- a line of the pattern has so many bytes at least
+abbrev least : Pattern → ℕ
+least (fixed w l) = length (w ↵ [])
+least (one w e f) = length w + length (e ↵ []) + 1
+least (two w m e f) = length w + length m + 1
 
--- no opening word has the byte b at the place i
-abbrev pub Apart : ℕ → ℕ → List Pattern → Type 0
-Apart i b [] = Unit {0}
-Apart i b (p ∷ ps) = (getD (opening p) i b ≡ b → ⊥) × Apart i b ps
+parse-short : (p : Pattern) (s : List ℕ) → length s < least p → parse p s ≡ none
+parse-short (fixed w l) s h = parse-off (fixed w l) s (starts-short (w ↵ []) s h)
+parse-short (one w e f) s h = rw (one-short w (e ↵ []) s (omega arith))
+parse-short (two w m e f) s h = rw (← two-by w m (e ↵ []) s _ (sym (one-short w m s (omega arith))))
 
-apart-none : (i b : ℕ) (ps : List Pattern) → Apart i b ps → leaves i b ps ≡ []
-apart-none i b [] h = refl
-apart-none i b (p ∷ ps) h = rw (ne-eqb (getD (opening p) i b) b (h .0)) (apart-none i b ps (h .1))
+-- no pattern fits, each for a reason of its own
+abbrev Each : (Pattern → Type 0) → List Pattern → Type 0
+Each P [] = Unit {0}
+Each P (p ∷ ps) = P p × Each P ps
 
-pub none-left : (i : ℕ) (s : List ℕ) (ps : List Pattern) → Apart i (getD s i 0) ps → none ≡ parseBy ps s
-none-left i s ps h = left-none i (getD s i 0) s refl ps (apart-none i (getD s i 0) ps h)
+none-each : (P : Pattern → Type 0) (s : List ℕ) → ((p : Pattern) → P p → parse p s ≡ none) → (ps : List Pattern) → Each P ps → none ≡ parseBy ps s
+unfolding parseBy
+none-each P s f [] h = refl
+none-each P s f (p ∷ ps) h = rw (f p (h .0)) (none-each P s f ps (h .1))
+
+pub none-left : (i : ℕ) (s : List ℕ) (ps : List Pattern) → Each (λ p. getD (opening p) i (getD s i 0) ≡ getD s i 0 → ⊥) ps → none ≡ parseBy ps s
+none-left i s = none-each _ s (λ p h. parse-off p s (starts-off (opening p) s i h))
+
+pub none-short : (s : List ℕ) (ps : List Pattern) → Each (λ p. length s < least p) ps → none ≡ parseBy ps s
+none-short s = none-each _ s (λ p h. parse-short p s h)
 
 -- a text without a line feed
 
 parse-none : (p : Pattern) (s : List ℕ) → noFeed s ≡ true → parse p s ≡ none
-unfolding parse
 parse-none (fixed w l) s p = rw (starts-none w s p)
 parse-none (one w e f) s p = rw (one-none w e s p)
 parse-none (two w m e f) s p = rw (two-none w m e s p)
@@ -150,7 +146,7 @@ module _ (k : ℕ) (q : Line) (y : Parse) (h : Says k q y) where
   says-fixed l n false e = h
 
 says : (l t : List ℕ) → noFeed l ≡ true → (ps : List Pattern) → cleanAll ps ≡ true → Says (length l + 1) (lineBy ps l) (parseBy ps (l ↵ t))
-unfolding parse parseBy
+unfolding parseBy
 says l t o [] c = refl
 says l t o (fixed w q ∷ ps) c =
     let b = both (noFeed w) (cleanAll ps) c in
@@ -224,21 +220,24 @@ module _ (test : Line → Bool) where
   fails-two (pair.Values p q k) f h = h p q
   fails-two pair.Absent f h = refl
 
-  Fails : List Pattern → Type 0
-  Fails [] = Unit {0}
-  Fails (fixed w l ∷ ps) = (test l ≡ false) × Fails ps
-  Fails (one w e f ∷ ps) = ((n : ℕ) → test (f n) ≡ false) × Fails ps
-  Fails (two w m e f ∷ ps) = ((p q : ℕ) → test (f p q) ≡ false) × Fails ps
+  Never : Pattern → Type 0
+  Never (fixed w l) = test l ≡ false
+  Never (one w e f) = (n : ℕ) → test (f n) ≡ false
+  Never (two w m e f) = (p q : ℕ) → test (f p q) ≡ false
 
-  fails : (ps : List Pattern) (s : List ℕ) → Fails ps → passes test (parseBy ps s) ≡ false
-  unfolding parse parseBy Fails
+  never : (p : Pattern) (s : List ℕ) → Never p → passes test (parse p s) ≡ false
+  unfolding Never
+  never (fixed w l) s h = fails-fixed (starts (w ↵ []) s) (l, length w + 1) h
+  never (one w e f) s h = fails-one (scanOne w (e ↵ []) s) f h
+  never (two w m e f) s h = fails-two (scanTwo w m (e ↵ []) s) f h
+
+  fails : (ps : List Pattern) (s : List ℕ) → Each Never ps → passes test (parseBy ps s) ≡ false
+  unfolding parseBy
   fails [] s h = refl
-  fails (fixed w l ∷ ps) s h = fails-or (if starts (w ↵ []) s then some (l, length w + 1) else none) (parseBy ps s) (fails-fixed (starts (w ↵ []) s) (l, length w + 1) (h .0)) (fails ps s (h .1))
-  fails (one w e f ∷ ps) s h = fails-or (parseOne f (scanOne w (e ↵ []) s)) (parseBy ps s) (fails-one (scanOne w (e ↵ []) s) f (h .0)) (fails ps s (h .1))
-  fails (two w m e f ∷ ps) s h = fails-or (parseTwo f (scanTwo w m (e ↵ []) s)) (parseBy ps s) (fails-two (scanTwo w m (e ↵ []) s) f (h .0)) (fails ps s (h .1))
+  fails (p ∷ ps) s h = fails-or (parse p s) (parseBy ps s) (never p s (h .0)) (fails ps s (h .1))
 
-  fails-points : ((x : Point) → test (At x) ≡ false) → Fails points
-  unfolding Fails
+  fails-points : ((x : Point) → test (At x) ≡ false) → Each Never points
+  unfolding Never
   fails-points h = (λ n. h _, (λ n. h _, (λ n. h _, (λ n. h _, (λ n. h _, (λ p q. h _, (h _, tt)))))))
 
   not-first : test Malformed ≡ false → (s : List ℕ) → passes test (parseBy lines s) ≡ false → firstIs test (linesOf s) ≡ false
@@ -251,27 +250,24 @@ module _ (test : Line → Bool) where
 -- what each reader says
 
 pub stack-as : (r : Num) (s : List ℕ) → r ≡ scanOne (bytes "(stack ") (bytes ")\n") s → stackAs r s
-unfolding parseBy Fails
-stack-as (num.Value n k) s e = found-one 1 115 s stack (Stack n, k) refl (λ y n. rw (ne-eqb 115 y n)) (parse-one _ (bytes ")") s Stack _ e)
+unfolding parseBy Never
+stack-as (num.Value n k) s e = found-one 1 115 s stack (Stack n, k) refl (λ y n. rw (ne-eqb 115 y n)) (ap (parseOne Stack) e)
 stack-as num.Absent s e =
-    let z = parse-one (bytes "(stack ") (bytes ")") s Stack num.Absent e in
-    not-first isStack refl s (rw (← z) (fails isStack (func ∷ close ∷ points) s (λ n. refl, (refl, fails-points isStack (λ x. refl)))))
+    not-first isStack refl s (rw (← e) (fails isStack (func ∷ close ∷ points) s (λ n. refl, (refl, fails-points isStack (λ x. refl)))))
 
 pub func-as : (r : Num) (s : List ℕ) → r ≡ scanOne (bytes "(func ") (bytes "\n") s → funcAs r s
-unfolding parseBy Fails
-func-as (num.Value n k) s e = found-one 1 102 s func (Func n, k) refl (λ y n. rw (ne-eqb 102 y n)) (parse-one _ (bytes "") s Func _ e)
+unfolding parseBy Never
+func-as (num.Value n k) s e = found-one 1 102 s func (Func n, k) refl (λ y n. rw (ne-eqb 102 y n)) (ap (parseOne Func) e)
 func-as num.Absent s e =
-    let z = parse-one (bytes "(func ") (bytes "") s Func num.Absent e in
-    not-first isFunc refl s (rw (← z) (fails isFunc (stack ∷ close ∷ points) s (λ n. refl, (refl, fails-points isFunc (λ x. refl)))))
+    not-first isFunc refl s (rw (← e) (fails isFunc (stack ∷ close ∷ points) s (λ n. refl, (refl, fails-points isFunc (λ x. refl)))))
 
 pub point-as : (x : Point) (k : ℕ) (s : List ℕ) → some (At x, k) ≡ parseBy points s → First s (At x) k
 point-as x k s e = found 0 32 s points (At x, k) refl (λ y n. rw (ne-eqb 32 y n)) e
 
 pub close-as : (s : List ℕ) → starts (bytes ")\n") s ≡ true → First s Close 2
-close-as s e = found-one 0 41 s close (Close, 2) refl (λ y n. rw (ne-eqb 41 y n)) (parse-fixed (bytes ")") s Close true e)
+close-as s e = found-one 0 41 s close (Close, 2) refl (λ y n. rw (ne-eqb 41 y n)) (rw e)
 
 pub other-as : (s : List ℕ) → none ≡ parseBy points s → starts (bytes ")\n") s ≡ false → firstIs isInside (linesOf s) ≡ false
-unfolding parseBy Fails
+unfolding parseBy Never
 other-as s e h =
-    let z = parse-fixed (bytes ")") s Close false h in
-    not-first isInside refl s (rw (← e, ← z) (fails isInside (stack ∷ func ∷ []) s (λ n. refl, (λ n. refl, tt))))
+    not-first isInside refl s (rw (← e, h) (fails isInside (stack ∷ func ∷ []) s (λ n. refl, (λ n. refl, tt))))

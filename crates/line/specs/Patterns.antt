@@ -43,7 +43,7 @@ abbrev pub _↵_ : List ℕ → List ℕ → List ℕ
 l ↵ t = l ++ (10 ∷ t)
 
 -- the line of the pattern that s begins with
-unfoldable pub parse : Pattern → List ℕ → Parse
+abbrev pub parse : Pattern → List ℕ → Parse
 parse (fixed w l) s = if starts (w ↵ []) s then some (l, length w + 1) else none
 parse (one w e f) s = parseOne f (scanOne w (e ↵ []) s)
 parse (two w m e f) s = parseTwo f (scanTwo w m (e ↵ []) s)

@@ -83,11 +83,11 @@ fn read_return(s: &[u8]) -> Parsed
     Parsed::Absent
 }
 
-// A point line, whose opening word has 8 bytes at least: the letter after the two spaces and the bracket picks the pattern.
+// A point line, which has 11 bytes at least: the letter after the two spaces and the bracket picks the pattern.
 fn read_point(s: &[u8]) -> Parsed
     ensures { λ r. ⌜ parsedAs r ≡ parseBy points (now (s .entry)) ⌝ }
 {
-    if s.len() < 8 {
+    if s.len() < 11 {
         return Parsed::Absent;
     }
     let b = s[3];

@@ -22,6 +22,21 @@ use Rattle.scan.specs.Answers.{delimits, scanNumber, later, scanOne, sec
 abbrev pub tail : ℕ → List ℕ → List ℕ
 tail i s = take (length s - i) (drop i s)
 
+-- tests
+
+pub if-same : {A : Type 0} (t : Bool) (x : A) → (if t then x else x) ≡ x
+if-same true x = refl
+if-same false x = refl
+
+-- a function of the answer that a test picks
+pub if-by : {A B : Type 0} (f : A → B) (t : Bool) {x y : A} {u v : B} → (t ≡ true → u ≡ f x) → v ≡ f y → (if t then u else v) ≡ f (if t then x else y)
+if-by f true h k = h refl
+if-by f false h k = k
+
+pub both : (a b : Bool) → a && b ≡ true → (a ≡ true) × (b ≡ true)
+both true b e = (refl, e)
+both false b e = let z : _≡_ {A = ℕ} 0 1 = cc in absurd (omega arith)
+
 -- words
 
 -- a text with another byte at one place of the word does not begin with it
@@ -173,11 +188,6 @@ abbrev pub ends : Num → ℕ
 ends (num.Value v k) = k
 ends num.Absent = 0
 
--- both tests hold
-pub both : (a b : Bool) → a && b ≡ true → (a ≡ true) × (b ≡ true)
-both true b e = (refl, e)
-both false b e = let z : _≡_ {A = ℕ} 0 1 = cc in absurd (omega arith)
-
 pub number-fits : (e s : List ℕ) → ends (scanNumber e s) ≤ length s
 unfolding scanNumber
 number-fits e s = go (isNumber s && starts e (afterNumber s)) refl
@@ -186,6 +196,14 @@ number-fits e s = go (isNumber s && starts e (afterNumber s)) refl
     go true h =
         omega (arith, starts-fits e (afterNumber s) (both (isNumber s) (starts e (afterNumber s)) h .1), length-drop (digits s) s, digits-fit s)
     go false h = omega arith
+
+number-short : (e s : List ℕ) → length s ≤ length e → scanNumber e s ≡ num.Absent
+unfolding scanNumber
+number-short e s h =
+    elim (decLe 1 (digits s)) [
+      | yes d ↦ rw (starts-short e (afterNumber s) (rw (length-drop (digits s) s) (omega (arith, digits-fit s))), and-false (isNumber s))
+      | no d ↦ let z : digits s ≡ 0 = omega arith in rw z
+    ]
 
 -- a number and the word e in the part of s from a on
 pub tail-fits : (e s : List ℕ) (a v k : ℕ) → a ≤ length s → scanNumber e (tail a s) ≡ num.Value v k → a + k ≤ length s
@@ -205,6 +223,10 @@ module _ (w e s : List ℕ) where
           let d = drop (length w) s in
           omega (arith, later-ends (length w) (scanNumber e d), number-fits e d, length-drop (length w) s, starts-fits w s h)
       go false h = omega arith
+
+  pub one-short : length s ≤ length w + length e → scanOne w e s ≡ num.Absent
+  unfolding scanOne
+  one-short h = rw (number-short e (drop (length w) s) (rw (length-drop (length w) s) (omega arith))) (if-same (starts w s) num.Absent)
 
   -- s begins with the word w, a number and the word e, or not
 

@@ -1,7 +1,7 @@
 -- `line::read_either` meets its contract.
-use mathlib.Core.Path.{sym, _∙_}
+use mathlib.Core.Path.{sym, ap, _∙_}
 use borrow.Author.Needs.{needs}
-use Rattle.line.proofs.Laws.{parse-two}
+use Rattle.line.specs.Patterns.{parseTwo}
 use Rattle.line.proofs.read_either.Statement.{statement}
 use Rattle.line.proofs.read_either.Tie as tie
 
@@ -15,5 +15,5 @@ read-either-spec =
     (λ c κs. search needs)
     (λ c. search needs)
     (λ c. search needs)
-    (λ c. parse-two _ _ _ _ _ _ (sym (c .enum-told .given .1) ∙ c .before .before .two .ensures))
-    (λ c. parse-two _ _ _ _ _ _ (sym (c .before .p .given .1) ∙ c .before .before .before .two .ensures)))
+    (λ c. ap (parseTwo _) (sym (c .enum-told .given .1) ∙ c .before .before .two .ensures))
+    (λ c. ap (parseTwo _) (sym (c .before .p .given .1) ∙ c .before .before .before .two .ensures)))

@@ -1,7 +1,7 @@
 -- `line::read_numbered` meets its contract.
-use mathlib.Core.Path.{sym, _∙_}
+use mathlib.Core.Path.{sym, ap, _∙_}
 use borrow.Author.Needs.{needs}
-use Rattle.line.proofs.Laws.{parse-one}
+use Rattle.line.specs.Patterns.{parseOne}
 use Rattle.line.proofs.read_numbered.Statement.{statement}
 use Rattle.line.proofs.read_numbered.Tie as tie
 
@@ -13,6 +13,6 @@ read-numbered-spec =
     (λ c κs. search needs)
     (λ c. search needs)
     (λ c. search needs)
-    (λ c. parse-one _ _ _ _ _ (sym (c .enum-told .given .1) ∙ c .before .before .one .ensures))
+    (λ c. ap (parseOne _) (sym (c .enum-told .given .1) ∙ c .before .before .one .ensures))
     (λ c κs. search needs)
-    (λ c. rw (c .made .ensures) (parse-one _ _ _ _ _ (sym (c .before .before .n .given .1) ∙ c .before .before .before .before .one .ensures))))
+    (λ c. rw (c .made .ensures) (ap (parseOne _) (sym (c .before .before .n .given .1) ∙ c .before .before .before .before .one .ensures))))

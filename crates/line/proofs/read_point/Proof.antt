@@ -2,7 +2,7 @@
 use mathlib.Core.Path.{refl, _∙_}
 use native.Mathlib.Omega.{arith}
 use borrow.Author.Needs.{needs}
-use Rattle.line.proofs.Laws.{left-some, left-one, short-none, none-left}
+use Rattle.line.proofs.Laws.{left-some, left-one, none-short, none-left}
 use Rattle.line.proofs.read_point.Statement.{statement}
 use Rattle.line.proofs.read_point.Tie as tie
 
@@ -10,7 +10,7 @@ pub read-point-spec : {M : Type 1} → statement M
 read-point-spec =
     tie.close
     (tie.spec
-    (λ c. short-none 7 _ _ (omega arith) refl)
+    (λ c. none-short _ _ (omega arith))
     (λ c. search needs)
     (λ c. search needs)
     (λ c κs. search needs)

@@ -1,7 +1,6 @@
 -- `line::read_return` meets its contract.
 use mathlib.Core.Path.{sym, _∙_}
 use borrow.Author.Needs.{needs}
-use Rattle.line.proofs.Laws.{parse-fixed}
 use Rattle.line.proofs.read_return.Statement.{statement}
 use Rattle.line.proofs.read_return.Tie as tie
 
@@ -11,5 +10,5 @@ read-return-spec =
     (tie.spec
     (λ c. search needs)
     (λ c κs. search needs)
-    (λ c. parse-fixed _ _ _ _ (sym (c .before .starts .ensures) ∙ c .if1 .taken))
-    (λ c. parse-fixed _ _ _ _ (sym (c .before .starts .ensures) ∙ c .if1 .left)))
+    (λ c. rw (sym (c .before .starts .ensures) ∙ c .if1 .taken))
+    (λ c. rw (sym (c .before .starts .ensures) ∙ c .if1 .left)))
