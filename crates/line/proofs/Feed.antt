@@ -11,7 +11,8 @@ use lib.Seq.{take-append-le, drop-append-le, drop-append-add, drop-drop}
 use lib.Dec.{eqb, leb}
 use borrow.Author.Tests.{not-true, eqb-false, ne-eqb, lt-leb, leb-true}
 use Rattle.model.specs.Basic.{if_then_else_}
-use Rattle.model.specs.Text.{starts, same, isDigit, digits, isNumber, numberOf, afterNumber, numberThen, oneNumber, withFirst, numbersThen, twoNumbers, lineOf, linesFrom, linesOf}
+use Rattle.model.specs.Text.{starts, same, isDigit, digits, isNumber, numberOf, afterNumber, lineOf, linesFrom, linesOf}
+use Rattle.model.specs.Text.{numberThen, oneNumber, withFirst, numbersThen, twoNumbers}
 use Rattle.model.specs.declared.Line.{Line}
 use Rattle.model.specs.declared.Line.the-variants.{Malformed}
 use Rattle.scan.specs.declared.Num.{Num}
@@ -66,26 +67,19 @@ lines-feed a [] t p = lines-byte a 10 t ∙ rw (append-nil a)
 lines-feed a (b ∷ l) t p =
     lines-byte a b (l ↵ t) ∙ rw (ne-eqb b 10 (no-first b l p), ← append-assoc a (b ∷ []) l) (lines-feed (a ++ (b ∷ [])) l t (no-rest b l p))
 
-lines-off : (test : Line → Bool) → test Malformed ≡ false → (a s : List ℕ) → noFeed s ≡ true → firstIs test (linesFrom a s) ≡ false
+-- the first line of a text without a line feed is malformed, if there is one
+pub lines-off : (test : Line → Bool) → test Malformed ≡ false → (a s : List ℕ) → noFeed s ≡ true → firstIs test (linesFrom a s) ≡ false
 unfolding linesFrom
 lines-off test m [] [] p = refl
 lines-off test m (a ∷ l) [] p = m
 lines-off test m l (b ∷ s) p = rw (lines-byte l b s, ne-eqb b 10 (no-first b s p)) (lines-off test m (l ++ (b ∷ [])) s (no-rest b s p))
 
--- the first line of a text without a line feed is malformed, if there is one
-pub first-off : (test : Line → Bool) → test Malformed ≡ false → (s : List ℕ) → noFeed s ≡ true → firstIs test (linesOf s) ≡ false
-first-off test m s p = lines-off test m [] s p
-
-module _ (l t : List ℕ) (p : noFeed l ≡ true) where
-  pub first-is : (test : Line → Bool) → firstIs test (linesOf (l ↵ t)) ≡ test (lineOf l)
-  first-is test = rw (lines-feed [] l t p)
-
-  pub first-line : First (l ↵ t) (lineOf l) (length l + 1)
-  first-line = record {
-    some = omega arith;
-    within = rw (length-append l (10 ∷ t)) (omega arith);
-    lines = lines-feed [] l t p ∙ rw (drop-append-add l (10 ∷ t) 1);
-  }
+pub first-line : (l t : List ℕ) → noFeed l ≡ true → First (l ↵ t) (lineOf l) (length l + 1)
+first-line l t p = record {
+  some = omega arith;
+  within = rw (length-append l (10 ∷ t)) (omega arith);
+  lines = lines-feed [] l t p ∙ rw (drop-append-add l (10 ∷ t) 1);
+}
 
 -- words
 
@@ -103,7 +97,8 @@ starts-line [] [] t p q = refl
 starts-line [] (b ∷ l) t p q = rw (ne-eqb 10 b (λ h. no-first b l q (sym h)), lt-leb (length (b ∷ l)) 0 (omega arith))
 starts-line (a ∷ e) [] t p q = rw (ne-eqb a 10 (no-first a e p))
 starts-line (a ∷ e) (b ∷ l) t p q =
-    rw (starts-line e l t (no-rest a e p) (no-rest b l q), compare·suc-suc (length l) (length e)) (sym (and-assoc (eqb a b) (starts e l) (leb (length l) (length e))))
+    rw (starts-line e l t (no-rest a e p) (no-rest b l q), compare·suc-suc (length l) (length e))
+    (sym (and-assoc (eqb a b) (starts e l) (leb (length l) (length e))))
 
 pub starts-none : (e s : List ℕ) → noFeed s ≡ true → starts (e ↵ []) s ≡ false
 unfolding starts
@@ -143,7 +138,8 @@ withBytes k (some n) = num.Value n k
 number-line : (e l t : List ℕ) → noFeed e ≡ true → noFeed l ≡ true → scanNumber (e ↵ []) (l ↵ t) ≡ withBytes (length l + 1) (numberThen e l)
 unfolding scanNumber numberThen
 number-line e l t p q =
-    rw (number-feed l t, value-feed l t, after-feed l t, digits-feed l t, starts-line e (afterNumber l) t p (no-drop (digits l) l q), length-append e (10 ∷ []))
+    let e′ = starts-line e (afterNumber l) t p (no-drop (digits l) l q) in
+    rw (number-feed l t, value-feed l t, after-feed l t, digits-feed l t, e′, length-append e (10 ∷ []))
     (if-by (withBytes (length l + 1)) (isNumber l && same e (afterNumber l)) (λ h. ap (num.Value (numberOf l)) (omega (arith, fits h))) refl)
   where
     fits : isNumber l && same e (afterNumber l) ≡ true → digits l + length e ≡ length l

@@ -22,7 +22,8 @@ use Rattle.scan.specs.Answers.{scanOne, scanTwo}
 use Rattle.scan.proofs.Laws.{both, starts-off, starts-short, one-off, one-short, two-by}
 use Rattle.line.specs.Lines.{First, isStack, isFunc, isInside, firstIs, numAs, stackAs, funcAs, insideAs}
 use Rattle.line.specs.Patterns.{Pattern, fixed, one, two, Parse, parseOne, parseTwo, _↵_, parse, orElse, parseBy, points, stack, func, close, lines}
-use Rattle.line.proofs.Feed.{noFeed, by-feed, first-off, first-is, first-line, starts-line, starts-none, same-length, withBytes, pairWithBytes, one-none, one-line, two-none, two-line}
+use Rattle.line.proofs.Feed.{noFeed, by-feed, lines-off, first-line, starts-line, starts-none, same-length}
+use Rattle.line.proofs.Feed.{withBytes, pairWithBytes, one-none, one-line, two-none, two-line}
 
 -- a pattern is left only if its opening word has the text's byte at a place
 
@@ -176,24 +177,28 @@ read : (s : List ℕ) → Read s (parseBy lines s)
 read = by-feed (λ s. Read s (parseBy lines s)) last line
   where
     last : (s : List ℕ) → noFeed s ≡ true → Read s (parseBy lines s)
-    last s p = rw (by-none lines s p) (λ test m. first-off test m s p)
+    last s p = rw (by-none lines s p) (λ test m. lines-off test m [] s p)
 
     line : (l t : List ℕ) → noFeed l ≡ true → Read (l ↵ t) (parseBy lines (l ↵ t))
     line l t p = go (parseBy lines (l ↵ t)) (rw (← line-of l) at (says l t p lines refl))
       where
         go : (x : Parse) → Says (length l + 1) (lineOf l) x → Read (l ↵ t) x
-        go none h = λ test m. first-is l t p test ∙ ap test h ∙ m
+        go none h = λ test m. rw (first-line l t p .lines) (ap test h ∙ m)
         go (some x) h = rw (h .0, h .1) at (first-line l t p)
 
 -- a text begins with one of the patterns qs, of which the byte b at the place i leaves no other
-found : (i b : ℕ) (s : List ℕ) (qs : List Pattern) (x : Line × ℕ) → leaves i b lines ≡ qs → ((y : ℕ) → (b ≡ y → ⊥) → leaves i y qs ≡ []) → some x ≡ parseBy qs s → First s (x .0) (x .1)
+found :
+    (i b : ℕ) (s : List ℕ) (qs : List Pattern) (x : Line × ℕ) → leaves i b lines ≡ qs → ((y : ℕ) → (b ≡ y → ⊥) → leaves i y qs ≡ [])
+    → some x ≡ parseBy qs s → First s (x .0) (x .1)
 found i b s qs x h k e =
     elim (ℕ-discrete b (getD s i 0)) [
       | yes j ↦ rw (sym (e ∙ left-some i b s (sym j) lines qs h)) at (read s)
       | no n ↦ let z = e ∙ sym (left-none i (getD s i 0) s refl qs (k _ n)) in let y : _≡_ {A = ℕ} 0 1 = cc in absurd (omega arith)
     ]
 
-found-one : (i b : ℕ) (s : List ℕ) (p : Pattern) (x : Line × ℕ) → leaves i b lines ≡ p ∷ [] → ((y : ℕ) → (b ≡ y → ⊥) → leaves i y (p ∷ []) ≡ []) → some x ≡ parse p s → First s (x .0) (x .1)
+found-one :
+    (i b : ℕ) (s : List ℕ) (p : Pattern) (x : Line × ℕ) → leaves i b lines ≡ p ∷ [] → ((y : ℕ) → (b ≡ y → ⊥) → leaves i y (p ∷ []) ≡ [])
+    → some x ≡ parse p s → First s (x .0) (x .1)
 unfolding parseBy
 found-one i b s p x h k e = found i b s (p ∷ []) x h k (e ∙ sym (or-none (parse p s)))
 

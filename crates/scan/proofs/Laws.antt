@@ -161,6 +161,7 @@ pub taken-is :
     → v ≡ value 0 (take i s) → Taken s v i
 taken-is s d v i e k h l m t = record {
   some = h;
+  within = omega (arith, digits-fit s);
   left = l;
   whole = whole (digits s) (getD s 0 0) d (omega arith) (omega arith) ∙ ap (λ n. eqb (digits s) n) (sym m);
   is = t;

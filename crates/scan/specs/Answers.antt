@@ -51,6 +51,7 @@ limit v = if eqb v 0 then 1 else 4
 -- v is the value of the first k digits of s. No digit is left exactly if s begins with a number.
 pub record Taken (s : List ℕ) (v k : ℕ) : Type 0 where
   pub some : 1 ≤ k
+  pub within : k ≤ length s
   pub left : digits s ≡ k + digits (drop k s)
   pub whole : isNumber s ≡ eqb (digits s) k
   pub is : v ≡ value 0 (take k s)

@@ -9,11 +9,7 @@ use Rattle.line.proofs.read_e.Tie as tie
 pub read-e-spec : {M : Type 1} → statement M
 read-e-spec =
     tie.close
-    (tie.spec
-    (λ c. search needs)
-    (λ c. search needs)
-    (λ c κs. search needs)
-    (λ c κs. search needs)
+    (tie.spec (λ c. search needs) (λ c. search needs) (λ c κs. search needs) (λ c κs. search needs)
     (λ c. c .read-numbered .ensures ∙ left-one 4 110 _ (omega arith) _ _ refl)
     (λ c. c .read-either .ensures ∙ left-one 4 105 _ (omega arith) _ _ refl)
     (λ c. none-left 4 _ _ (omega arith)))

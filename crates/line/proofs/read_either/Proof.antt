@@ -8,12 +8,6 @@ use Rattle.line.proofs.read_either.Tie as tie
 pub read-either-spec : {M : Type 1} → statement M
 read-either-spec =
     tie.close
-    (tie.spec
-    (λ c. search needs)
-    (λ c. search needs)
-    (λ c. search needs)
-    (λ c κs. search needs)
-    (λ c. search needs)
-    (λ c. search needs)
+    (tie.spec (λ c. search needs) (λ c. search needs) (λ c. search needs) (λ c κs. search needs) (λ c. search needs) (λ c. search needs)
     (λ c. ap (parseTwo _) (sym (c .enum-told .given .1) ∙ c .before .before .two .ensures))
     (λ c. ap (parseTwo _) (sym (c .before .p .given .1) ∙ c .before .before .before .two .ensures)))

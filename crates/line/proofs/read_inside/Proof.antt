@@ -9,13 +9,9 @@ use Rattle.line.proofs.read_inside.Tie as tie
 pub read-inside-spec : {M : Type 1} → statement M
 read-inside-spec =
     tie.close
-    (tie.spec
-    (λ c κs. search needs)
-    (λ c. search needs)
+    (tie.spec (λ c κs. search needs) (λ c. search needs)
     (λ c. point-as _ _ _ (ap parsedAs (sym (c .before .x .given .1)) ∙ c .before .before .before .read-point .ensures))
-    (λ c. search needs)
-    (λ c. search needs)
-    (λ c κs. search needs)
+    (λ c. search needs) (λ c. search needs) (λ c κs. search needs)
     (λ c. close-as _ (sym (c .before .starts .ensures) ∙ c .if1 .taken))
     (λ c.
     let t = c .before .before .before in

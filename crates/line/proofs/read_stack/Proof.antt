@@ -5,10 +5,4 @@ use Rattle.line.proofs.read_stack.Statement.{statement}
 use Rattle.line.proofs.read_stack.Tie as tie
 
 pub read-stack-spec : {M : Type 1} → statement M
-read-stack-spec =
-    tie.close
-    (tie.spec
-    (λ c. search needs)
-    (λ c. search needs)
-    (λ c κs. search needs)
-    (λ c. stack-as _ _ (c .one .ensures)))
+read-stack-spec = tie.close (tie.spec (λ c. search needs) (λ c. search needs) (λ c κs. search needs) (λ c. stack-as _ _ (c .one .ensures)))

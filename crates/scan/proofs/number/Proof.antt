@@ -59,23 +59,13 @@ returns-4 c =
 pub number-spec : {M : Type 1} → statement M
 number-spec =
     tie.close
-    (tie.spec
-    Inv-loop
-    μ-loop
+    (tie.spec Inv-loop μ-loop
     (λ c. omega (arith, digits-fit (c .before .before .args .s .now)))
-    (λ c. omega arith)
-    (λ c κs. search needs)
+    (λ c. omega arith) (λ c κs. search needs)
     (λ c.
     let d = c .before .digit in
     digits-stop (c .before .before .before .before .before .args .s .now) 0 (d .result) (omega arith) (d .ensures) (omega arith) (omega arith))
-    (λ c κs. omega arith)
-    loop-holds
-    (λ c. omega arith)
-    (λ c κs. search needs)
-    returns-3
+    (λ c κs. omega arith) loop-holds (λ c. omega arith) (λ c κs. search needs) returns-3
     (λ c. omega (arith, below-most (c .before .before .before .before .loop .i) (omega arith)))
     (λ c. omega (arith, below-most (c .before .before .before .before .loop .i) (omega arith)))
-    (λ c. omega arith)
-    (λ c. omega arith)
-    loop-again
-    returns-4)
+    (λ c. omega arith) (λ c. omega arith) loop-again returns-4)

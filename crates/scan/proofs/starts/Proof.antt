@@ -15,29 +15,19 @@ Inv-loop w s all₀ i₀ all i = (i ≤ length w) × (all ≡ Text.starts (drop 
 abbrev μ-loop : tie.MeasureT-loop
 μ-loop w s all₀ i₀ all i = i
 
-loop-again : tie.Need-loop-again Inv-loop μ-loop
-loop-again c =
-    let l = c .before .before .before .before in
-    (omega arith, sym (starts-at _ _ (l .loop .i) (l .loop .i - 1) (omega arith) (omega arith) (omega arith) ∙ rw (ne-eqb _ _ (c .if2 .taken))))
-
-loop-again-2 : tie.Need-loop-again-2 Inv-loop μ-loop
-loop-again-2 c =
-    let l = c .before .before .before .before in
-    (omega arith, l .loop .inv .1 ∙ sym (starts-at _ _ (l .loop .i) (l .loop .i - 1) (omega arith) (omega arith) (omega arith) ∙ rw (eq-eqb _ _ (c .if2 .left))))
-
 pub starts-spec : {M : Type 1} → statement M
 starts-spec =
     tie.close
-    (tie.spec
-    Inv-loop
-    μ-loop
+    (tie.spec Inv-loop μ-loop
     (λ c. let a = c .before .args in sym (starts-short (a .w .now) (a .s .now) (omega arith)))
     (λ c. let a = c .before .args in (omega arith, sym (starts-end (a .w .now) (a .s .now) (length (a .w .now)) (omega arith))))
+    (λ c. omega arith) (λ c. omega arith) (λ c. omega arith) (λ c. omega arith)
+    (λ c.
+    let i = c .before .before .before .before .loop .i in
+    (omega arith, sym (starts-at _ _ i (i - 1) (omega arith) (omega arith) (omega arith) ∙ rw (ne-eqb _ _ (c .if2 .taken)))))
     (λ c. omega arith)
-    (λ c. omega arith)
-    (λ c. omega arith)
-    (λ c. omega arith)
-    loop-again
-    (λ c. omega arith)
-    loop-again-2
+    (λ c.
+    let l = c .before .before .before .before .loop in
+    let e = starts-at _ _ (l .i) (l .i - 1) (omega arith) (omega arith) (omega arith) ∙ rw (eq-eqb _ _ (c .if2 .left)) in
+    (omega arith, l .inv .1 ∙ sym e))
     (λ c. let z : c .before .loop .i ≡ 0 = omega arith in rw z at (c .before .loop .inv .1)))
