@@ -9,7 +9,7 @@ use native.Mathlib.Omega.{arith}
 use lib.ListN.{length, getD}
 use lib.Dec.{eqb}
 use borrow.Author.Tests.{eqb-false, ne-eqb}
-use Rattle.model.specs.Basic.{if_then_else_}
+use Rattle.model.specs.Basic.{if_then_else_, _orElse_, firstOf, select}
 use Rattle.model.specs.Text.{bytes, starts, same, oneNumber, twoNumbers, orOne, orTwo, pointForm, lineOf, linesOf}
 use Rattle.model.specs.declared.Point.{Point}
 use Rattle.model.specs.declared.Line.{Line}
@@ -21,7 +21,7 @@ use Rattle.scan.specs.declared.Pair.the-variants as pair
 use Rattle.scan.specs.Answers.{scanOne, scanTwo}
 use Rattle.scan.proofs.Laws.{both, starts-off, starts-short, one-off, one-short, two-by}
 use Rattle.line.specs.Lines.{First, isStack, isFunc, isInside, firstIs, numAs, stackAs, funcAs, insideAs}
-use Rattle.line.specs.Patterns.{Pattern, fixed, one, two, Parse, parseOne, parseTwo, _↵_, parse, orElse, parseBy, points, stack, func, close, lines}
+use Rattle.line.specs.Patterns.{Pattern, fixed, one, two, Parse, parseOne, parseTwo, _↵_, parse, parseBy, points, stack, func, close, lines}
 use Rattle.line.proofs.Feed.{noFeed, by-feed, lines-off, first-line, starts-line, starts-none, same-length}
 use Rattle.line.proofs.Feed.{withBytes, pairWithBytes, one-none, one-line, two-none, two-line}
 
@@ -38,25 +38,27 @@ parse-off (fixed w l) s h = rw h
 parse-off (one w e f) s h = rw (← one-off w (e ↵ []) s h)
 parse-off (two w m e f) s h = rw (← two-by w m (e ↵ []) s _ (one-off w m s h))
 
--- the patterns that the byte b at the place i leaves
-abbrev pub leaves : ℕ → ℕ → List Pattern → List Pattern
-leaves i b [] = []
-leaves i b (p ∷ ps) = if eqb (getD (opening p) i b) b then p ∷ leaves i b ps else leaves i b ps
-
-or-none : (x : Parse) → orElse x none ≡ x
+or-none : (x : Parse) → (x orElse none) ≡ x
 or-none none = refl
 or-none (some x) = refl
 
-by-byte : (i : ℕ) (s : List ℕ) (ps : List Pattern) → parseBy (leaves i (getD s i 0) ps) s ≡ parseBy ps s
-unfolding parseBy
-by-byte i s [] = refl
-by-byte i s (p ∷ ps) = go (eqb (getD (opening p) i (getD s i 0)) (getD s i 0)) refl (by-byte i s ps)
+-- elements that give no answer may be left out
+first-select :
+    {A B : Type 0} (f : A → Option B) (t : A → Bool) → ((a : A) → t a ≡ false → f a ≡ none) → (l : List A) → firstOf f (select t l) ≡ firstOf f l
+unfolding firstOf select
+first-select f t h [] = refl
+first-select f t h (a ∷ l) = go (t a) refl (first-select f t h l)
   where
-    go :
-        (t : Bool) → eqb (getD (opening p) i (getD s i 0)) (getD s i 0) ≡ t → parseBy (leaves i (getD s i 0) ps) s ≡ parseBy ps s
-        → parseBy (if t then p ∷ leaves i (getD s i 0) ps else leaves i (getD s i 0) ps) s ≡ orElse (parse p s) (parseBy ps s)
-    go true e h = ap (orElse (parse p s)) h
-    go false e h = rw (parse-off p s (starts-off (opening p) s i (eqb-false _ _ e))) h
+    go : (b : Bool) → t a ≡ b → firstOf f (select t l) ≡ firstOf f l → firstOf f (if b then a ∷ select t l else select t l) ≡ (f a orElse firstOf f l)
+    go true e i = ap (λ y. f a orElse y) i
+    go false e i = rw (h a e) i
+
+-- the patterns that the byte b at the place i leaves
+abbrev pub leaves : ℕ → ℕ → List Pattern → List Pattern
+leaves i b ps = select (λ p. eqb (getD (opening p) i b) b) ps
+
+by-byte : (i : ℕ) (s : List ℕ) (ps : List Pattern) → parseBy (leaves i (getD s i 0) ps) s ≡ parseBy ps s
+by-byte i s = first-select _ _ (λ p e. parse-off p s (starts-off (opening p) s i (eqb-false _ _ e)))
 
 -- the byte b at the place i leaves the patterns qs, the pattern p, or none
 module _ (i b : ℕ) (s : List ℕ) (e : getD s i 0 ≡ b) (ps : List Pattern) where
@@ -64,11 +66,11 @@ module _ (i b : ℕ) (s : List ℕ) (e : getD s i 0 ≡ b) (ps : List Pattern) w
   left-some qs h = rw (← h, ← e) (by-byte i s ps)
 
   pub left-one : (p : Pattern) → leaves i b ps ≡ p ∷ [] → parse p s ≡ parseBy ps s
-  unfolding parseBy
+  unfolding firstOf
   left-one p h = sym (or-none (parse p s)) ∙ left-some (p ∷ []) h
 
   pub left-none : leaves i b ps ≡ [] → none ≡ parseBy ps s
-  unfolding parseBy
+  unfolding firstOf
   left-none h = left-some [] h
 
 -- a line of the pattern has so many bytes at least
@@ -88,7 +90,7 @@ Each P [] = Unit {0}
 Each P (p ∷ ps) = P p × Each P ps
 
 none-each : (P : Pattern → Type 0) (s : List ℕ) → ((p : Pattern) → P p → parse p s ≡ none) → (ps : List Pattern) → Each P ps → none ≡ parseBy ps s
-unfolding parseBy
+unfolding firstOf
 none-each P s f [] h = refl
 none-each P s f (p ∷ ps) h = rw (f p (h .0)) (none-each P s f ps (h .1))
 
@@ -106,7 +108,7 @@ parse-none (one w e f) s p = rw (one-none w e s p)
 parse-none (two w m e f) s p = rw (two-none w m e s p)
 
 by-none : (ps : List Pattern) (s : List ℕ) → noFeed s ≡ true → parseBy ps s ≡ none
-unfolding parseBy
+unfolding firstOf
 by-none [] s p = refl
 by-none (q ∷ ps) s p = rw (parse-none q s p) (by-none ps s p)
 
@@ -134,20 +136,20 @@ Says k q none = q ≡ Malformed
 Says k q (some x) = (q ≡ x .0) × (k ≡ x .1)
 
 module _ (k : ℕ) (q : Line) (y : Parse) (h : Says k q y) where
-  says-one : (f : ℕ → Line) (x : Option ℕ) → Says k (orOne x f q) (orElse (parseOne f (withBytes k x)) y)
+  says-one : (f : ℕ → Line) (x : Option ℕ) → Says k (orOne x f q) (parseOne f (withBytes k x) orElse y)
   says-one f none = h
   says-one f (some n) = (refl, refl)
 
-  says-two : (f : ℕ → ℕ → Line) (x : Option (ℕ × ℕ)) → Says k (orTwo x f q) (orElse (parseTwo f (pairWithBytes k x)) y)
+  says-two : (f : ℕ → ℕ → Line) (x : Option (ℕ × ℕ)) → Says k (orTwo x f q) (parseTwo f (pairWithBytes k x) orElse y)
   says-two f none = h
   says-two f (some n) = (refl, refl)
 
-  says-fixed : (l : Line) (n : ℕ) (b : Bool) → (b ≡ true → k ≡ n) → Says k (if b then l else q) (orElse (if b then some (l, n) else none) y)
+  says-fixed : (l : Line) (n : ℕ) (b : Bool) → (b ≡ true → k ≡ n) → Says k (if b then l else q) ((if b then some (l, n) else none) orElse y)
   says-fixed l n true e = (refl, e refl)
   says-fixed l n false e = h
 
 says : (l t : List ℕ) → noFeed l ≡ true → (ps : List Pattern) → cleanAll ps ≡ true → Says (length l + 1) (lineBy ps l) (parseBy ps (l ↵ t))
-unfolding parseBy
+unfolding firstOf
 says l t o [] c = refl
 says l t o (fixed w q ∷ ps) c =
     let b = both (noFeed w) (cleanAll ps) c in
@@ -199,7 +201,7 @@ found i b s qs x h k e =
 found-one :
     (i b : ℕ) (s : List ℕ) (p : Pattern) (x : Line × ℕ) → leaves i b lines ≡ p ∷ [] → ((y : ℕ) → (b ≡ y → ⊥) → leaves i y (p ∷ []) ≡ [])
     → some x ≡ parse p s → First s (x .0) (x .1)
-unfolding parseBy
+unfolding firstOf
 found-one i b s p x h k e = found i b s (p ∷ []) x h k (e ∙ sym (or-none (parse p s)))
 
 -- a test that no line of some patterns passes
@@ -209,7 +211,7 @@ passes test none = false
 passes test (some x) = test (x .0)
 
 module _ (test : Line → Bool) where
-  fails-or : (x y : Parse) → passes test x ≡ false → passes test y ≡ false → passes test (orElse x y) ≡ false
+  fails-or : (x y : Parse) → passes test x ≡ false → passes test y ≡ false → passes test (x orElse y) ≡ false
   fails-or none y h k = k
   fails-or (some x) y h k = h
 
@@ -237,7 +239,7 @@ module _ (test : Line → Bool) where
   never (two w m e f) s h = fails-two (scanTwo w m (e ↵ []) s) f h
 
   fails : (ps : List Pattern) (s : List ℕ) → Each Never ps → passes test (parseBy ps s) ≡ false
-  unfolding parseBy
+  unfolding firstOf
   fails [] s h = refl
   fails (p ∷ ps) s h = fails-or (parse p s) (parseBy ps s) (never p s (h .0)) (fails ps s (h .1))
 
@@ -255,24 +257,26 @@ module _ (test : Line → Bool) where
 -- what each reader says
 
 pub stack-as : (r : Num) (s : List ℕ) → r ≡ scanOne (bytes "(stack ") (bytes ")\n") s → stackAs r s
-unfolding parseBy Never
+unfolding firstOf select Never
 stack-as (num.Value n k) s e = found-one 1 115 s stack (Stack n, k) refl (λ y n. rw (ne-eqb 115 y n)) (ap (parseOne Stack) e)
 stack-as num.Absent s e =
     not-first isStack refl s (rw (← e) (fails isStack (func ∷ close ∷ points) s (λ n. refl, (refl, fails-points isStack (λ x. refl)))))
 
 pub func-as : (r : Num) (s : List ℕ) → r ≡ scanOne (bytes "(func ") (bytes "\n") s → funcAs r s
-unfolding parseBy Never
+unfolding firstOf select Never
 func-as (num.Value n k) s e = found-one 1 102 s func (Func n, k) refl (λ y n. rw (ne-eqb 102 y n)) (ap (parseOne Func) e)
 func-as num.Absent s e =
     not-first isFunc refl s (rw (← e) (fails isFunc (stack ∷ close ∷ points) s (λ n. refl, (refl, fails-points isFunc (λ x. refl)))))
 
 pub point-as : (x : Point) (k : ℕ) (s : List ℕ) → some (At x, k) ≡ parseBy points s → First s (At x) k
+unfolding select
 point-as x k s e = found 0 32 s points (At x, k) refl (λ y n. rw (ne-eqb 32 y n)) e
 
 pub close-as : (s : List ℕ) → starts (bytes ")\n") s ≡ true → First s Close 2
+unfolding select
 close-as s e = found-one 0 41 s close (Close, 2) refl (λ y n. rw (ne-eqb 41 y n)) (rw e)
 
 pub other-as : (s : List ℕ) → none ≡ parseBy points s → starts (bytes ")\n") s ≡ false → firstIs isInside (linesOf s) ≡ false
-unfolding parseBy Never
+unfolding firstOf Never
 other-as s e h =
     not-first isInside refl s (rw (← e, h) (fails isInside (stack ∷ func ∷ []) s (λ n. refl, (λ n. refl, tt))))

@@ -3,7 +3,7 @@ use Prim.Native.Nat.{ℕ, _+_}
 use mathlib.Core.List.{List, [], _∷_, _++_}
 use mathlib.Core.Option.{Option, none, some}
 use lib.ListN.{length}
-use Rattle.model.specs.Basic.{if_then_else_}
+use Rattle.model.specs.Basic.{if_then_else_, firstOf}
 use Rattle.model.specs.Text.{bytes, starts}
 use Rattle.model.specs.declared.Point.{Point}
 use Rattle.model.specs.declared.Point.the-variants as point
@@ -37,25 +37,20 @@ abbrev pub parseTwo : (ℕ → ℕ → Line) → Pair → Parse
 parseTwo f (pair.Values p q k) = some (f p q, k)
 parseTwo f pair.Absent = none
 
-infixr 6 _↵_
 -- the line l, its line feed and the text t
 abbrev pub _↵_ : List ℕ → List ℕ → List ℕ
 l ↵ t = l ++ (10 ∷ t)
 
+infixr 6 _↵_
 -- the line of the pattern that s begins with
 abbrev pub parse : Pattern → List ℕ → Parse
 parse (fixed w l) s = if starts (w ↵ []) s then some (l, length w + 1) else none
 parse (one w e f) s = parseOne f (scanOne w (e ↵ []) s)
 parse (two w m e f) s = parseTwo f (scanTwo w m (e ↵ []) s)
 
-abbrev pub orElse : Parse → Parse → Parse
-orElse (some x) y = some x
-orElse none y = y
-
 -- the same by the first of the patterns that fits
-unfoldable pub parseBy : List Pattern → List ℕ → Parse
-parseBy [] s = none
-parseBy (p ∷ ps) s = orElse (parse p s) (parseBy ps s)
+abbrev pub parseBy : List Pattern → List ℕ → Parse
+parseBy ps s = firstOf (λ p. parse p s) ps
 
 -- the point of a form with the number n
 abbrev pub made : Form → ℕ → Point

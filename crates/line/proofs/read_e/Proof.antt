@@ -2,11 +2,13 @@
 use mathlib.Core.Path.{refl, _∙_}
 use native.Mathlib.Omega.{arith}
 use borrow.Author.Needs.{needs}
+use Rattle.model.specs.Basic.{select}
 use Rattle.line.proofs.Laws.{left-one, none-left}
 use Rattle.line.proofs.read_e.Statement.{statement}
 use Rattle.line.proofs.read_e.Tie as tie
 
 pub read-e-spec : {M : Type 1} → statement M
+unfolding select
 read-e-spec =
     tie.close
     (tie.spec (λ c. search needs) (λ c. search needs) (λ c κs. search needs) (λ c κs. search needs)

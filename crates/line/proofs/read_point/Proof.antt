@@ -2,11 +2,13 @@
 use mathlib.Core.Path.{refl, _∙_}
 use native.Mathlib.Omega.{arith}
 use borrow.Author.Needs.{needs}
+use Rattle.model.specs.Basic.{select}
 use Rattle.line.proofs.Laws.{left-some, left-one, none-short, none-left}
 use Rattle.line.proofs.read_point.Statement.{statement}
 use Rattle.line.proofs.read_point.Tie as tie
 
 pub read-point-spec : {M : Type 1} → statement M
+unfolding select
 read-point-spec =
     tie.close
     (tie.spec
