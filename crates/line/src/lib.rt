@@ -77,17 +77,21 @@ fn read_e(s: &[u8]) -> Parsed
 fn read_return(s: &[u8]) -> Parsed
     ensures { λ r. ⌜ parsedAs r ≡ parse return (now (s .entry)) ⌝ }
 {
-    if scan::starts(b"  (return)\n", s) {
-        return Parsed::Point(Point::Return, 11);
+    let w = b"  (return)\n";
+    if scan::starts(w, s) {
+        return Parsed::Point(Point::Return, w.len());
     }
     Parsed::Absent
 }
 
-// A point line, which has 11 bytes at least: the letter after the two spaces and the bracket picks the pattern.
+// The bytes of the shortest point lines, as "  (load 0)" with its line feed.
+const SHORTEST: usize = 11;
+
+// A point line: the letter after the two spaces and the bracket picks the pattern.
 fn read_point(s: &[u8]) -> Parsed
     ensures { λ r. ⌜ parsedAs r ≡ parseBy points (now (s .entry)) ⌝ }
 {
-    if s.len() < 11 {
+    if s.len() < SHORTEST {
         return Parsed::Absent;
     }
     let b = s[3];

@@ -42,6 +42,9 @@ fn digit(b: u8) -> u32
     std::num::wrapping_sub_u32(b as u32, b'0' as u32)
 }
 
+// The most digits of a number.
+const DIGITS: usize = 4;
+
 // Where a number ends at the latest that begins with the digit v, in a text of n bytes.
 fn most(v: u32, n: usize) -> usize
     requires { ⌜ 1 ≤ n ⌝ }
@@ -50,13 +53,13 @@ fn most(v: u32, n: usize) -> usize
     if v == 0 {
         return 1;
     }
-    if n < 4 {
+    if n < DIGITS {
         return n;
     }
-    4
+    DIGITS
 }
 
-// The digits that s begins with, as a number: at most four, and one after a 0. A digit too many is left.
+// The number that s begins with: a 0 alone, or up to DIGITS digits. A digit too many is left.
 fn number(s: &[u8]) -> Num
     ensures { λ r. ⌜ takenAs r (now (s .entry)) ⌝ }
 {
