@@ -11,17 +11,18 @@ use lib.Seq.{take-append-le, drop-append-le, drop-append-add, drop-drop}
 use lib.Dec.{eqb, leb}
 use borrow.Author.Tests.{not-true, eqb-false, ne-eqb, lt-leb, leb-true}
 use Rattle.model.specs.Basic.{if_then_else_}
-use Rattle.model.specs.Text.{starts, same, isDigit, digits, isNumber, numberOf, afterNumber, numberThen, oneNumber, withFirst, numbersThen, twoNumbers, lineOf, linesFrom, linesOf}
+use Rattle.model.specs.Text.{starts, same, isDigit, digits, isNumber, numberOf, afterNumber, lineOf, linesFrom, linesOf}
+use Rattle.model.specs.Text.{numberThen, oneNumber, withFirst, numbersThen, twoNumbers}
 use Rattle.model.specs.declared.Line.{Line}
 use Rattle.model.specs.declared.Line.the-variants.{Malformed}
-use Rattle.words.specs.Answers.{Front, Two, later, numberFront, oneFront, withSecond, thenNumber, twoFront}
-use Rattle.words.proofs.Laws.{either-way, starts-fits, digits-fit}
+use Rattle.scan.specs.declared.Num.{Num}
+use Rattle.scan.specs.declared.Num.the-variants as num
+use Rattle.scan.specs.declared.Pair.{Pair}
+use Rattle.scan.specs.declared.Pair.the-variants as pair
+use Rattle.scan.specs.Answers.{scanNumber, later, scanOne, second, scanSecond, scanTwo}
+use Rattle.scan.proofs.Laws.{if-same, if-by, both, starts-fits, digits-fit, ends, one-fits}
 use Rattle.line.specs.Lines.{First, firstIs}
-
--- both tests hold
-both : (a b : Bool) → a && b ≡ true → (a ≡ true) × (b ≡ true)
-both true b e = (refl, e)
-both false b e = let z : _≡_ {A = ℕ} 0 1 = cc in absurd (omega arith)
+use Rattle.line.specs.Patterns.{_↵_}
 
 -- texts without a line feed
 
@@ -46,8 +47,7 @@ no-drop (suc n) (b ∷ s) p = no-drop n s (no-rest b s p)
 
 -- a text has no line feed, or is a line, a line feed and a text
 pub by-feed :
-    (P : List ℕ → Type 0) → ((s : List ℕ) → noFeed s ≡ true → P s) → ((l t : List ℕ) → noFeed l ≡ true → P (l ++ (10 ∷ t)))
-    → (s : List ℕ) → P s
+    (P : List ℕ → Type 0) → ((s : List ℕ) → noFeed s ≡ true → P s) → ((l t : List ℕ) → noFeed l ≡ true → P (l ↵ t)) → (s : List ℕ) → P s
 by-feed P f g [] = f [] refl
 by-feed P f g (b ∷ s) =
     elim (ℕ-discrete b 10) [
@@ -62,51 +62,45 @@ unfolding linesFrom
 lines-byte [] b s = refl
 lines-byte (a ∷ l) b s = refl
 
-lines-feed : (a l t : List ℕ) → noFeed l ≡ true → linesFrom a (l ++ (10 ∷ t)) ≡ lineOf (a ++ l) ∷ linesOf t
+lines-feed : (a l t : List ℕ) → noFeed l ≡ true → linesFrom a (l ↵ t) ≡ lineOf (a ++ l) ∷ linesOf t
 lines-feed a [] t p = lines-byte a 10 t ∙ rw (append-nil a)
 lines-feed a (b ∷ l) t p =
-    lines-byte a b (l ++ (10 ∷ t)) ∙ rw (ne-eqb b 10 (no-first b l p), ← append-assoc a (b ∷ []) l) (lines-feed (a ++ (b ∷ [])) l t (no-rest b l p))
+    lines-byte a b (l ↵ t) ∙ rw (ne-eqb b 10 (no-first b l p), ← append-assoc a (b ∷ []) l) (lines-feed (a ++ (b ∷ [])) l t (no-rest b l p))
 
-lines-off : (test : Line → Bool) → test Malformed ≡ false → (a s : List ℕ) → noFeed s ≡ true → firstIs test (linesFrom a s) ≡ false
+-- the first line of a text without a line feed is malformed, if there is one
+pub lines-off : (test : Line → Bool) → test Malformed ≡ false → (a s : List ℕ) → noFeed s ≡ true → firstIs test (linesFrom a s) ≡ false
 unfolding linesFrom
 lines-off test m [] [] p = refl
 lines-off test m (a ∷ l) [] p = m
 lines-off test m l (b ∷ s) p = rw (lines-byte l b s, ne-eqb b 10 (no-first b s p)) (lines-off test m (l ++ (b ∷ [])) s (no-rest b s p))
 
--- the first line of a text without a line feed is malformed, if there is one
-pub first-off : (test : Line → Bool) → test Malformed ≡ false → (s : List ℕ) → noFeed s ≡ true → firstIs test (linesOf s) ≡ false
-first-off test m s p = lines-off test m [] s p
-
-module _ (l t : List ℕ) (p : noFeed l ≡ true) where
-  pub first-is : (test : Line → Bool) → firstIs test (linesOf (l ++ (10 ∷ t))) ≡ test (lineOf l)
-  first-is test = rw (lines-feed [] l t p)
-
-  pub first-line : (k : Line) → lineOf l ≡ k → First (l ++ (10 ∷ t)) k (length l + 1)
-  first-line k e = record {
-    some = omega arith;
-    within = rw (length-append l (10 ∷ t)) (omega arith);
-    lines = lines-feed [] l t p ∙ rw (e, drop-append-add l (10 ∷ t) 1);
-  }
+pub first-line : (l t : List ℕ) → noFeed l ≡ true → First (l ↵ t) (lineOf l) (length l + 1)
+first-line l t p = record {
+  some = omega arith;
+  within = rw (length-append l (10 ∷ t)) (omega arith);
+  lines = lines-feed [] l t p ∙ rw (drop-append-add l (10 ∷ t) 1);
+}
 
 -- words
 
 -- a word without a line feed
-pub starts-feed : (w l t : List ℕ) → noFeed w ≡ true → starts w (l ++ (10 ∷ t)) ≡ starts w l
+starts-feed : (w l t : List ℕ) → noFeed w ≡ true → starts w (l ↵ t) ≡ starts w l
 unfolding starts
 starts-feed [] l t p = refl
 starts-feed (a ∷ w) [] t p = rw (ne-eqb a 10 (no-first a w p))
 starts-feed (a ∷ w) (b ∷ l) t p = ap (λ x. eqb a b && x) (starts-feed w l t (no-rest a w p))
 
 -- a word that ends in a line feed
-pub starts-line : (e l t : List ℕ) → noFeed e ≡ true → noFeed l ≡ true → starts (e ++ (10 ∷ [])) (l ++ (10 ∷ t)) ≡ same e l
+pub starts-line : (e l t : List ℕ) → noFeed e ≡ true → noFeed l ≡ true → starts (e ↵ []) (l ↵ t) ≡ same e l
 unfolding starts
 starts-line [] [] t p q = refl
 starts-line [] (b ∷ l) t p q = rw (ne-eqb 10 b (λ h. no-first b l q (sym h)), lt-leb (length (b ∷ l)) 0 (omega arith))
 starts-line (a ∷ e) [] t p q = rw (ne-eqb a 10 (no-first a e p))
 starts-line (a ∷ e) (b ∷ l) t p q =
-    rw (starts-line e l t (no-rest a e p) (no-rest b l q), compare·suc-suc (length l) (length e)) (sym (and-assoc (eqb a b) (starts e l) (leb (length l) (length e))))
+    rw (starts-line e l t (no-rest a e p) (no-rest b l q), compare·suc-suc (length l) (length e))
+    (sym (and-assoc (eqb a b) (starts e l) (leb (length l) (length e))))
 
-pub starts-none : (e s : List ℕ) → noFeed s ≡ true → starts (e ++ (10 ∷ [])) s ≡ false
+pub starts-none : (e s : List ℕ) → noFeed s ≡ true → starts (e ↵ []) s ≡ false
 unfolding starts
 starts-none [] [] p = refl
 starts-none [] (b ∷ s) p = rw (ne-eqb 10 b (λ h. no-first b s p (sym h)))
@@ -116,137 +110,115 @@ starts-none (a ∷ e) (b ∷ s) p = rw (starts-none e s (no-rest b s p)) (and-fa
 pub same-length : (w s : List ℕ) → same w s ≡ true → length s ≡ length w
 same-length w s h =
     let b = both (starts w s) (leb (length s) (length w)) h in
-    omega (arith, starts-fits w s (sym (b .0)), leb-true (length s) (length w) (b .1))
+    omega (arith, starts-fits w s (b .0), leb-true (length s) (length w) (b .1))
 
 -- numbers
 
-digits-nil : digits [] ≡ 0
-unfolding digits
-digits-nil = refl
-
-digits-feed : (l t : List ℕ) → digits (l ++ (10 ∷ t)) ≡ digits l
+digits-feed : (l t : List ℕ) → digits (l ↵ t) ≡ digits l
 unfolding digits
 digits-feed [] t = refl
 digits-feed (b ∷ l) t = ap (λ n. if isDigit b then suc n else 0) (digits-feed l t)
 
-number-feed : (l t : List ℕ) → isNumber (l ++ (10 ∷ t)) ≡ isNumber l
-number-feed [] t = rw (digits-feed [] t, digits-nil)
+number-feed : (l t : List ℕ) → isNumber (l ↵ t) ≡ isNumber l
+unfolding digits
+number-feed [] t = refl
 number-feed (b ∷ l) t = rw (digits-feed (b ∷ l) t)
 
-value-feed : (l t : List ℕ) → numberOf (l ++ (10 ∷ t)) ≡ numberOf l
+value-feed : (l t : List ℕ) → numberOf (l ↵ t) ≡ numberOf l
 value-feed l t = rw (digits-feed l t, take-append-le (digits l) l (10 ∷ t) (digits-fit l))
 
-after-feed : (l t : List ℕ) → afterNumber (l ++ (10 ∷ t)) ≡ afterNumber l ++ (10 ∷ t)
+after-feed : (l t : List ℕ) → afterNumber (l ↵ t) ≡ afterNumber l ↵ t
 after-feed l t = rw (digits-feed l t) (drop-append-le (digits l) l (10 ∷ t) (digits-fit l))
 
--- fronts
-
 -- the number of a line, with the bytes that the line takes
-abbrev pub withBytes : ℕ → Option ℕ → Front
-withBytes k none = none
-withBytes k (some n) = some (n, k)
+abbrev pub withBytes : ℕ → Option ℕ → Num
+withBytes k none = num.Absent
+withBytes k (some n) = num.Value n k
 
-bytes-by : (t : Bool) (n k m : ℕ) → (t ≡ true → k ≡ m) → (if t then some (n, k) else none) ≡ withBytes m (if t then some n else none)
-bytes-by true n k m h = rw (h refl)
-bytes-by false n k m h = refl
+number-line : (e l t : List ℕ) → noFeed e ≡ true → noFeed l ≡ true → scanNumber (e ↵ []) (l ↵ t) ≡ withBytes (length l + 1) (numberThen e l)
+unfolding scanNumber numberThen
+number-line e l t p q =
+    let e′ = starts-line e (afterNumber l) t p (no-drop (digits l) l q) in
+    rw (number-feed l t, value-feed l t, after-feed l t, digits-feed l t, e′, length-append e (10 ∷ []))
+    (if-by (withBytes (length l + 1)) (isNumber l && same e (afterNumber l)) (λ h. ap (num.Value (numberOf l)) (omega (arith, fits h))) refl)
+  where
+    fits : isNumber l && same e (afterNumber l) ≡ true → digits l + length e ≡ length l
+    fits h = omega (arith, digits-fit l, length-drop (digits l) l, same-length e (afterNumber l) (both (isNumber l) (same e (afterNumber l)) h .1))
+
+number-feeds : (m l t : List ℕ) → noFeed m ≡ true → scanNumber m (l ↵ t) ≡ scanNumber m l
+unfolding scanNumber
+number-feeds m l t p = rw (number-feed l t, value-feed l t, after-feed l t, digits-feed l t, starts-feed m (afterNumber l) t p)
+
+number-none : (e s : List ℕ) → noFeed s ≡ true → scanNumber (e ↵ []) s ≡ num.Absent
+unfolding scanNumber
+number-none e s p = rw (starts-none e (afterNumber s) (no-drop (digits s) s p), and-false (isNumber s))
 
 later-bytes : (x : Option ℕ) (a b c : ℕ) → a + b ≡ c → later a (withBytes b x) ≡ withBytes c x
 later-bytes none a b c h = refl
 later-bytes (some n) a b c h = rw h
 
-number-line : (e l t : List ℕ) → noFeed e ≡ true → noFeed l ≡ true → numberFront (e ++ (10 ∷ [])) (l ++ (10 ∷ t)) ≡ withBytes (length l + 1) (numberThen e l)
-unfolding numberFront numberThen
-number-line e l t p q =
-    rw (number-feed l t, value-feed l t, after-feed l t, digits-feed l t, starts-line e (afterNumber l) t p (no-drop (digits l) l q), length-append e (10 ∷ []))
-    (bytes-by (isNumber l && same e (afterNumber l)) (numberOf l) (digits l + (length e + 1)) (length l + 1) (λ h.
-    omega (arith, digits-fit l, rw (length-drop (digits l) l) at (same-length e (afterNumber l) (both (isNumber l) (same e (afterNumber l)) h .1)))))
-
-number-feeds : (m l t : List ℕ) → noFeed m ≡ true → numberFront m (l ++ (10 ∷ t)) ≡ numberFront m l
-unfolding numberFront
-number-feeds m l t p = rw (number-feed l t, value-feed l t, after-feed l t, digits-feed l t, starts-feed m (afterNumber l) t p)
-
-number-none : (e s : List ℕ) → noFeed s ≡ true → numberFront (e ++ (10 ∷ [])) s ≡ none
-unfolding numberFront
-number-none e s p = rw (starts-none e (afterNumber s) (no-drop (digits s) s p), and-false (isNumber s))
-
 module _ (w e : List ℕ) where
-  pub one-none : (s : List ℕ) → noFeed s ≡ true → oneFront w (e ++ (10 ∷ [])) s ≡ none
-  unfolding oneFront
-  one-none s p = either-way (λ (x : Front). x ≡ none) (starts w s) (rw (number-none e (drop (length w) s) (no-drop (length w) s p))) refl
+  pub one-none : (s : List ℕ) → noFeed s ≡ true → scanOne w (e ↵ []) s ≡ num.Absent
+  unfolding scanOne
+  one-none s p = rw (number-none e (drop (length w) s) (no-drop (length w) s p)) (if-same (starts w s) num.Absent)
 
-  module _ (l t : List ℕ) (p : noFeed w ≡ true) where
-    pub one-line : noFeed e ≡ true → noFeed l ≡ true → oneFront w (e ++ (10 ∷ [])) (l ++ (10 ∷ t)) ≡ withBytes (length l + 1) (oneNumber w e l)
-    unfolding oneFront oneNumber
-    one-line q r = rw (starts-feed w l t p) (go (starts w l) refl)
-      where
-        go :
-            (b : Bool) → starts w l ≡ b
-            → (if b then later (length w) (numberFront (e ++ (10 ∷ [])) (drop (length w) (l ++ (10 ∷ t)))) else none)
-            ≡ withBytes (length l + 1) (if b then numberThen e (drop (length w) l) else none)
-        go true h =
-            let f = starts-fits w l (sym h) in
-            rw (drop-append-le (length w) l (10 ∷ t) f, number-line e (drop (length w) l) t q (no-drop (length w) l r))
-            (later-bytes (numberThen e (drop (length w) l)) _ _ _ (rw (length-drop (length w) l) (omega arith)))
-        go false h = refl
+  module _ (l t : List ℕ) (p : noFeed w ≡ true) (q : noFeed e ≡ true) where
+    pub one-line : noFeed l ≡ true → scanOne w (e ↵ []) (l ↵ t) ≡ withBytes (length l + 1) (oneNumber w e l)
+    unfolding scanOne oneNumber
+    one-line r =
+        rw (starts-feed w l t p)
+        (if-by (withBytes (length l + 1)) (starts w l) (λ h.
+        rw (drop-append-le (length w) l (10 ∷ t) (starts-fits w l h), number-line e (drop (length w) l) t q (no-drop (length w) l r))
+        (later-bytes (numberThen e (drop (length w) l)) _ _ _ (omega (arith, length-drop (length w) l, starts-fits w l h)))) refl)
 
-    one-feeds : noFeed e ≡ true → oneFront w e (l ++ (10 ∷ t)) ≡ oneFront w e l
-    unfolding oneFront
-    one-feeds q = rw (starts-feed w l t p) (go (starts w l) refl)
-      where
-        go :
-            (b : Bool) → starts w l ≡ b
-            → (if b then later (length w) (numberFront e (drop (length w) (l ++ (10 ∷ t)))) else none)
-            ≡ (if b then later (length w) (numberFront e (drop (length w) l)) else none)
-        go true h = rw (drop-append-le (length w) l (10 ∷ t) (starts-fits w l (sym h)), number-feeds e (drop (length w) l) t q)
-        go false h = refl
+    one-feeds : scanOne w e (l ↵ t) ≡ scanOne w e l
+    unfolding scanOne
+    one-feeds =
+        rw (starts-feed w l t p)
+        (if-by (λ (x : Num). x) (starts w l) (λ h.
+        rw (drop-append-le (length w) l (10 ∷ t) (starts-fits w l h), number-feeds e (drop (length w) l) t q)) refl)
+
+-- two numbers
 
 -- the two numbers of a line, with the bytes that the line takes
-abbrev pub pairWithBytes : ℕ → Option (ℕ × ℕ) → Option Two
-pairWithBytes k none = none
-pairWithBytes k (some n) = some (record { first = n .0; second = n .1; bytes = k })
+abbrev pub pairWithBytes : ℕ → Option (ℕ × ℕ) → Pair
+pairWithBytes k none = pair.Absent
+pairWithBytes k (some n) = pair.Values (n .0) (n .1) k
 
-second-bytes : (x : Option ℕ) (n a b c : ℕ) → a + b ≡ c → withSecond n a (withBytes b x) ≡ pairWithBytes c (withFirst n x)
+second-bytes : (x : Option ℕ) (n a b c : ℕ) → a + b ≡ c → second n a (withBytes b x) ≡ pairWithBytes c (withFirst n x)
 second-bytes none n a b c h = refl
 second-bytes (some m) n a b c h = rw h
 
--- the second number, after k bytes
-second-line :
-    (e l t : List ℕ) (n k : ℕ) → k ≤ length l → noFeed e ≡ true → noFeed l ≡ true
-    → withSecond n k (numberFront (e ++ (10 ∷ [])) (drop k (l ++ (10 ∷ t)))) ≡ pairWithBytes (length l + 1) (withFirst n (numberThen e (drop k l)))
-second-line e l t n k h p q =
-    rw (drop-append-le k l (10 ∷ t) h, number-line e (drop k l) t p (no-drop k l q))
-    (second-bytes (numberThen e (drop k l)) n _ _ _ (rw (length-drop k l) (omega arith)))
+-- the two numbers of a line of which the first is found
+abbrev secondOf : List ℕ → List ℕ → Num → Option (ℕ × ℕ)
+secondOf e l num.Absent = none
+secondOf e l (num.Value n k) = withFirst n (numberThen e (drop k l))
 
 module _ (w m e : List ℕ) where
-  pub two-none : (s : List ℕ) → noFeed s ≡ true → twoFront w m (e ++ (10 ∷ [])) s ≡ none
-  unfolding twoFront
-  two-none s p = go (oneFront w m s)
+  pub two-none : (s : List ℕ) → noFeed s ≡ true → scanTwo w m (e ↵ []) s ≡ pair.Absent
+  unfolding scanTwo
+  two-none s p = go (scanOne w m s)
     where
-      go : (x : Front) → thenNumber (e ++ (10 ∷ [])) s x ≡ none
-      go none = refl
-      go (some n) = rw (number-none e (drop (n .1) s) (no-drop (n .1) s p))
+      go : (x : Num) → scanSecond (e ↵ []) s x ≡ pair.Absent
+      go num.Absent = refl
+      go (num.Value n k) = rw (number-none e (drop k s) (no-drop k s p))
+
+  two-by : (l : List ℕ) → twoNumbers w m e l ≡ secondOf e l (scanOne w m l)
+  unfolding twoNumbers numbersThen scanNumber scanOne
+  two-by l =
+      let d = drop (length w) l in
+      if-by (secondOf e l) (starts w l) (λ h.
+      if-by (λ x. secondOf e l (later (length w) x)) (isNumber d && starts m (afterNumber d)) (λ k.
+      rw (drop-drop (length m) (digits d) d, drop-drop (digits d + length m) (length w) l)) refl) refl
 
   pub two-line :
       (l t : List ℕ) → noFeed w ≡ true → noFeed m ≡ true → noFeed e ≡ true → noFeed l ≡ true
-      → twoFront w m (e ++ (10 ∷ [])) (l ++ (10 ∷ t)) ≡ pairWithBytes (length l + 1) (twoNumbers w m e l)
-  unfolding twoFront twoNumbers numbersThen numberFront oneFront
-  two-line l t p q r o = rw (one-feeds w m l t p q) (go (starts w l) (isNumber d && starts m (afterNumber d)) refl refl)
+      → scanTwo w m (e ↵ []) (l ↵ t) ≡ pairWithBytes (length l + 1) (twoNumbers w m e l)
+  unfolding scanTwo
+  two-line l t p q r o = rw (two-by l, one-feeds w m l t p q) (go (scanOne w m l) (one-fits w m l))
     where
-      d : List ℕ
-      d = drop (length w) l
-
-      go :
-          (a b : Bool) → starts w l ≡ a → (isNumber d && starts m (afterNumber d)) ≡ b
-          → thenNumber (e ++ (10 ∷ [])) (l ++ (10 ∷ t)) (if a then later (length w) (if b then some (numberOf d, digits d + length m) else none) else none)
-          ≡ pairWithBytes (length l + 1)
-          (if a then (if b then withFirst (numberOf d) (numberThen e (drop (length m) (afterNumber d))) else none) else none)
-      go true true h k =
-          rw (drop-drop (length m) (digits d) d, drop-drop (digits d + length m) (length w) l)
-          (second-line e l t (numberOf d) (length w + (digits d + length m)) fits r o)
-        where
-          fits : length w + (digits d + length m) ≤ length l
-          fits =
-              let i = rw (length-drop (digits d) d) at (starts-fits m (afterNumber d) (sym (both (isNumber d) (starts m (afterNumber d)) k .1))) in
-              omega (arith, i, digits-fit d, length-drop (length w) l, starts-fits w l (sym h))
-      go true false h k = refl
-      go false b h k = refl
+      go : (x : Num) → ends x ≤ length l → scanSecond (e ↵ []) (l ↵ t) x ≡ pairWithBytes (length l + 1) (secondOf e l x)
+      go num.Absent h = refl
+      go (num.Value n k) h =
+          rw (drop-append-le k l (10 ∷ t) h, number-line e (drop k l) t r (no-drop k l o))
+          (second-bytes (numberThen e (drop k l)) n _ _ _ (rw (length-drop k l) (omega arith)))

@@ -1,406 +1,282 @@
--- The first line of a text by its forms. A byte rules out every form whose word has another byte there, so that one form is left of the ordered choice.
-use Prim.Native.Nat.{ℕ, _+_, _≤_, _<_}
-use mathlib.Core.Path.{_≡_, refl, sym, _∙_}
-use mathlib.Core.Bool.{Bool, true, false, and-false}
-use mathlib.Core.List.{List, [], _∷_, _++_}
+-- The first line of a text by its patterns. A byte rules out every pattern whose opening word has another byte there.
+use Prim.Native.Nat.{ℕ, _+_, _<_}
+use mathlib.Core.Path.{_≡_, refl, sym, ap, _∙_}
+use mathlib.Core.Bool.{Bool, true, false, _&&_}
+use mathlib.Core.List.{List, [], _∷_}
 use mathlib.Core.Option.{Option, none, some}
-use native.Mathlib.Decide.{ℕ-discrete, decLe}
+use native.Mathlib.Decide.{ℕ-discrete}
 use native.Mathlib.Omega.{arith}
-use lib.ListN.{length, getD, drop, length-drop}
+use lib.ListN.{length, getD}
 use lib.Dec.{eqb}
 use borrow.Author.Tests.{eqb-false, ne-eqb}
-use types.Run.{OneOf, miss}
-use denote.Enum.Declared.{tagOf}
-use Rattle.model.specs.Basic.{if_then_else_}
-use Rattle.model.specs.Text.{bytes, starts, same, digits, isNumber, afterNumber, oneNumber, twoNumbers, orOne, orTwo, pointForm, lineOf, linesOf}
+use Rattle.model.specs.Basic.{if_then_else_, _orElse_, firstOf, select}
+use Rattle.model.specs.Text.{bytes, starts, same, oneNumber, twoNumbers, orOne, orTwo, pointForm, lineOf, linesOf}
 use Rattle.model.specs.declared.Point.{Point}
-use Rattle.model.specs.declared.Point.the-variants.{Load, Store, Call, Ensure, Goto, Either, Return}
 use Rattle.model.specs.declared.Line.{Line}
 use Rattle.model.specs.declared.Line.the-variants.{Stack, Func, At, Close, Malformed}
-use Rattle.words.specs.Answers.{Front, numberFront, oneFront, twoFront, num, pair}
-use Rattle.words.specs.declared.Num.{Num}
-use Rattle.words.specs.declared.Num.the-variants.{Value, Nothing}
-use Rattle.words.specs.declared.Pair.the-variants.{Are, No}
-use Rattle.words.proofs.Laws.{either-way, starts-off, starts-short, digits-fit, num-is, num-not, pair-are, pair-no}
-use Rattle.line.specs.declared.Inside.{Inside}
-use Rattle.line.specs.declared.Inside.the-variants as inside
-use Rattle.line.specs.Lines.{First, isStack, isFunc, isInside, firstIs, stackAs, funcAs, insideAs}
-use Rattle.line.specs.Forms.{onePoint, twoPoint, ensureFront, eitherFront, eFront, returnFront, pointFront, closeFront}
-use Rattle.line.proofs.Inside.{the-type}
-use Rattle.line.proofs.Feed.{starts-feed, noFeed, by-feed, first-off, first-is, first-line, starts-line, starts-none, same-length, withBytes, pairWithBytes, one-none, one-line, two-none, two-line}
+use Rattle.scan.specs.declared.Num.{Num}
+use Rattle.scan.specs.declared.Num.the-variants as num
+use Rattle.scan.specs.declared.Pair.{Pair}
+use Rattle.scan.specs.declared.Pair.the-variants as pair
+use Rattle.scan.specs.Answers.{scanOne, scanTwo}
+use Rattle.scan.proofs.Laws.{both, starts-off, starts-short, one-off, one-short, two-by}
+use Rattle.line.specs.Lines.{First, isStack, isFunc, isInside, firstIs, numAs, stackAs, funcAs, insideAs}
+use Rattle.line.specs.Patterns.{Pattern, fixed, one, two, Parse, parseOne, parseTwo, _↵_, parse, parseBy, points, stack, func, close, lines}
+use Rattle.line.proofs.Feed.{noFeed, by-feed, lines-off, first-line, starts-line, starts-none, same-length}
+use Rattle.line.proofs.Feed.{withBytes, pairWithBytes, one-none, one-line, two-none, two-line}
 
--- the point that an answer makes
+-- a pattern is left only if its opening word has the text's byte at a place
 
-module _ (w e s : List ℕ) (f : ℕ → Point) (r : Inside) where
-  pub one-made : (n k : ℕ) → num (oneFront w e s) ≡ Value n k → inside.Point (f n) k ≡ onePoint (oneFront w e s) f r
-  one-made n k h = rw (num-is (oneFront w e s) n k h)
+-- what a text begins with that has a line of the pattern
+abbrev pub opening : Pattern → List ℕ
+opening (fixed w l) = w ↵ []
+opening (one w e f) = w
+opening (two w m e f) = w
 
-  pub one-left : num (oneFront w e s) ≡ Nothing → r ≡ onePoint (oneFront w e s) f r
-  one-left h = rw (num-not (oneFront w e s) h)
+parse-off : (p : Pattern) (s : List ℕ) → starts (opening p) s ≡ false → parse p s ≡ none
+parse-off (fixed w l) s h = rw h
+parse-off (one w e f) s h = rw (← one-off w (e ↵ []) s h)
+parse-off (two w m e f) s h = rw (← two-by w m (e ↵ []) s _ (one-off w m s h))
 
-module _ (w m e s : List ℕ) (f : ℕ → ℕ → Point) (r : Inside) where
-  pub two-made : (p q k : ℕ) → pair (twoFront w m e s) ≡ Are p q k → inside.Point (f p q) k ≡ twoPoint (twoFront w m e s) f r
-  two-made p q k h = rw (pair-are (twoFront w m e s) p q k h)
+or-none : (x : Parse) → (x orElse none) ≡ x
+or-none none = refl
+or-none (some x) = refl
 
-  pub two-left : pair (twoFront w m e s) ≡ No → r ≡ twoPoint (twoFront w m e s) f r
-  two-left h = rw (pair-no (twoFront w m e s) h)
+-- elements that give no answer may be left out
+first-select :
+    {A B : Type 0} (f : A → Option B) (t : A → Bool) → ((a : A) → t a ≡ false → f a ≡ none) → (l : List A) → firstOf f (select t l) ≡ firstOf f l
+unfolding firstOf select
+first-select f t h [] = refl
+first-select f t h (a ∷ l) = go (t a) refl (first-select f t h l)
+  where
+    go : (b : Bool) → t a ≡ b → firstOf f (select t l) ≡ firstOf f l → firstOf f (if b then a ∷ select t l else select t l) ≡ (f a orElse firstOf f l)
+    go true e i = ap (λ y. f a orElse y) i
+    go false e i = rw (h a e) i
 
--- a form stands only if its word has the text's byte b at the place i
+-- the patterns that the byte b at the place i leaves
+abbrev pub leaves : ℕ → ℕ → List Pattern → List Pattern
+leaves i b ps = select (λ p. eqb (getD (opening p) i b) b) ps
 
--- the answer x, or none where the bytes a and b differ
-unfoldable pub only : {A : Type 0} → ℕ → ℕ → Option A → Option A
-only a b x = if eqb a b then x else none
+by-byte : (i : ℕ) (s : List ℕ) (ps : List Pattern) → parseBy (leaves i (getD s i 0) ps) s ≡ parseBy ps s
+by-byte i s = first-select _ _ (λ p e. parse-off p s (starts-off (opening p) s i (eqb-false _ _ e)))
 
--- the same of a test
-unfoldable pub also : ℕ → ℕ → Bool → Bool
-also a b t = if eqb a b then t else false
+-- the byte b at the place i leaves the patterns qs, the pattern p, or none
+module _ (i b : ℕ) (s : List ℕ) (e : getD s i 0 ≡ b) (ps : List Pattern) where
+  pub left-some : (qs : List Pattern) → leaves i b ps ≡ qs → parseBy qs s ≡ parseBy ps s
+  left-some qs h = rw (← h, ← e) (by-byte i s ps)
 
-by-byte : {A : Type 0} (x y : A) (t : Bool) → (t ≡ false → x ≡ y) → (if t then x else y) ≡ x
-by-byte x y true h = refl
-by-byte x y false h = sym (h refl)
+  pub left-one : (p : Pattern) → leaves i b ps ≡ p ∷ [] → parse p s ≡ parseBy ps s
+  unfolding firstOf
+  left-one p h = sym (or-none (parse p s)) ∙ left-some (p ∷ []) h
 
-module _ (w s : List ℕ) where
-  one-off : (e : List ℕ) → starts w s ≡ false → oneFront w e s ≡ none
-  unfolding oneFront
-  one-off e h = rw h
+  pub left-none : leaves i b ps ≡ [] → none ≡ parseBy ps s
+  unfolding firstOf
+  left-none h = left-some [] h
 
-  two-off : (m e : List ℕ) → starts w s ≡ false → twoFront w m e s ≡ none
-  unfolding twoFront
-  two-off m e h = rw (one-off m h)
+-- a line of the pattern has so many bytes at least
+abbrev least : Pattern → ℕ
+least (fixed w l) = length (w ↵ [])
+least (one w e f) = length w + length (e ↵ []) + 1
+least (two w m e f) = length w + length m + 1
 
-  module _ (i : ℕ) (h : i < length w) where
-    off : eqb (getD w i 0) (getD s i 0) ≡ false → starts w s ≡ false
-    off t = starts-off w s i h (eqb-false (getD w i 0) (getD s i 0) t)
+parse-short : (p : Pattern) (s : List ℕ) → length s < least p → parse p s ≡ none
+parse-short (fixed w l) s h = parse-off (fixed w l) s (starts-short (w ↵ []) s h)
+parse-short (one w e f) s h = rw (one-short w (e ↵ []) s (omega arith))
+parse-short (two w m e f) s h = rw (← two-by w m (e ↵ []) s _ (sym (one-short w m s (omega arith))))
 
-    one-only : (e : List ℕ) → only (getD w i 0) (getD s i 0) (oneFront w e s) ≡ oneFront w e s
-    unfolding only
-    one-only e = by-byte _ _ (eqb (getD w i 0) (getD s i 0)) (λ t. one-off e (off t))
+-- no pattern fits, each for a reason of its own
+abbrev Each : (Pattern → Type 0) → List Pattern → Type 0
+Each P [] = Unit {0}
+Each P (p ∷ ps) = P p × Each P ps
 
-    two-only : (m e : List ℕ) → only (getD w i 0) (getD s i 0) (twoFront w m e s) ≡ twoFront w m e s
-    unfolding only
-    two-only m e = by-byte _ _ (eqb (getD w i 0) (getD s i 0)) (λ t. two-off m e (off t))
+none-each : (P : Pattern → Type 0) (s : List ℕ) → ((p : Pattern) → P p → parse p s ≡ none) → (ps : List Pattern) → Each P ps → none ≡ parseBy ps s
+unfolding firstOf
+none-each P s f [] h = refl
+none-each P s f (p ∷ ps) h = rw (f p (h .0)) (none-each P s f ps (h .1))
 
-    starts-also : also (getD w i 0) (getD s i 0) (starts w s) ≡ starts w s
-    unfolding also
-    starts-also = by-byte _ _ (eqb (getD w i 0) (getD s i 0)) (λ t. off t)
+pub none-left : (i : ℕ) (s : List ℕ) (ps : List Pattern) → Each (λ p. getD (opening p) i (getD s i 0) ≡ getD s i 0 → ⊥) ps → none ≡ parseBy ps s
+none-left i s = none-each _ s (λ p h. parse-off p s (starts-off (opening p) s i h))
 
--- the point forms whose word has the byte b at the place i
-abbrev pub pointBy : ℕ → ℕ → List ℕ → Inside
-pointBy i b s =
-    onePoint (only (getD (bytes "  (load ") i 0) b (oneFront (bytes "  (load ") (bytes ")\n") s)) Load
-    (onePoint (only (getD (bytes "  (store ") i 0) b (oneFront (bytes "  (store ") (bytes ")\n") s)) Store
-    (onePoint (only (getD (bytes "  (call ") i 0) b (oneFront (bytes "  (call ") (bytes ")\n") s)) Call
-    (onePoint (only (getD (bytes "  (ensure ") i 0) b (oneFront (bytes "  (ensure ") (bytes ")\n") s)) Ensure
-    (onePoint (only (getD (bytes "  (goto ") i 0) b (oneFront (bytes "  (goto ") (bytes ")\n") s)) Goto
-    (twoPoint (only (getD (bytes "  (either ") i 0) b (twoFront (bytes "  (either ") (bytes " ") (bytes ")\n") s)) Either
-    (if also (getD (bytes "  (return)\n") i 0) b (starts (bytes "  (return)\n") s) then inside.Point Return 11 else inside.Other))))))
+pub none-short : (s : List ℕ) (ps : List Pattern) → Each (λ p. length s < least p) ps → none ≡ parseBy ps s
+none-short s = none-each _ s (λ p h. parse-short p s h)
 
-point-by : (s : List ℕ) (i : ℕ) → i < 8 → pointBy i (getD s i 0) s ≡ pointFront s
-unfolding pointFront
-point-by s i h =
-    rw (
-      one-only (bytes "  (load ") s i (omega arith) (bytes ")\n"),
-      one-only (bytes "  (store ") s i (omega arith) (bytes ")\n"),
-      one-only (bytes "  (call ") s i (omega arith) (bytes ")\n"),
-      one-only (bytes "  (ensure ") s i (omega arith) (bytes ")\n"),
-      one-only (bytes "  (goto ") s i (omega arith) (bytes ")\n"),
-      two-only (bytes "  (either ") s i (omega arith) (bytes " ") (bytes ")\n"),
-      starts-also (bytes "  (return)\n") s i (omega arith),
-    )
+-- a text without a line feed
 
--- the letter of a point line
-pub point-letter : (s : List ℕ) (b : ℕ) → getD s 3 0 ≡ b → pointBy 3 b s ≡ pointFront s
-point-letter s b e = rw e at (point-by s 3 (omega arith))
+parse-none : (p : Pattern) (s : List ℕ) → noFeed s ≡ true → parse p s ≡ none
+parse-none (fixed w l) s p = rw (starts-none w s p)
+parse-none (one w e f) s p = rw (one-none w e s p)
+parse-none (two w m e f) s p = rw (two-none w m e s p)
 
-pub point-other :
-    (s : List ℕ) → (getD s 3 0 ≡ 108 → ⊥) → (getD s 3 0 ≡ 115 → ⊥) → (getD s 3 0 ≡ 99 → ⊥) → (getD s 3 0 ≡ 101 → ⊥)
-    → (getD s 3 0 ≡ 103 → ⊥) → (getD s 3 0 ≡ 114 → ⊥) → inside.Other ≡ pointFront s
-unfolding only also
-point-other s l t c e g r =
-    let b = getD s 3 0 in
-    rw (
-      ne-eqb 108 b (omega arith),
-      ne-eqb 115 b (omega arith),
-      ne-eqb 99 b (omega arith),
-      ne-eqb 101 b (omega arith),
-      ne-eqb 103 b (omega arith),
-      ne-eqb 114 b (omega arith),
-    )
-    at (point-by s 3 (omega arith))
+by-none : (ps : List Pattern) (s : List ℕ) → noFeed s ≡ true → parseBy ps s ≡ none
+unfolding firstOf
+by-none [] s p = refl
+by-none (q ∷ ps) s p = rw (parse-none q s p) (by-none ps s p)
 
--- the letter after the e
-pub e-ensure : (s : List ℕ) → getD s 4 0 ≡ 110 → ensureFront s ≡ eFront s
-e-ensure s e = rw (two-off (bytes "  (either ") s (bytes " ") (bytes ")\n") (starts-off (bytes "  (either ") s 4 (omega arith) (omega arith)))
+-- a line l before its line feed, which a pattern reads, or which is q
 
-pub e-either : (s : List ℕ) → (getD s 4 0 ≡ 110 → ⊥) → eitherFront s ≡ eFront s
-e-either s n = rw (one-off (bytes "  (ensure ") s (bytes ")\n") (starts-off (bytes "  (ensure ") s 4 (omega arith) (omega arith)))
+-- the pattern has no line feed
+abbrev clean : Pattern → Bool
+clean (fixed w l) = noFeed w
+clean (one w e f) = noFeed w && noFeed e
+clean (two w m e f) = noFeed w && (noFeed m && noFeed e)
 
-pub e-other : (s : List ℕ) → (getD s 4 0 ≡ 110 → ⊥) → (getD s 4 0 ≡ 105 → ⊥) → inside.Other ≡ eFront s
-e-other s n k =
-    rw (
-      one-off (bytes "  (ensure ") s (bytes ")\n") (starts-off (bytes "  (ensure ") s 4 (omega arith) (omega arith)),
-      two-off (bytes "  (either ") s (bytes " ") (bytes ")\n") (starts-off (bytes "  (either ") s 4 (omega arith) (omega arith)),
-    )
+abbrev cleanAll : List Pattern → Bool
+cleanAll [] = true
+cleanAll (p ∷ ps) = clean p && cleanAll ps
 
--- a point line takes 11 bytes at least
+abbrev lineBy : List Pattern → List ℕ → Line
+lineBy [] l = Malformed
+lineBy (fixed w q ∷ ps) l = if same w l then q else lineBy ps l
+lineBy (one w e f ∷ ps) l = orOne (oneNumber w e l) f (lineBy ps l)
+lineBy (two w m e f ∷ ps) l = orTwo (twoNumbers w m e l) f (lineBy ps l)
 
-number-short : (e s : List ℕ) → length s ≤ length e → numberFront e s ≡ none
-unfolding numberFront
-number-short e s h =
-    elim (decLe 1 (digits s)) [
-      | yes d ↦ rw (starts-short e (afterNumber s) (rw (length-drop (digits s) s) (omega (arith, digits-fit s))), and-false (isNumber s))
-      | no d ↦ let z : digits s ≡ 0 = omega arith in rw z
+-- an answer says that the line is q and takes k bytes; no answer, that it is malformed
+abbrev Says : ℕ → Line → Parse → Type 0
+Says k q none = q ≡ Malformed
+Says k q (some x) = (q ≡ x .0) × (k ≡ x .1)
+
+module _ (k : ℕ) (q : Line) (y : Parse) (h : Says k q y) where
+  says-one : (f : ℕ → Line) (x : Option ℕ) → Says k (orOne x f q) (parseOne f (withBytes k x) orElse y)
+  says-one f none = h
+  says-one f (some n) = (refl, refl)
+
+  says-two : (f : ℕ → ℕ → Line) (x : Option (ℕ × ℕ)) → Says k (orTwo x f q) (parseTwo f (pairWithBytes k x) orElse y)
+  says-two f none = h
+  says-two f (some n) = (refl, refl)
+
+  says-fixed : (l : Line) (n : ℕ) (b : Bool) → (b ≡ true → k ≡ n) → Says k (if b then l else q) ((if b then some (l, n) else none) orElse y)
+  says-fixed l n true e = (refl, e refl)
+  says-fixed l n false e = h
+
+says : (l t : List ℕ) → noFeed l ≡ true → (ps : List Pattern) → cleanAll ps ≡ true → Says (length l + 1) (lineBy ps l) (parseBy ps (l ↵ t))
+unfolding firstOf
+says l t o [] c = refl
+says l t o (fixed w q ∷ ps) c =
+    let b = both (noFeed w) (cleanAll ps) c in
+    rw (starts-line w l t (b .0) o)
+    (says-fixed _ _ _ (says l t o ps (b .1)) q (length w + 1) (same w l) (λ h. omega (arith, same-length w l h)))
+says l t o (one w e f ∷ ps) c =
+    let b = both (noFeed w && noFeed e) (cleanAll ps) c in
+    let a = both (noFeed w) (noFeed e) (b .0) in
+    rw (one-line w e l t (a .0) (a .1) o) (says-one _ _ _ (says l t o ps (b .1)) f (oneNumber w e l))
+says l t o (two w m e f ∷ ps) c =
+    let b = both (noFeed w && (noFeed m && noFeed e)) (cleanAll ps) c in
+    let a = both (noFeed w) (noFeed m && noFeed e) (b .0) in
+    let d = both (noFeed m) (noFeed e) (a .1) in
+    rw (two-line w m e l t (a .0) (d .0) (d .1) o) (says-two _ _ _ (says l t o ps (b .1)) f (twoNumbers w m e l))
+
+-- the first line of a text, by the answer for all patterns
+
+abbrev Read : List ℕ → Parse → Type 0
+Read s none = (test : Line → Bool) → test Malformed ≡ false → firstIs test (linesOf s) ≡ false
+Read s (some x) = First s (x .0) (x .1)
+
+line-of : (l : List ℕ) → lineOf l ≡ lineBy lines l
+unfolding lineOf pointForm
+line-of l = refl
+
+read : (s : List ℕ) → Read s (parseBy lines s)
+read = by-feed (λ s. Read s (parseBy lines s)) last line
+  where
+    last : (s : List ℕ) → noFeed s ≡ true → Read s (parseBy lines s)
+    last s p = rw (by-none lines s p) (λ test m. lines-off test m [] s p)
+
+    line : (l t : List ℕ) → noFeed l ≡ true → Read (l ↵ t) (parseBy lines (l ↵ t))
+    line l t p = go (parseBy lines (l ↵ t)) (rw (← line-of l) at (says l t p lines refl))
+      where
+        go : (x : Parse) → Says (length l + 1) (lineOf l) x → Read (l ↵ t) x
+        go none h = λ test m. rw (first-line l t p .lines) (ap test h ∙ m)
+        go (some x) h = rw (h .0, h .1) at (first-line l t p)
+
+-- a text begins with one of the patterns qs, of which the byte b at the place i leaves no other
+found :
+    (i b : ℕ) (s : List ℕ) (qs : List Pattern) (x : Line × ℕ) → leaves i b lines ≡ qs → ((y : ℕ) → (b ≡ y → ⊥) → leaves i y qs ≡ [])
+    → some x ≡ parseBy qs s → First s (x .0) (x .1)
+found i b s qs x h k e =
+    elim (ℕ-discrete b (getD s i 0)) [
+      | yes j ↦ rw (sym (e ∙ left-some i b s (sym j) lines qs h)) at (read s)
+      | no n ↦ let z = e ∙ sym (left-none i (getD s i 0) s refl qs (k _ n)) in let y : _≡_ {A = ℕ} 0 1 = cc in absurd (omega arith)
     ]
 
-one-short : (w e s : List ℕ) → length s ≤ length w + length e → oneFront w e s ≡ none
-unfolding oneFront
-one-short w e s h =
-    either-way (λ (x : Front). x ≡ none) (starts w s) (rw (number-short e (drop (length w) s) (rw (length-drop (length w) s) (omega arith)))) refl
+found-one :
+    (i b : ℕ) (s : List ℕ) (p : Pattern) (x : Line × ℕ) → leaves i b lines ≡ p ∷ [] → ((y : ℕ) → (b ≡ y → ⊥) → leaves i y (p ∷ []) ≡ [])
+    → some x ≡ parse p s → First s (x .0) (x .1)
+unfolding firstOf
+found-one i b s p x h k e = found i b s (p ∷ []) x h k (e ∙ sym (or-none (parse p s)))
 
-two-short : (w m e s : List ℕ) → length s ≤ length w + length m → twoFront w m e s ≡ none
-unfolding twoFront
-two-short w m e s h = rw (one-short w m s h)
+-- a test that no line of some patterns passes
 
-pub point-short : (s : List ℕ) → length s < 11 → inside.Other ≡ pointFront s
-unfolding pointFront
-point-short s h =
-    rw (
-      one-short (bytes "  (load ") (bytes ")\n") s (omega arith),
-      one-short (bytes "  (store ") (bytes ")\n") s (omega arith),
-      one-short (bytes "  (call ") (bytes ")\n") s (omega arith),
-      one-short (bytes "  (ensure ") (bytes ")\n") s (omega arith),
-      one-short (bytes "  (goto ") (bytes ")\n") s (omega arith),
-      two-short (bytes "  (either ") (bytes " ") (bytes ")\n") s (omega arith),
-      starts-short (bytes "  (return)\n") s (omega arith),
-    )
+abbrev passes : (Line → Bool) → Parse → Bool
+passes test none = false
+passes test (some x) = test (x .0)
 
--- a line before its line feed
+module _ (test : Line → Bool) where
+  fails-or : (x y : Parse) → passes test x ≡ false → passes test y ≡ false → passes test (x orElse y) ≡ false
+  fails-or none y h k = k
+  fails-or (some x) y h k = h
 
--- a point line that takes k bytes
-abbrev pub placed : ℕ → Line → Inside
-placed k (Stack n) = inside.Other
-placed k (Func n) = inside.Other
-placed k (At x) = inside.Point x k
-placed k Close = inside.Other
-placed k Malformed = inside.Other
+  fails-fixed : (b : Bool) (x : Line × ℕ) → test (x .0) ≡ false → passes test (if b then some x else none) ≡ false
+  fails-fixed true x h = h
+  fails-fixed false x h = refl
 
-module _ (l t : List ℕ) (p : noFeed l ≡ true) where
-  one-placed :
-      (w e : List ℕ) (f : ℕ → Point) (r : Inside) (q : Line) → noFeed w ≡ true → noFeed e ≡ true → r ≡ placed (length l + 1) q
-      → onePoint (oneFront w (e ++ (10 ∷ [])) (l ++ (10 ∷ t))) f r ≡ placed (length l + 1) (orOne (oneNumber w e l) (λ n. At (f n)) q)
-  one-placed w e f r q a b h = rw (one-line w e l t a b p) (go (oneNumber w e l))
+  fails-one : (x : Num) (f : ℕ → Line) → ((n : ℕ) → test (f n) ≡ false) → passes test (parseOne f x) ≡ false
+  fails-one (num.Value n k) f h = h n
+  fails-one num.Absent f h = refl
+
+  fails-two : (x : Pair) (f : ℕ → ℕ → Line) → ((p q : ℕ) → test (f p q) ≡ false) → passes test (parseTwo f x) ≡ false
+  fails-two (pair.Values p q k) f h = h p q
+  fails-two pair.Absent f h = refl
+
+  Never : Pattern → Type 0
+  Never (fixed w l) = test l ≡ false
+  Never (one w e f) = (n : ℕ) → test (f n) ≡ false
+  Never (two w m e f) = (p q : ℕ) → test (f p q) ≡ false
+
+  never : (p : Pattern) (s : List ℕ) → Never p → passes test (parse p s) ≡ false
+  unfolding Never
+  never (fixed w l) s h = fails-fixed (starts (w ↵ []) s) (l, length w + 1) h
+  never (one w e f) s h = fails-one (scanOne w (e ↵ []) s) f h
+  never (two w m e f) s h = fails-two (scanTwo w m (e ↵ []) s) f h
+
+  fails : (ps : List Pattern) (s : List ℕ) → Each Never ps → passes test (parseBy ps s) ≡ false
+  unfolding firstOf
+  fails [] s h = refl
+  fails (p ∷ ps) s h = fails-or (parse p s) (parseBy ps s) (never p s (h .0)) (fails ps s (h .1))
+
+  fails-points : ((x : Point) → test (At x) ≡ false) → Each Never points
+  unfolding Never
+  fails-points h = (λ n. h _, (λ n. h _, (λ n. h _, (λ n. h _, (λ n. h _, (λ p q. h _, (h _, tt)))))))
+
+  not-first : test Malformed ≡ false → (s : List ℕ) → passes test (parseBy lines s) ≡ false → firstIs test (linesOf s) ≡ false
+  not-first m s = go (parseBy lines s) (read s)
     where
-      go : (x : Option ℕ) → onePoint (withBytes (length l + 1) x) f r ≡ placed (length l + 1) (orOne x (λ n. At (f n)) q)
-      go none = h
-      go (some n) = refl
+      go : (x : Parse) → Read s x → passes test x ≡ false → firstIs test (linesOf s) ≡ false
+      go none r h = r test m
+      go (some x) r h = rw (r .lines) h
 
-  two-placed :
-      (w m e : List ℕ) (f : ℕ → ℕ → Point) (r : Inside) (q : Line) → noFeed w ≡ true → noFeed m ≡ true → noFeed e ≡ true
-      → r ≡ placed (length l + 1) q
-      → twoPoint (twoFront w m (e ++ (10 ∷ [])) (l ++ (10 ∷ t))) f r ≡ placed (length l + 1) (orTwo (twoNumbers w m e l) (λ n k. At (f n k)) q)
-  two-placed w m e f r q a b c h = rw (two-line w m e l t a b c p) (go (twoNumbers w m e l))
-    where
-      go : (x : Option (ℕ × ℕ)) → twoPoint (pairWithBytes (length l + 1) x) f r ≡ placed (length l + 1) (orTwo x (λ n k. At (f n k)) q)
-      go none = h
-      go (some n) = refl
+-- what each reader says
 
-  return-placed : returnFront (l ++ (10 ∷ t)) ≡ placed (length l + 1) (if same (bytes "  (return)") l then At Return else Malformed)
-  return-placed = rw (starts-line (bytes "  (return)") l t refl p) (go (same (bytes "  (return)") l) refl)
-    where
-      go :
-          (b : Bool) → same (bytes "  (return)") l ≡ b
-          → (if b then inside.Point Return 11 else inside.Other) ≡ placed (length l + 1) (if b then At Return else Malformed)
-      go true h = rw (same-length (bytes "  (return)") l h)
-      go false h = refl
+pub stack-as : (r : Num) (s : List ℕ) → r ≡ scanOne (bytes "(stack ") (bytes ")\n") s → stackAs r s
+unfolding firstOf select Never
+stack-as (num.Value n k) s e = found-one 1 115 s stack (Stack n, k) refl (λ y n. rw (ne-eqb 115 y n)) (ap (parseOne Stack) e)
+stack-as num.Absent s e =
+    not-first isStack refl s (rw (← e) (fails isStack (func ∷ close ∷ points) s (λ n. refl, (refl, fails-points isStack (λ x. refl)))))
 
-  point-placed : pointFront (l ++ (10 ∷ t)) ≡ placed (length l + 1) (pointForm l)
-  unfolding pointFront pointForm
-  point-placed =
-      one-placed (bytes "  (load ") (bytes ")") Load _ _ refl refl
-      (one-placed (bytes "  (store ") (bytes ")") Store _ _ refl refl
-      (one-placed (bytes "  (call ") (bytes ")") Call _ _ refl refl
-      (one-placed (bytes "  (ensure ") (bytes ")") Ensure _ _ refl refl
-      (one-placed (bytes "  (goto ") (bytes ")") Goto _ _ refl refl
-      (two-placed (bytes "  (either ") (bytes " ") (bytes ")") Either _ _ refl refl refl return-placed)))))
+pub func-as : (r : Num) (s : List ℕ) → r ≡ scanOne (bytes "(func ") (bytes "\n") s → funcAs r s
+unfolding firstOf select Never
+func-as (num.Value n k) s e = found-one 1 102 s func (Func n, k) refl (λ y n. rw (ne-eqb 102 y n)) (ap (parseOne Func) e)
+func-as num.Absent s e =
+    not-first isFunc refl s (rw (← e) (fails isFunc (stack ∷ close ∷ points) s (λ n. refl, (refl, fails-points isFunc (λ x. refl)))))
 
--- which line it is
+pub point-as : (x : Point) (k : ℕ) (s : List ℕ) → some (At x, k) ≡ parseBy points s → First s (At x) k
+unfolding select
+point-as x k s e = found 0 32 s points (At x, k) refl (λ y n. rw (ne-eqb 32 y n)) e
 
-one-or : (P : Line → Type 0) (x : Option ℕ) (f : ℕ → Line) {q : Line} → ((n : ℕ) → P (f n)) → P q → P (orOne x f q)
-one-or P none f h k = k
-one-or P (some n) f h k = h n
+pub close-as : (s : List ℕ) → starts (bytes ")\n") s ≡ true → First s Close 2
+unfolding select
+close-as s e = found-one 0 41 s close (Close, 2) refl (λ y n. rw (ne-eqb 41 y n)) (rw e)
 
-two-or : (P : Line → Type 0) (x : Option (ℕ × ℕ)) (f : ℕ → ℕ → Line) {q : Line} → ((m n : ℕ) → P (f m n)) → P q → P (orTwo x f q)
-two-or P none f h k = k
-two-or P (some n) f h k = h (n .0) (n .1)
-
--- a point form is a point line or malformed
-point-cases : (P : Line → Type 0) → ((x : Point) → P (At x)) → P Malformed → (s : List ℕ) → P (pointForm s)
-unfolding pointForm
-point-cases P h m s =
-    one-or P (oneNumber (bytes "  (load ") (bytes ")") s) (λ n. At (Load n)) (λ n. h (Load n))
-    (one-or P (oneNumber (bytes "  (store ") (bytes ")") s) (λ n. At (Store n)) (λ n. h (Store n))
-    (one-or P (oneNumber (bytes "  (call ") (bytes ")") s) (λ n. At (Call n)) (λ n. h (Call n))
-    (one-or P (oneNumber (bytes "  (ensure ") (bytes ")") s) (λ n. At (Ensure n)) (λ n. h (Ensure n))
-    (one-or P (oneNumber (bytes "  (goto ") (bytes ")") s) (λ n. At (Goto n)) (λ n. h (Goto n))
-    (two-or P (twoNumbers (bytes "  (either ") (bytes " ") (bytes ")") s) (λ n k. At (Either n k)) (λ n k. h (Either n k))
-    (either-way P (same (bytes "  (return)") s) (h Return) m))))))
-
--- a line by its stack and func forms, the test of the closing line and its point form
-abbrev lineBy : Option ℕ → Option ℕ → Bool → Line → Line
-lineBy a b c q = orOne a Stack (orOne b Func (if c then Close else q))
-
-no-stack-by : (b : Option ℕ) (c : Bool) (q : Line) → isStack q ≡ false → isStack (lineBy none b c q) ≡ false
-no-stack-by none true q h = refl
-no-stack-by none false q h = h
-no-stack-by (some n) c q h = refl
-
-no-func-by : (a : Option ℕ) (c : Bool) (q : Line) → isFunc q ≡ false → isFunc (lineBy a none c q) ≡ false
-no-func-by none true q h = refl
-no-func-by none false q h = h
-no-func-by (some n) c q h = refl
-
-no-inside-by : (a b : Option ℕ) (q : Line) → isInside q ≡ false → isInside (lineBy a b false q) ≡ false
-no-inside-by none none q h = h
-no-inside-by none (some n) q h = refl
-no-inside-by (some n) b q h = refl
-
-number-off : (w e s : List ℕ) → starts w s ≡ false → oneNumber w e s ≡ none
-unfolding oneNumber
-number-off w e s h = rw h
-
-module _ (s : List ℕ) where
-  is-stack : (n : ℕ) → oneNumber (bytes "(stack ") (bytes ")") s ≡ some n → lineOf s ≡ Stack n
-  unfolding lineOf
-  is-stack n h = rw h
-
-  no-stack : oneNumber (bytes "(stack ") (bytes ")") s ≡ none → isStack (lineOf s) ≡ false
-  unfolding lineOf
-  no-stack h =
-      rw h (no-stack-by (oneNumber (bytes "(func ") (bytes "") s) (same (bytes ")") s) _ (point-cases (λ q. isStack q ≡ false) (λ x. refl) refl s))
-
-  is-func : (n : ℕ) → oneNumber (bytes "(func ") (bytes "") s ≡ some n → lineOf s ≡ Func n
-  unfolding lineOf
-  is-func n h =
-      elim (ℕ-discrete (getD s 1 0) 102) [
-        | yes e ↦ rw (number-off (bytes "(stack ") (bytes ")") s (starts-off (bytes "(stack ") s 1 (omega arith) (omega arith)), h)
-        | no e ↦
-            let i = sym (number-off (bytes "(func ") (bytes "") s (starts-off (bytes "(func ") s 1 (omega arith) (omega arith))) ∙ h in
-            let z : _≡_ {A = ℕ} 0 1 = cc in
-            absurd (omega arith)
-      ]
-
-  no-func : oneNumber (bytes "(func ") (bytes "") s ≡ none → isFunc (lineOf s) ≡ false
-  unfolding lineOf
-  no-func h =
-      rw h (no-func-by (oneNumber (bytes "(stack ") (bytes ")") s) (same (bytes ")") s) _ (point-cases (λ q. isFunc q ≡ false) (λ x. refl) refl s))
-
-  is-close : same (bytes ")") s ≡ true → lineOf s ≡ Close
-  unfolding lineOf
-  is-close h =
-      let n = same-length (bytes ")") s h in
-      rw (
-        number-off (bytes "(stack ") (bytes ")") s (starts-short (bytes "(stack ") s (omega arith)),
-        number-off (bytes "(func ") (bytes "") s (starts-short (bytes "(func ") s (omega arith)),
-        h,
-      )
-
-  no-inside : same (bytes ")") s ≡ false → isInside (pointForm s) ≡ false → isInside (lineOf s) ≡ false
-  unfolding lineOf
-  no-inside h k = rw h (no-inside-by (oneNumber (bytes "(stack ") (bytes ")") s) (oneNumber (bytes "(func ") (bytes "") s) (pointForm s) k)
-
-  is-point : starts (bytes "(stack ") s ≡ false → starts (bytes "(func ") s ≡ false → starts (bytes ")") s ≡ false → lineOf s ≡ pointForm s
-  unfolding lineOf
-  is-point a b c = rw (number-off (bytes "(stack ") (bytes ")") s a, number-off (bytes "(func ") (bytes "") s b, c)
-
--- the first line of a text
-
--- what a reader of a line of one number says of it
-module _
-    (w e : List ℕ) (f : ℕ → Line) (test : Line → Bool) (As : Num → List ℕ → Type 0)
-    (made : (s : List ℕ) (n k : ℕ) → First s (f n) k → As (Value n k) s) (left : (s : List ℕ) → firstIs test (linesOf s) ≡ false → As Nothing s)
-    (is : (l : List ℕ) (n : ℕ) → oneNumber w e l ≡ some n → lineOf l ≡ f n) (no : (l : List ℕ) → oneNumber w e l ≡ none → test (lineOf l) ≡ false) where
-  num-as : noFeed w ≡ true → noFeed e ≡ true → test Malformed ≡ false → (s : List ℕ) → As (num (oneFront w (e ++ (10 ∷ [])) s)) s
-  num-as a b m = by-feed (λ s. As (num (oneFront w (e ++ (10 ∷ [])) s)) s) last line
-    where
-      last : (s : List ℕ) → noFeed s ≡ true → As (num (oneFront w (e ++ (10 ∷ [])) s)) s
-      last s p = rw (one-none w e s p) (left s (first-off test m s p))
-
-      line : (l t : List ℕ) → noFeed l ≡ true → As (num (oneFront w (e ++ (10 ∷ [])) (l ++ (10 ∷ t)))) (l ++ (10 ∷ t))
-      line l t p = rw (one-line w e l t a b p) (go (oneNumber w e l) refl)
-        where
-          go : (x : Option ℕ) → oneNumber w e l ≡ x → As (num (withBytes (length l + 1) x)) (l ++ (10 ∷ t))
-          go none h = left _ (first-is l t p test ∙ no l h)
-          go (some n) h = made _ n _ (first-line l t p (f n) (is l n h))
-
-pub stack-as : (r : Num) (s : List ℕ) → r ≡ num (oneFront (bytes "(stack ") (bytes ")\n") s) → stackAs r s
-stack-as r s e = rw e (num-as (bytes "(stack ") (bytes ")") Stack isStack stackAs (λ u n k h. h) (λ u h. h) is-stack no-stack refl refl refl s)
-
-pub func-as : (r : Num) (s : List ℕ) → r ≡ num (oneFront (bytes "(func ") (bytes "\n") s) → funcAs r s
-func-as r s e = rw e (num-as (bytes "(func ") (bytes "") Func isFunc funcAs (λ u n k h. h) (λ u h. h) is-func no-func refl refl refl s)
-
--- a line inside a function
-
--- a point line begins with a space
-point-space : (s : List ℕ) → (getD s 0 0 ≡ 32 → ⊥) → inside.Other ≡ pointFront s
-unfolding only also
-point-space s n = rw (ne-eqb 32 (getD s 0 0) (omega arith)) at (point-by s 0 (omega arith))
-
-placed-is : (q : Line) (k : ℕ) (x : Point) (m : ℕ) → placed k q ≡ inside.Point x m → (q ≡ At x) × (m ≡ k)
-placed-is (Stack n) k x m e = let z : _≡_ {A = ℕ} 0 1 = cc in absurd (omega arith)
-placed-is (Func n) k x m e = let z : _≡_ {A = ℕ} 0 1 = cc in absurd (omega arith)
-placed-is (At y) k x m e = (cc, cc)
-placed-is Close k x m e = let z : _≡_ {A = ℕ} 0 1 = cc in absurd (omega arith)
-placed-is Malformed k x m e = let z : _≡_ {A = ℕ} 0 1 = cc in absurd (omega arith)
-
-point-none : (s : List ℕ) → noFeed s ≡ true → pointFront s ≡ inside.Other
-unfolding pointFront
-point-none s p =
-    rw (
-      one-none (bytes "  (load ") (bytes ")") s p,
-      one-none (bytes "  (store ") (bytes ")") s p,
-      one-none (bytes "  (call ") (bytes ")") s p,
-      one-none (bytes "  (ensure ") (bytes ")") s p,
-      one-none (bytes "  (goto ") (bytes ")") s p,
-      two-none (bytes "  (either ") (bytes " ") (bytes ")") s p,
-      starts-none (bytes "  (return)") s p,
-    )
-
-pub point-as : (x : Point) (k : ℕ) (s : List ℕ) → pointFront s ≡ inside.Point x k → First s (At x) k
-point-as x k = by-feed (λ s. pointFront s ≡ inside.Point x k → First s (At x) k) last line
-  where
-    last : (s : List ℕ) → noFeed s ≡ true → pointFront s ≡ inside.Point x k → First s (At x) k
-    last s p e = let i = sym (point-none s p) ∙ e in let z : _≡_ {A = ℕ} 0 1 = cc in absurd (omega arith)
-
-    line : (l t : List ℕ) → noFeed l ≡ true → pointFront (l ++ (10 ∷ t)) ≡ inside.Point x k → First (l ++ (10 ∷ t)) (At x) k
-    line l t p e =
-        elim (ℕ-discrete (getD (l ++ (10 ∷ t)) 0 0) 32) [
-          | yes b ↦
-              let h = placed-is (pointForm l) (length l + 1) x k (sym (point-placed l t p) ∙ e) in
-              let a = other (bytes "(stack ") refl (omega arith) (omega arith) in
-              let f = other (bytes "(func ") refl (omega arith) (omega arith) in
-              let c = other (bytes ")") refl (omega arith) (omega arith) in
-              rw (h .1) (first-line l t p (At x) (is-point l a f c ∙ h .0))
-          | no b ↦ let i = point-space (l ++ (10 ∷ t)) b ∙ e in let z : _≡_ {A = ℕ} 0 1 = cc in absurd (omega arith)
-        ]
-      where
-        other : (w : List ℕ) → noFeed w ≡ true → 0 < length w → (getD w 0 0 ≡ getD (l ++ (10 ∷ t)) 0 0 → ⊥) → starts w l ≡ false
-        other w a h n = sym (starts-feed w l t a) ∙ starts-off w (l ++ (10 ∷ t)) 0 h n
-
-not-point : (q : Inside) → OneOf (1 ∷ 2 ∷ []) (tagOf the-type q) → (x : Point) (k : ℕ) → q ≡ inside.Point x k → ⊥
-not-point q h x k e = miss (1 ∷ 2 ∷ []) 0 tt (rw e at h)
-
--- no point line: the closing line, or a line of another kind
-pub inside-as : (q r : Inside) (s : List ℕ) → OneOf (1 ∷ 2 ∷ []) (tagOf the-type q) → q ≡ pointFront s → r ≡ closeFront s → insideAs r s
-inside-as q r s o h e = rw e (by-feed (λ u. q ≡ pointFront u → insideAs (closeFront u) u) last line s h)
-  where
-    last : (u : List ℕ) → noFeed u ≡ true → q ≡ pointFront u → insideAs (closeFront u) u
-    last u p i = rw (starts-none (bytes ")") u p) (first-off isInside refl u p)
-
-    line : (l t : List ℕ) → noFeed l ≡ true → q ≡ pointFront (l ++ (10 ∷ t)) → insideAs (closeFront (l ++ (10 ∷ t))) (l ++ (10 ∷ t))
-    line l t p i = rw (starts-line (bytes ")") l t refl p) (go (same (bytes ")") l) refl)
-      where
-        go : (b : Bool) → same (bytes ")") l ≡ b → insideAs (if b then inside.Close else inside.Other) (l ++ (10 ∷ t))
-        go true j = rw (same-length (bytes ")") l j) at (first-line l t p Close (is-close l j))
-        go false j =
-            let c = point-cases (λ f. q ≡ placed (length l + 1) f → isInside f ≡ false) (λ x k. absurd (not-point q o x _ k)) (λ k. refl) l in
-            first-is l t p isInside ∙ no-inside l j (c (i ∙ point-placed l t p))
+pub other-as : (s : List ℕ) → none ≡ parseBy points s → starts (bytes ")\n") s ≡ false → firstIs isInside (linesOf s) ≡ false
+unfolding firstOf Never
+other-as s e h =
+    not-first isInside refl s (rw (← e, h) (fails isInside (stack ∷ func ∷ []) s (λ n. refl, (λ n. refl, tt))))

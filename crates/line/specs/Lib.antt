@@ -1,3 +1,3 @@
--- What the first line of a text is, and the forms of a line inside a function.
+-- What the first line of a text is, and the patterns by which it is read.
 pub mod Lines
-pub mod Forms
+pub mod Patterns

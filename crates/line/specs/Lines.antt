@@ -7,8 +7,8 @@ use lib.ListN.{length, drop}
 use Rattle.model.specs.Text.{linesOf}
 use Rattle.model.specs.declared.Line.{Line}
 use Rattle.model.specs.declared.Line.the-variants.{Stack, Func, At, Close, Malformed}
-use Rattle.words.specs.declared.Num.{Num}
-use Rattle.words.specs.declared.Num.the-variants.{Value, Nothing}
+use Rattle.scan.specs.declared.Num.{Num}
+use Rattle.scan.specs.declared.Num.the-variants as num
 use Rattle.line.specs.declared.Inside.{Inside}
 use Rattle.line.specs.declared.Inside.the-variants as inside
 
@@ -18,27 +18,22 @@ pub record First (s : List ℕ) (l : Line) (k : ℕ) : Type 0 where
   pub within : k ≤ length s
   pub lines : linesOf s ≡ l ∷ linesOf (drop k s)
 
--- the lines that open a text, that open a function, and that stand inside one
+-- a test that answers a for a line that opens a text, b for one that opens a function, and c for one inside a function
+abbrev pub testOf : Bool → Bool → Bool → Line → Bool
+testOf a b c (Stack n) = a
+testOf a b c (Func n) = b
+testOf a b c (At x) = c
+testOf a b c Close = c
+testOf a b c Malformed = false
+
 abbrev pub isStack : Line → Bool
-isStack (Stack n) = true
-isStack (Func n) = false
-isStack (At x) = false
-isStack Close = false
-isStack Malformed = false
+isStack = testOf true false false
 
 abbrev pub isFunc : Line → Bool
-isFunc (Stack n) = false
-isFunc (Func n) = true
-isFunc (At x) = false
-isFunc Close = false
-isFunc Malformed = false
+isFunc = testOf false true false
 
 abbrev pub isInside : Line → Bool
-isInside (Stack n) = false
-isInside (Func n) = false
-isInside (At x) = true
-isInside Close = true
-isInside Malformed = false
+isInside = testOf false false true
 
 -- the first of these lines is such a line
 abbrev pub firstIs : (Line → Bool) → List Line → Bool
@@ -46,13 +41,16 @@ firstIs test [] = false
 firstIs test (l ∷ ls) = test l
 
 -- what each reader says of the text s
+
+abbrev pub numAs : (ℕ → Line) → (Line → Bool) → Num → List ℕ → Type 0
+numAs f test (num.Value n k) s = First s (f n) k
+numAs f test num.Absent s = firstIs test (linesOf s) ≡ false
+
 abbrev pub stackAs : Num → List ℕ → Type 0
-stackAs (Value n k) s = First s (Stack n) k
-stackAs Nothing s = firstIs isStack (linesOf s) ≡ false
+stackAs = numAs Stack isStack
 
 abbrev pub funcAs : Num → List ℕ → Type 0
-funcAs (Value n k) s = First s (Func n) k
-funcAs Nothing s = firstIs isFunc (linesOf s) ≡ false
+funcAs = numAs Func isFunc
 
 abbrev pub insideAs : Inside → List ℕ → Type 0
 insideAs (inside.Point x k) s = First s (At x) k

@@ -1,12 +1,12 @@
-// The first line of a text, read by its form to its line feed. A byte of the line picks the form that is tried.
+// The first line of a text, read by its pattern to its line feed. A byte of the line picks the pattern that is tried.
 use model::Point;
-use words::Num;
-use words::Pair;
+use scan::Num;
+use scan::Pair;
 ghost use mathlib.Core.Path.{_≡_};
 ghost use Prim.Native.Nat.{_≤_};
 ghost use lib.ListN.{length};
 ghost use Rattle.line.specs.Lines.{stackAs, funcAs, insideAs};
-ghost use Rattle.line.specs.Forms.{loadFront, storeFront, callFront, ensureFront, eitherFront, eFront, gotoFront, returnFront, pointFront, closeFront};
+ghost use Rattle.line.specs.Patterns.{made, numbered, either, return, ensureOrEither, points, parse, parseBy, parsedAs};
 
 // What a line inside a function is: a point, and how many bytes the line takes; the closing line, which takes two; or none of these.
 pub enum Inside {
@@ -15,133 +15,120 @@ pub enum Inside {
     Other,
 }
 
-fn load_line(s: &[u8]) -> Inside
-    ensures { λ r. ⌜ r ≡ loadFront (now (s .entry)) ⌝ }
-{
-    let Num::Value(n, k) = words::one(b"  (load ", b")\n", s) else {
-        return Inside::Other;
-    };
-    Inside::Point(Point::Load(n), k)
+// A point, and how many bytes its line takes.
+enum Parsed {
+    Point(Point, usize),
+    Absent,
 }
 
-fn store_line(s: &[u8]) -> Inside
-    ensures { λ r. ⌜ r ≡ storeFront (now (s .entry)) ⌝ }
-{
-    let Num::Value(n, k) = words::one(b"  (store ", b")\n", s) else {
-        return Inside::Other;
-    };
-    Inside::Point(Point::Store(n), k)
+// The points with one number.
+enum Form {
+    Load,
+    Store,
+    Call,
+    Ensure,
+    Goto,
 }
 
-fn call_line(s: &[u8]) -> Inside
-    ensures { λ r. ⌜ r ≡ callFront (now (s .entry)) ⌝ }
+fn made(f: Form, n: u32) -> Point
+    ensures { λ r. ⌜ r ≡ made f n ⌝ }
 {
-    let Num::Value(n, k) = words::one(b"  (call ", b")\n", s) else {
-        return Inside::Other;
-    };
-    Inside::Point(Point::Call(n), k)
+    match f {
+        Form::Load => Point::Load(n),
+        Form::Store => Point::Store(n),
+        Form::Call => Point::Call(n),
+        Form::Ensure => Point::Ensure(n),
+        Form::Goto => Point::Goto(n),
+    }
 }
 
-fn ensure_line(s: &[u8]) -> Inside
-    ensures { λ r. ⌜ r ≡ ensureFront (now (s .entry)) ⌝ }
+// The point line of a form, whose opening word is w.
+fn read_numbered(w: &[u8], f: Form, s: &[u8]) -> Parsed
+    ensures { λ r. ⌜ parsedAs r ≡ parse (numbered (now (w .entry)) f) (now (s .entry)) ⌝ }
 {
-    let Num::Value(n, k) = words::one(b"  (ensure ", b")\n", s) else {
-        return Inside::Other;
+    let Num::Value(n, k) = scan::one(w, b")\n", s) else {
+        return Parsed::Absent;
     };
-    Inside::Point(Point::Ensure(n), k)
+    Parsed::Point(made(f, n), k)
 }
 
-fn either_line(s: &[u8]) -> Inside
-    ensures { λ r. ⌜ r ≡ eitherFront (now (s .entry)) ⌝ }
+fn read_either(s: &[u8]) -> Parsed
+    ensures { λ r. ⌜ parsedAs r ≡ parse either (now (s .entry)) ⌝ }
 {
-    let Pair::Are(p, q, k) = words::two(b"  (either ", b" ", b")\n", s) else {
-        return Inside::Other;
+    let Pair::Values(p, q, k) = scan::two(b"  (either ", b" ", b")\n", s) else {
+        return Parsed::Absent;
     };
-    Inside::Point(Point::Either(p, q), k)
+    Parsed::Point(Point::Either(p, q), k)
 }
 
-// An ensure or an either line: the letter after the e picks the form.
-fn e_line(s: &[u8]) -> Inside
+// An ensure or an either line: the letter after the e picks the pattern.
+fn read_e(s: &[u8]) -> Parsed
     requires { ⌜ 5 ≤ length (now s) ⌝ }
-    ensures { λ r. ⌜ r ≡ eFront (now (s .entry)) ⌝ }
+    ensures { λ r. ⌜ parsedAs r ≡ parseBy ensureOrEither (now (s .entry)) ⌝ }
 {
     let b = s[4];
     match b {
-        b'n' => ensure_line(s),
-        b'i' => either_line(s),
-        _ => Inside::Other,
+        b'n' => read_numbered(b"  (ensure ", Form::Ensure, s),
+        b'i' => read_either(s),
+        _ => Parsed::Absent,
     }
 }
 
-fn goto_line(s: &[u8]) -> Inside
-    ensures { λ r. ⌜ r ≡ gotoFront (now (s .entry)) ⌝ }
+fn read_return(s: &[u8]) -> Parsed
+    ensures { λ r. ⌜ parsedAs r ≡ parse return (now (s .entry)) ⌝ }
 {
-    let Num::Value(n, k) = words::one(b"  (goto ", b")\n", s) else {
-        return Inside::Other;
-    };
-    Inside::Point(Point::Goto(n), k)
-}
-
-fn return_line(s: &[u8]) -> Inside
-    ensures { λ r. ⌜ r ≡ returnFront (now (s .entry)) ⌝ }
-{
-    if words::starts(b"  (return)\n", s) {
-        Inside::Point(Point::Return, 11)
-    } else {
-        Inside::Other
+    let w = b"  (return)\n";
+    if scan::starts(w, s) {
+        return Parsed::Point(Point::Return, w.len());
     }
+    Parsed::Absent
 }
 
-// A point line, which has 11 bytes at least: the letter after the two spaces and the bracket picks the form.
-fn point_line(s: &[u8]) -> Inside
-    ensures { λ r. ⌜ r ≡ pointFront (now (s .entry)) ⌝ }
+// The bytes of the shortest point lines, as "  (load 0)" with its line feed.
+const SHORTEST: usize = 11;
+
+// A point line: the letter after the two spaces and the bracket picks the pattern.
+fn read_point(s: &[u8]) -> Parsed
+    ensures { λ r. ⌜ parsedAs r ≡ parseBy points (now (s .entry)) ⌝ }
 {
-    if s.len() < 11 {
-        return Inside::Other;
+    if s.len() < SHORTEST {
+        return Parsed::Absent;
     }
     let b = s[3];
     match b {
-        b'l' => load_line(s),
-        b's' => store_line(s),
-        b'c' => call_line(s),
-        b'e' => e_line(s),
-        b'g' => goto_line(s),
-        b'r' => return_line(s),
-        _ => Inside::Other,
-    }
-}
-
-fn close_line(s: &[u8]) -> Inside
-    ensures { λ r. ⌜ r ≡ closeFront (now (s .entry)) ⌝ }
-{
-    if words::starts(b")\n", s) {
-        Inside::Close
-    } else {
-        Inside::Other
+        b'l' => read_numbered(b"  (load ", Form::Load, s),
+        b's' => read_numbered(b"  (store ", Form::Store, s),
+        b'c' => read_numbered(b"  (call ", Form::Call, s),
+        b'e' => read_e(s),
+        b'g' => read_numbered(b"  (goto ", Form::Goto, s),
+        b'r' => read_return(s),
+        _ => Parsed::Absent,
     }
 }
 
 // The line inside a function that s begins with.
-pub fn inside_line(s: &[u8]) -> Inside
+pub fn read_inside(s: &[u8]) -> Inside
     ensures { λ r. ⌜ insideAs r (now (s .entry)) ⌝ }
 {
-    let l = point_line(s);
-    if let Inside::Point(x, k) = l {
+    if let Parsed::Point(x, k) = read_point(s) {
         return Inside::Point(x, k);
     }
-    close_line(s)
+    if scan::starts(b")\n", s) {
+        return Inside::Close;
+    }
+    Inside::Other
 }
 
 // The stack line that s begins with: the cache blocks, and how many bytes the line takes.
-pub fn stack_line(s: &[u8]) -> Num
+pub fn read_stack(s: &[u8]) -> Num
     ensures { λ r. ⌜ stackAs r (now (s .entry)) ⌝ }
 {
-    words::one(b"(stack ", b")\n", s)
+    scan::one(b"(stack ", b")\n", s)
 }
 
 // The func line that s begins with: the frame, and how many bytes the line takes.
-pub fn func_line(s: &[u8]) -> Num
+pub fn read_func(s: &[u8]) -> Num
     ensures { λ r. ⌜ funcAs r (now (s .entry)) ⌝ }
 {
-    words::one(b"(func ", b"\n", s)
+    scan::one(b"(func ", b"\n", s)
 }

@@ -24,8 +24,8 @@ use Rattle.model.specs.Task.{Task, Progress, start, between, inside, refused, t
 use Rattle.tables.specs.Tables.{putPoint, pointsOf, funcsOf, taskOf}
 use Rattle.tables.proofs.Laws.{length-points, length-funcs, sum-funcs}
 use Rattle.tables.proofs.Writes.{funcs-agree, stacked-agree, put-point-agree, put-point-more, put-point-past, put-point-length}
-use Rattle.words.specs.declared.Num.{Num}
-use Rattle.words.specs.declared.Num.the-variants.{Nothing}
+use Rattle.scan.specs.declared.Num.{Num}
+use Rattle.scan.specs.declared.Num.the-variants.{Absent}
 use Rattle.line.specs.Lines.{First, isStack, isFunc, isInside, firstIs, stackAs, funcAs}
 use Rattle.task.specs.declared.Tables.{Tables}
 use Rattle.task.specs.declared.Took.the-variants as took
@@ -147,7 +147,7 @@ not-stack n (Close ∷ ls) h = refl
 not-stack n (Malformed ∷ ls) h = refl
 
 -- the line that opens a function
-pub func-none : (text : List ℕ) (a n : ℕ) (t : Task) (r : Num) → funcAs r (take (length text - a) (drop a text)) → r ≡ Nothing → a < length text → readFrom n (between t) (linesOf (drop a text)) ≡ refused (refuse Form n)
+pub func-none : (text : List ℕ) (a n : ℕ) (t : Task) (r : Num) → funcAs r (take (length text - a) (drop a text)) → r ≡ Absent → a < length text → readFrom n (between t) (linesOf (drop a text)) ≡ refused (refuse Form n)
 func-none text a n t r i e h = not-func n t (linesOf (drop a text)) (some-line text a h) (rw (part-to-end text a) at (rw e at i))
 
 pub func-large : (w : List ℕ) (s f k n : ℕ) → s < k → readLine n (between (taskOf w s f)) (Func k) ≡ stop (refuse FrameSize n)
@@ -163,7 +163,7 @@ unfolding readLine pointsOf
 func-goes w tb k n h i = rw (le-ltb (tb .stack) k h, length-funcs w (tb .funcs), lt-leb 64 (tb .funcs) i)
 
 -- the stack line
-pub stack-none : (text : List ℕ) (r : Num) → stackAs r (take (length text - 0) (drop 0 text)) → r ≡ Nothing → readText text ≡ refused (refuse Form 1)
+pub stack-none : (text : List ℕ) (r : Num) → stackAs r (take (length text - 0) (drop 0 text)) → r ≡ Absent → readText text ≡ refused (refuse Form 1)
 stack-none text r i e = not-stack 1 (linesOf text) (rw (part-to-end text 0) at (rw e at i))
 
 pub stack-zero : (s n : ℕ) → s < 1 → readLine n start (Stack s) ≡ stop (refuse StackSize n)

@@ -9,9 +9,9 @@ use line::Inside;
 use model::Point;
 use model::Refusal;
 use model::Row;
+use scan::Num;
 use tables::put_func;
 use tables::put_point;
-use words::Num;
 
 // The tables of a task: the cache blocks S, how many functions, and how many points in all.
 pub struct Tables {
@@ -110,7 +110,7 @@ fn read_points(text: &[u8], work: &mut [u32], tb: Tables, k: u32, at: Place) -> 
     let mut m: usize = 0;
     loop {
         let n = at.n + m as u32;
-        match line::inside_line(&text[a..b]) {
+        match line::read_inside(&text[a..b]) {
             Inside::Point(x, c) => {
                 if let Took::Refused(r) = take_point(work, tb, k, most, m, n, x) {
                     return Body::Refused(r);
@@ -170,7 +170,7 @@ fn read_func(text: &[u8], work: &mut [u32], tb: Tables, at: Place) -> Reached
     let n = at.n;
     let a = at.a;
     let b = text.len();
-    let Num::Value(k, c) = line::func_line(&text[a..b]) else {
+    let Num::Value(k, c) = line::read_func(&text[a..b]) else {
         return Reached::Refused(Refusal {
             row: Row::Form,
             place: n,
@@ -228,7 +228,7 @@ pub fn read_task(text: &[u8], work: &mut [u32]) -> Read
     ensures { λ r. ⌜ readAs r (readText (now (text .entry))) (now (work .entry)) (now (work .exit)) ⌝ }
 {
     let b = text.len();
-    let Num::Value(s, c) = line::stack_line(&text[0..b]) else {
+    let Num::Value(s, c) = line::read_stack(&text[0..b]) else {
         return Read::Refused(Refusal {
             row: Row::Form,
             place: 1,

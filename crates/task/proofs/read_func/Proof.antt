@@ -12,12 +12,12 @@ use Rattle.task.proofs.read_func.Tie as tie
 opens : (c : tie.After-k) → let x = c .before .before .before .before .before .before .args in Next (now (x .text)) (x .at .a) (Func (c .k .given .0 .0)) (c .k .given .0 .1 .0)
 opens c =
     let l = c .before .before in
-    next-line _ _ _ _ (l .before .before .before .before .pre .0 .within) (rw (c .k .given .1) at (l .func-line .ensures))
+    next-line _ _ _ _ (l .before .before .before .before .pre .0 .within) (rw (c .k .given .1) at (l .read-func .ensures))
 
 returns : tie.Need-returns
 returns c =
     let f = c .before .before in
-    (func-none _ _ _ _ _ (f .func-line .ensures) (c .enum-told .given .1) (f .before .before .before .before .pre .1 .1), same-kept _)
+    (func-none _ _ _ _ _ (f .read-func .ensures) (c .enum-told .given .1) (f .before .before .before .before .pre .1 .1), same-kept _)
 
 returns-2 : tie.Need-returns-2
 returns-2 c = (line-stops (opens (c .before .before .before)) _ _ _ (func-large _ _ _ _ _ (c .if1 .taken)), same-kept _)

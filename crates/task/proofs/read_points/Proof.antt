@@ -21,20 +21,20 @@ returns c =
     let t = c .before .before .before .before .before in
     let x = t .before .before .before in
     let i = x .before .before in
-    going-off (i .before .before .before .loop .inv) (i .inside-line .ensures) (x .x .given .1) (t .take-point .ensures) _ (c .before .r .given .1)
+    going-off (i .before .before .before .loop .inv) (i .read-inside .ensures) (x .x .given .1) (t .take-point .ensures) _ (c .before .r .given .1)
 
 add-a : tie.Need-add-a Inv-loop μ-loop
 add-a c =
     let x = c .before .before .before .before .before .before .before in
     let i = x .before .before in
-    let n = going-next (i .before .before .before .loop .inv) (i .inside-line .ensures) (x .x .given .1) in
+    let n = going-next (i .before .before .before .loop .inv) (i .read-inside .ensures) (x .x .given .1) in
     omega arith
 
 loop-less : tie.Need-loop-less Inv-loop μ-loop
 loop-less c =
     let x = c .before .before .before .before .before .before .before in
     let i = x .before .before in
-    let n = going-next (i .before .before .before .loop .inv) (i .inside-line .ensures) (x .x .given .1) in
+    let n = going-next (i .before .before .before .loop .inv) (i .read-inside .ensures) (x .x .given .1) in
     omega arith
 
 loop-again : tie.Need-loop-again Inv-loop μ-loop
@@ -42,22 +42,22 @@ loop-again c =
     let t = c .before .before .before .before in
     let x = t .before .before .before in
     let i = x .before .before in
-    going-on (i .before .before .before .loop .inv) (i .inside-line .ensures) (x .x .given .1) (t .take-point .ensures) (c .enum-told .given .1)
+    going-on (i .before .before .before .loop .inv) (i .read-inside .ensures) (x .x .given .1) (t .take-point .ensures) (c .enum-told .given .1)
 
 returns-2 : tie.Need-returns-2 Inv-loop μ-loop
 returns-2 c =
     let i = c .before .before .before in
-    going-empty (i .before .before .before .loop .inv) (i .inside-line .ensures) (c .before .enum-told2 .given .1) (c .if1 .taken)
+    going-empty (i .before .before .before .loop .inv) (i .read-inside .ensures) (c .before .enum-told2 .given .1) (c .if1 .taken)
 
 returns-3 : tie.Need-returns-3 Inv-loop μ-loop
 returns-3 c =
     let i = c .before .before .before in
-    going-end (i .before .before .before .loop .inv) (i .inside-line .ensures) (c .before .enum-told2 .given .1) (omega arith)
+    going-end (i .before .before .before .loop .inv) (i .read-inside .ensures) (c .before .enum-told2 .given .1) (omega arith)
 
 returns-4 : tie.Need-returns-4 Inv-loop μ-loop
 returns-4 c =
     let i = c .before .before in
-    going-other (i .before .before .before .loop .inv) (i .inside-line .ensures) (c .enum-told3 .given .1)
+    going-other (i .before .before .before .loop .inv) (i .read-inside .ensures) (c .enum-told3 .given .1)
 
 pub read-points-spec : {M : Type 1} → statement M
 read-points-spec =

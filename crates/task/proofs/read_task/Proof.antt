@@ -11,10 +11,10 @@ use Rattle.task.proofs.read_task.Tie as tie
 
 -- the stack line
 opens : (c : tie.After-s) → Next (now (c .before .before .before .before .before .before .args .text)) 0 (Stack (c .s .given .0 .0)) (c .s .given .0 .1 .0)
-opens c = next-line _ 0 _ _ (omega arith) (rw (c .s .given .1) at (c .before .before .stack-line .ensures))
+opens c = next-line _ 0 _ _ (omega arith) (rw (c .s .given .1) at (c .before .before .read-stack .ensures))
 
 returns : tie.Need-returns
-returns c = let l = c .before .before in (stack-none _ _ (l .stack-line .ensures) (c .enum-told .given .1), same-kept _)
+returns c = let l = c .before .before in (stack-none _ _ (l .read-stack .ensures) (c .enum-told .given .1), same-kept _)
 
 returns-2 : tie.Need-returns-2
 returns-2 c = (line-stops (opens (c .before .before)) 1 start _ (stack-zero _ 1 (c .if1 .taken)), same-kept _)

@@ -1,0 +1,13 @@
+-- `scan::most` meets its contract.
+use native.Mathlib.Omega.{arith}
+use Rattle.scan.proofs.Laws.{limit-zero, limit-other}
+use Rattle.scan.proofs.most.Statement.{statement}
+use Rattle.scan.proofs.most.Tie as tie
+
+pub most-spec : {M : Type 1} → statement M
+most-spec =
+    tie.close
+    (tie.spec
+    (λ c. omega (arith, limit-zero (c .before .args .v) (omega arith)))
+    (λ c. omega (arith, limit-other (c .before .before .args .v) (omega arith)))
+    (λ c. omega (arith, limit-other (c .before .before .args .v) (omega arith))))
