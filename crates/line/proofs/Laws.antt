@@ -21,7 +21,7 @@ use Rattle.scan.specs.declared.Pair.the-variants as pair
 use Rattle.scan.specs.Answers.{scanOne, scanTwo}
 use Rattle.scan.proofs.Laws.{both, starts-off, starts-short, one-off, one-short, two-by}
 use Rattle.line.specs.Lines.{First, isStack, isFunc, isInside, firstIs, numAs, stackAs, funcAs, insideAs}
-use Rattle.line.specs.Patterns.{Pattern, fixed, one, two, Parse, parseOne, parseTwo, _↵_, parse, parseBy, points, stack, func, close, lines}
+use Rattle.line.specs.Patterns.{Pattern, fixed, one, two, Parse, parseFixed, parseOne, parseTwo, _↵_, parse, parseBy, points, stack, func, close, lines}
 use Rattle.line.proofs.Feed.{noFeed, by-feed, lines-off, first-line, starts-line, starts-none, same-length}
 use Rattle.line.proofs.Feed.{withBytes, pairWithBytes, one-none, one-line, two-none, two-line}
 
@@ -144,7 +144,7 @@ module _ (k : ℕ) (q : Line) (y : Parse) (h : Says k q y) where
   says-two f none = h
   says-two f (some n) = (refl, refl)
 
-  says-fixed : (l : Line) (n : ℕ) (b : Bool) → (b ≡ true → k ≡ n) → Says k (if b then l else q) ((if b then some (l, n) else none) orElse y)
+  says-fixed : (l : Line) (n : ℕ) (b : Bool) → (b ≡ true → k ≡ n) → Says k (if b then l else q) (parseFixed l n b orElse y)
   says-fixed l n true e = (refl, e refl)
   says-fixed l n false e = h
 
@@ -215,9 +215,9 @@ module _ (test : Line → Bool) where
   fails-or none y h k = k
   fails-or (some x) y h k = h
 
-  fails-fixed : (b : Bool) (x : Line × ℕ) → test (x .0) ≡ false → passes test (if b then some x else none) ≡ false
-  fails-fixed true x h = h
-  fails-fixed false x h = refl
+  fails-fixed : (b : Bool) (l : Line) (k : ℕ) → test l ≡ false → passes test (parseFixed l k b) ≡ false
+  fails-fixed true l k h = h
+  fails-fixed false l k h = refl
 
   fails-one : (x : Num) (f : ℕ → Line) → ((n : ℕ) → test (f n) ≡ false) → passes test (parseOne f x) ≡ false
   fails-one (num.Value n k) f h = h n
@@ -234,7 +234,7 @@ module _ (test : Line → Bool) where
 
   never : (p : Pattern) (s : List ℕ) → Never p → passes test (parse p s) ≡ false
   unfolding Never
-  never (fixed w l) s h = fails-fixed (starts (w ↵ []) s) (l, length w + 1) h
+  never (fixed w l) s h = fails-fixed (starts (w ↵ []) s) l (length w + 1) h
   never (one w e f) s h = fails-one (scanOne w (e ↵ []) s) f h
   never (two w m e f) s h = fails-two (scanTwo w m (e ↵ []) s) f h
 

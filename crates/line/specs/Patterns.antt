@@ -1,9 +1,10 @@
 -- The patterns of a line, and the line that a text begins with by them, with the bytes that the line takes.
 use Prim.Native.Nat.{ℕ, _+_}
+use mathlib.Core.Bool.{Bool, true, false}
 use mathlib.Core.List.{List, [], _∷_, _++_}
 use mathlib.Core.Option.{Option, none, some}
 use lib.ListN.{length}
-use Rattle.model.specs.Basic.{if_then_else_, firstOf}
+use Rattle.model.specs.Basic.{firstOf}
 use Rattle.model.specs.Text.{bytes, starts}
 use Rattle.model.specs.declared.Point.{Point}
 use Rattle.model.specs.declared.Point.the-variants as point
@@ -29,6 +30,10 @@ pub data Pattern : Type 0 where
 abbrev pub Parse : Type 0
 Parse = Option (Line × ℕ)
 
+abbrev pub parseFixed : Line → ℕ → Bool → Parse
+parseFixed l k true = some (l, k)
+parseFixed l k false = none
+
 abbrev pub parseOne : (ℕ → Line) → Num → Parse
 parseOne f (num.Value n k) = some (f n, k)
 parseOne f num.Absent = none
@@ -44,7 +49,7 @@ l ↵ t = l ++ (10 ∷ t)
 infixr 6 _↵_
 -- the line of the pattern that s begins with
 abbrev pub parse : Pattern → List ℕ → Parse
-parse (fixed w l) s = if starts (w ↵ []) s then some (l, length w + 1) else none
+parse (fixed w l) s = parseFixed l (length w + 1) (starts (w ↵ []) s)
 parse (one w e f) s = parseOne f (scanOne w (e ↵ []) s)
 parse (two w m e f) s = parseTwo f (scanTwo w m (e ↵ []) s)
 
