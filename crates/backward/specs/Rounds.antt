@@ -1,44 +1,43 @@
--- The rounds, write by write: what each function of the crate does to the table of sets.
-use Prim.Native.Nat.{ℕ, _^_, _≤_, _<_}
+-- The rounds: what holds of the table of sets on the way to the answer, and what a round does to it.
+use Prim.Native.Nat.{ℕ, _-_, _^_, _≤_, _<_}
 use mathlib.Core.Path.{_≡_}
 use mathlib.Core.Bool.{Bool, true, false}
 use mathlib.Core.List.{List, [], _∷_, List·Memᴰ}
-use lib.ListN.{length, set}
-use Rattle.bits.specs.Bits.{union, difference}
-use Rattle.tables.specs.Tables.{item}
+use lib.ListN.{length}
+use Rattle.bits.specs.Bits.{setBits, bit, union, transfer}
+use Rattle.model.specs.Walk.{Met}
+use Rattle.tables.specs.Tables.{item, sum}
+use Rattle.tables.specs.Valid.{Kept}
+use Rattle.backward.specs.Backward.{has}
 
 -- the union of the sets of these points
 unfoldable pub joined : List ℕ → List ℕ → ℕ
 joined sets [] = 0
-joined sets (q ∷ []) = item sets q
-joined sets (q ∷ r ∷ l) = union (item sets q) (joined sets (r ∷ l))
+joined sets (q ∷ l) = union (item sets q) (joined sets l)
 
--- the set of point p, which leads to these points: what they have and p does not take, and what p gives
-unfoldable pub setFrom : List ℕ → List ℕ → List ℕ → List ℕ → ℕ → ℕ
-setFrom l gens kills sets p = union (difference (joined sets l) (item kills p)) (item gens p)
-
--- the same where next says where each point leads
+-- the set that the sets of its leads make of point p: what they have and p does not kill, and what p generates
 abbrev pub setAt : (ℕ → List ℕ) → List ℕ → List ℕ → List ℕ → ℕ → ℕ
-setAt next gens kills sets p = setFrom (next p) gens kills sets p
+setAt next gens kills sets p = transfer (joined sets (next p)) (item kills p) (item gens p)
 
 -- the sets of these points are there
 abbrev pub There : List ℕ → List ℕ → Type 0
 There l sets = (q : ℕ) → List·Memᴰ q l → q < length sets
 
--- the set of point q, below n, is not what the sets of its leads make it; what they make it fits into 64 bits
-pub record Unstable (next : ℕ → List ℕ) (gens kills : List ℕ) (n q : ℕ) (sets : List ℕ) : Type 0 where
-  pub below : q < n
-  pub differs : setAt next gens kills sets q ≡ item sets q → ⊥
-  pub fits : setAt next gens kills sets q < 2 ^ 64
+-- how much the first n sets can still grow
+unfoldable pub cost : ℕ → List ℕ → ℕ
+cost n sets = sum (λ p. 2 ^ setBits - item sets p) n
 
--- such sets have become what the sets of their leads make them, one after the other
-pub data Writes (next : ℕ → List ℕ) (gens kills : List ℕ) (n : ℕ) (first : List ℕ) : List ℕ → Type 0 where
-  none : Writes next gens kills n first first
-  more : {sets : List ℕ} (q : ℕ) → Writes next gens kills n first sets → Unstable next gens kills n q sets
-      → Writes next gens kills n first (set sets q (setAt next gens kills sets q))
+module _ (next : ℕ → List ℕ) (gens kills : List ℕ) (n : ℕ) where
+  -- sets on the way to the answer: each bit is met, and is among those that the sets of the leads make
+  pub record Right (sets : List ℕ) : Type 0 where
+    pub met : (p j : ℕ) → p < n → j < setBits → bit (item sets p) j ≡ 1 → Met next (has kills j) (has gens j) p
+    pub rises : (p j : ℕ) → p < n → j < setBits → bit (item sets p) j ≤ bit (setAt next gens kills sets p) j
 
--- a round over the points from p on: it has changed nothing, and each set is what the sets of its leads make it; or it has changed one or more
-pub data Round (next : ℕ → List ℕ) (gens kills : List ℕ) (n p : ℕ) (first : List ℕ) : Bool → List ℕ → Type 0 where
-  rests : ((q : ℕ) → p ≤ q → q < n → setAt next gens kills first q ≡ item first q) → Round next gens kills n p first false first
-  changes : {sets : List ℕ} (q : ℕ) → Writes next gens kills n first sets → Unstable next gens kills n q sets
-      → Round next gens kills n p first true (set sets q (setAt next gens kills sets q))
+  -- a round has passed the points from p on. A round that has changed a set has made it larger; after one that has not, each set is what the
+  -- sets of its leads make it
+  pub record Round (p : ℕ) (first : List ℕ) (changed : Bool) (sets : List ℕ) : Type 0 where
+    pub right : Right sets
+    pub kept : Kept n first sets
+    pub grows : cost n sets ≤ cost n first
+    pub changes : changed ≡ true → cost n sets < cost n first
+    pub rests : changed ≡ false → (q : ℕ) → p ≤ q → q < n → setAt next gens kills sets q ≡ item sets q

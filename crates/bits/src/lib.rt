@@ -2,28 +2,35 @@
 ghost use mathlib.Core.Path.{_≡_};
 ghost use Prim.Native.Nat.{_<_, _≤_};
 ghost use lib.ListN.{length};
-ghost use Rattle.bits.specs.Bits.{bit, Single, Low, Top, Lowest, union, difference, cleared};
+ghost use Rattle.bits.specs.Bits.{setBits, bit, Single, Low, Top, Lowest, union, difference, transfer, cleared};
+
+// How many bits a set can have.
+pub struct Set;
+
+impl Set {
+    pub const BITS: u32 = 64;
+}
 
 pub fn single_bit(o: u32) -> u64
-    requires { ⌜ o < 64 ⌝ }
+    requires { ⌜ o < setBits ⌝ }
     ensures { λ r. ⌜ Single o r ⌝ }
 {
     1 << o
 }
 
 pub fn low_bits(k: u32) -> u64
-    requires { ⌜ k ≤ 64 ⌝ }
+    requires { ⌜ k ≤ setBits ⌝ }
     ensures { λ r. ⌜ Low k r ⌝ }
 {
-    if k == 64 {
-        18446744073709551615
+    if k == Set::BITS {
+        u64::MAX
     } else {
         (1 << k) - 1
     }
 }
 
 pub fn bit_of(m: u64, o: u32) -> u64
-    requires { ⌜ o < 64 ⌝ }
+    requires { ⌜ o < setBits ⌝ }
     ensures { λ r. ⌜ r ≡ bit m o ⌝ }
 {
     (m >> o) & 1
@@ -32,11 +39,11 @@ pub fn bit_of(m: u64, o: u32) -> u64
 pub fn top_of(m: u64) -> u32
     ensures { λ r. ⌜ Top m r ⌝ }
 {
-    64 - u64::leading_zeros(m)
+    Set::BITS - u64::leading_zeros(m)
 }
 
 pub fn lowest_of(m: u64, k: u32) -> u32
-    requires { ⌜ k ≤ 64 ⌝ }
+    requires { ⌜ k ≤ setBits ⌝ }
     ensures { λ r. ⌜ Lowest m k r ⌝ }
 {
     let z = u64::trailing_zeros(m);
@@ -55,6 +62,13 @@ pub fn difference_of(a: u64, b: u64) -> u64
     a & !b
 }
 
+// What leaves a point that has the set m, kills some bits and generates others.
+pub fn transfer_of(m: u64, kills: u64, gens: u64) -> u64
+    ensures { λ r. ⌜ r ≡ transfer m kills gens ⌝ }
+{
+    union_of(difference_of(m, kills), gens)
+}
+
 // The first n sets of a table are emptied.
 pub fn clear_sets(sets: &mut [u64], n: usize)
     requires { ⌜ n ≤ length (now sets) ⌝ }
@@ -63,6 +77,18 @@ pub fn clear_sets(sets: &mut [u64], n: usize)
     let mut i = 0;
     while i < n {
         sets[i] = 0;
+        i += 1;
+    }
+}
+
+// The first n marks of a table are taken away.
+pub fn clear_marks(marks: &mut [u8], n: usize)
+    requires { ⌜ n ≤ length (now marks) ⌝ }
+    ensures { λ r. ⌜ now (marks .exit) ≡ cleared n (now (marks .entry)) ⌝ }
+{
+    let mut i = 0;
+    while i < n {
+        marks[i] = 0;
         i += 1;
     }
 }

@@ -4,11 +4,5 @@ use Rattle.bits.proofs.Laws.{bit-read}
 use Rattle.bits.proofs.bit_of.Statement.{statement}
 use Rattle.bits.proofs.bit_of.Tie as tie
 
-shr-result : tie.Need-shr-result
-shr-result c = search needs
-
-returns : tie.Need-returns
-returns c = bit-read (c .args .m) (c .args .o)
-
 pub bit-of-spec : {M : Type 1} → statement M
-bit-of-spec = tie.close (tie.spec shr-result returns)
+bit-of-spec = tie.close (tie.spec (λ c. search needs) (λ c. bit-read (c .args .m) (c .args .o)))

@@ -4,11 +4,5 @@ use Rattle.bits.proofs.Laws.{bit-shifted}
 use Rattle.bits.proofs.single_bit.Statement.{statement}
 use Rattle.bits.proofs.single_bit.Tie as tie
 
-shl-result : tie.Need-shl-result
-shl-result c = search needs
-
-returns : tie.Need-returns
-returns c = bit-shifted (c .args .o) (c .pre)
-
 pub single-bit-spec : {M : Type 1} → statement M
-single-bit-spec = tie.close (tie.spec shl-result returns)
+single-bit-spec = tie.close (tie.spec (λ c. search needs) (λ c. bit-shifted (c .args .o) (c .pre)))

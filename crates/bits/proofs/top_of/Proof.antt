@@ -5,11 +5,5 @@ use Rattle.bits.proofs.Laws.{top-leading}
 use Rattle.bits.proofs.top_of.Statement.{statement}
 use Rattle.bits.proofs.top_of.Tie as tie
 
-sub-result : tie.Need-sub-result
-sub-result c = omega (arith, leading-le 64 (c .args .m))
-
-returns : tie.Need-returns
-returns c = top-leading (c .args .m) (omega arith)
-
 pub top-of-spec : {M : Type 1} → statement M
-top-of-spec = tie.close (tie.spec sub-result returns)
+top-of-spec = tie.close (tie.spec (λ c. omega (arith, leading-le 64 (c .args .m))) (λ c. top-leading (c .args .m) (omega arith)))
