@@ -19,7 +19,8 @@ use Rattle.theory.proofs.Lists.{and-holds, or-holds, smallest-unique, largest-u
 use Rattle.theory.proofs.Links.{ensure-inside, lead-inside}
 use Rattle.theory.proofs.Walks.{walk-trans}
 use Rattle.theory.proofs.Figures.{Closed, InFrame, walk-inside, walk-carries, reached-walk, dead-is, need-is, callFree-met, keptNext-is, high-is}
-use Rattle.bits.specs.Bits.{bit, Low, Lowest, Top}
+use Rattle.bits.specs.Bits.{setBits, bit, Low, Lowest, Top}
+use Rattle.bits.proofs.Laws.{marked, marks-low}
 use Rattle.tables.specs.declared.Span.{Span}
 use Rattle.tables.specs.Tables.{item, pointAt, funcIn}
 use Rattle.tables.specs.Valid.{Fits}
@@ -29,12 +30,12 @@ use Rattle.forward.specs.Forward.{Carried}
 use Rattle.forward.specs.Forward as forward
 use Rattle.problems.specs.declared.Problem.{Problem}
 use Rattle.problems.specs.declared.Problem.the-variants.{Live, Touched, CallFree, FirstEnsure, Occupied}
-use Rattle.problems.proofs.Laws.{low-marks, marked, unmarked}
 use Rattle.problems.specs.Problems.{gives, takes, Filled, Gives, Takes, Blocks, Answered, KeptIn, CutIn, Reached}
+use Rattle.problems.proofs.Laws.{unmarked}
 
 -- one more than the highest bit, where bit j tells of a number j + 1 of the kind P; the lowest bit, where bit j tells of j
-top-largest : (P : ℕ → Type 0) {m r : ℕ} → Top m r → ((j : ℕ) → j < 64 → (bit m j ≡ 1) ↔ P (suc j)) → ((j : ℕ) → P (suc j) → j < 64)
-    → Largest P r
+top-largest : (P : ℕ → Type 0) {m r : ℕ} → Top m r → ((j : ℕ) → j < setBits → (bit m j ≡ 1) ↔ P (suc j))
+    → ((j : ℕ) → P (suc j) → j < setBits) → Largest P r
 top-largest P {m} {r} t is low = record { bounds = under; attained = there r t }
   where
     under : (n : ℕ) → P n → n ≤ r
@@ -79,98 +80,6 @@ touched-below k (Goto p) o f t = absurd t
 touched-below k (Either p q) o f t = absurd t
 touched-below k Return o f t = absurd t
 
--- the function s of the tables, whose walks stay in it
-module _ {w : List ℕ} {s : Span} (fits : Fits w s) where
-  size-of : size (funcIn w s) ≡ s .size
-  size-of = length-points w (s .base) (s .size)
-
-  point-of : (p : ℕ) → p < s .size → point (funcIn w s) p ≡ pointAt w (s .base + p)
-  point-of p h = point-there w (s .base) (s .size) p h
-
-  closed-of : Closed (funcIn w s)
-  closed-of p q h m = omega (arith, size-of, fits .inside p q (omega (arith, size-of)) m)
-
-  frame-of : InFrame (funcIn w s)
-  frame-of o q h t =
-      let k : q < s .size = omega (arith, size-of) in
-      touched-below (s .frame) (point (funcIn w s) q) o (rw (point-of q k) (fits .offsets q k)) t
-
-  -- the sets of a backward problem
-  pub answered : (problem : Problem) (column : List ℕ) {gens₀ gens kills₀ kills sets : List ℕ}
-      → Filled (Gives problem w s column) (s .size) gens₀ gens → Filled (Takes problem w s column) (s .size) kills₀ kills
-      → Solved (leads (funcIn w s)) (s .size) gens kills sets → Answered problem (funcIn w s) column sets
-  answered problem column {gens = gens} {kills = kills} g k solved =
-      record {
-        met = λ p j h l.
-            let i : p < s .size = omega (arith, size-of) in
-            let stops : (q : ℕ) → q < s .size → has kills j q ≡ takes problem (s .frame) (item column q) (point (funcIn w s) q) j =
-            λ q n. k .each q n .same j l ∙ sym (ap (λ (x : Point). takes problem (s .frame) (item column q) x j) (point-of q n)) in
-            let goals : (q : ℕ) → q < s .size → has gens j q ≡ gives problem (s .frame) (item column q) (point (funcIn w s) q) j =
-            λ q n. g .each q n .same j l ∙ sym (ap (λ (x : Point). gives problem (s .frame) (item column q) x j) (point-of q n)) in
-            let same = solved p j i l in (
-              λ e. let m = same .0 e in met-same (leads (funcIn w s)) (s .size) (fits .inside) stops goals i (m .1) (m .2),
-              λ m. same .1 (met-same (leads (funcIn w s)) (s .size) (fits .inside) (λ q n. sym (stops q n)) (λ q n. sym (goals q n)) i (m .1) (m .2)),
-            );
-      }
-
-  -- dead, need: by the lowest and the highest bit of a point's set
-  pub dead-read : {column sets : List ℕ} → Answered Live (funcIn w s) column sets → (p v : ℕ) → p < s .size
-      → Lowest (item sets p) (s .frame) v → v ≡ dead (funcIn w s) p
-  dead-read a p v h l =
-      let i : p < size (funcIn w s) = omega (arith, size-of) in
-      smallest-unique (lowest-smallest _ l (λ j k. a .met p j i (omega (arith, fits .frame)))) (dead-is (funcIn w s) closed-of p i)
-
-  pub need-read : {column sets : List ℕ} → Answered Touched (funcIn w s) column sets → (p v : ℕ) → p < s .size
-      → Top (item sets p) v → v ≡ need (funcIn w s) p
-  need-read a p v h t =
-      let i : p < size (funcIn w s) = omega (arith, size-of) in
-      largest-unique
-      (top-largest (λ m. (o : ℕ) × (m ≡ suc o) × Met (leads (funcIn w s)) (isEnsure (funcIn w s)) (touches (funcIn w s) o) p) t
-      (λ j k. (λ e. (j, refl, a .met p j i k .0 e), λ m. let e : j ≡ m .0 = omega (arith, m .1) in rw e (a .met p (m .0) i (rw (← e) k) .1 (m .2))))
-      (λ j m. omega (arith, m .1, fits .frame, frame-of (m .0) (m .2 .0) (walk-inside (funcIn w s) closed-of (m .2 .1) i) (m .2 .2))))
-      (need-is (funcIn w s) closed-of frame-of p i)
-
-  -- callFree: by bit 0 of point 0
-  pub call-free-read : {column sets : List ℕ} {b : ℕ} → Answered CallFree (funcIn w s) column sets → b ≡ bit (item sets 0) 0
-      → eqb b 1 ≡ callFree (funcIn w s)
-  call-free-read {sets = sets} {b} a e =
-      let i : 0 < size (funcIn w s) = omega (arith, size-of, fits .some) in
-      let met = a .met 0 0 i (lit≤ tt) in
-      let free = callFree-met (funcIn w s) closed-of i in
-      same (eqb b 1) (callFree (funcIn w s)) (λ t. free .1 (met .0 (sym e ∙ eqb→eq b 1 t))) (λ t. rw (e ∙ met .1 (free .0 t)) tt)
-    where
-      same : (a b : Bool) → (T a → T b) → (T b → T a) → a ≡ b
-      same true true g h = refl
-      same true false g h = absurd (g tt)
-      same false true g h = absurd (h tt)
-      same false false g h = refl
-
-  -- keptNext: by the highest bit
-  pub next-read : {column sets : List ℕ} → Blocks (s .size) column → Answered FirstEnsure (funcIn w s) column sets → (p v : ℕ) → p < s .size
-      → Top (item sets p) v → (t : Task) (g : ℕ) → KeptIn w s column t g → v ≡ keptNext t g p
-  next-read {column} low a p v h top t g k =
-      let i : p < size (funcIn w s) = omega (arith, size-of) in
-      let at : (e : ℕ) → T (isEnsure (funcIn w s) e) → (e < s .size) × (item column e ≡ kept t g e) =
-      λ e n. let l : e < s .size = omega (arith, size-of, ensure-inside (funcIn w s) e n) in (l, k .at-ensures e l n) in
-      largest-unique
-      (top-largest (λ m. (e : ℕ) × Walk (leads (funcIn w s)) (isEnsure (funcIn w s)) p e × T (isEnsure (funcIn w s) e) × (m ≡ kept t g e)) top
-      (λ j l. (
-        λ e.
-            let m = a .met p j i l .0 e in
-            let b = and-holds (isEnsure (funcIn w s) (m .0)) (eqb (item column (m .0)) (suc j)) .0 (m .2) in
-            (m .0, m .1, b .0, sym (eqb→eq (item column (m .0)) (suc j) (b .1)) ∙ at (m .0) (b .0) .1),
-        λ m.
-            a .met p j i l .1 (
-              m .0,
-              m .1,
-              and-holds (isEnsure (funcIn w s) (m .0)) (eqb (item column (m .0)) (suc j)) .1 (m .2, rw (at (m .0) (m .2) .1 ∙ sym (m .3)) (eqb-refl (suc j))),
-            ),
-      ))
-      (λ j m. let n = at (m .0) (m .2) in omega (arith, m .3, n .1, low (m .0) (n .0))))
-      (subst
-      (λ (x : Func). Closed x → (p : ℕ) → p < size x → Largest (λ m. (e : ℕ) × Walk (leads x) (isEnsure x) p e × T (isEnsure x e) × (m ≡ kept t g e)) (keptNext t g p))
-      (k .same) (keptNext-is t g) closed-of p i)
-
 -- the occupancy after a point is above j exactly where the point gives j, or where it was above j before and the point does not take j
 passed : {A : Type 0} → A ↔ (T false ⊎ (A × T true))
 passed = (λ h. inr (h, tt), ⊎-elim (λ f. absurd f) (λ h. h .0))
@@ -204,70 +113,167 @@ carries-walk : {next : ℕ → List ℕ} {after : ℕ → ℕ → ℕ} {first p 
 carries-walk Carries.enter = Walk.here
 carries-walk (Carries.step c m) = walk-trans (carries-walk c) (Walk.step tt m Walk.here)
 
--- a walk that carries bit j is one that brings a value above j
-module _
-    {w : List ℕ}
-    {s : Span}
-    (fits : Fits w s)
-    (start entry : ℕ)
-    (column : List ℕ)
-    {gens₀ gens kills₀ kills : List ℕ}
-    (low : Low start entry)
-    (g : Filled (Gives Occupied w s column) (s .size) gens₀ gens)
-    (k : Filled (Takes Occupied w s column) (s .size) kills₀ kills)
-    (t : Task)
-    (f e : ℕ)
-    (r : CutIn w s start column t f e) where
-  abbrev Brought : ℕ → ℕ → Type 0
-  Brought = Carries (leads (funcIn w s)) (after t f) start
+-- the function s of the tables, whose walks stay in it
+module _ (w : List ℕ) (s : Span) (fits : Fits w s) where
+  abbrev x : Func
+  x = funcIn w s
 
-  inside : {p q : ℕ} → List·Memᴰ q (leads (funcIn w s) p) → p < s .size
-  inside {p} m = omega (arith, lead-inside (funcIn w s) p m, size-of fits)
+  size-of : size x ≡ s .size
+  size-of = length-points w (s .base) (s .size)
 
-  above : (p h j : ℕ) → p < s .size → (j < after t f p h)
-      ↔ (T (gives Occupied (s .frame) (item column p) (pointAt w (s .base + p)) j) ⊎ ((j < h) × T (not (takes Occupied (s .frame) (item column p) (pointAt w (s .base + p)) j))))
-  unfolding after
-  above p h j i =
-      rw (r .same, point-of fits p i)
-      (above-after t (pointAt w (s .base + p)) h (s .frame) (item column p) j (λ c d. r .at-calls p c i (ap called (point-of fits p i) ∙ d)))
+  point-of : (p : ℕ) → p < s .size → point x p ≡ pointAt w (s .base + p)
+  point-of p h = point-there w (s .base) (s .size) p h
 
-  value-low : {p h : ℕ} → start ≤ 64 → Brought p h → h ≤ 64
-  value-low i Carries.enter = i
-  value-low i (Carries.step {p = p} {h = h} c m) =
-      elim (decLt 64 (after t f p h)) [
-        | yes d ↦
-            absurd
-            (⊎-elim (λ l. omega (arith, fits .frame, given-below (pointAt w (s .base + p)) (s .frame) (item column p) 64 l)) (λ l. omega (arith, value-low i c, l .0))
-            (above p h 64 (inside m) .0 d))
-        | no d ↦ omega arith
-      ]
+  closed-of : Closed x
+  closed-of p q h m = omega (arith, size-of, fits .inside p q (omega (arith, size-of)) m)
 
-  carried-above : {j p : ℕ} → j < 64 → Carried (leads (funcIn w s)) entry (item gens) (item kills) j p → (h : ℕ) × Brought p h × (j < h)
-  carried-above {j} l (Carried.enter b) = (start, Carries.enter, ltb→lt j start (marked (low-marks low) j l .0 b))
-  carried-above {j} l (Carried.given {p = p} v b m) =
-      let c = walk-carries {after = after t f} {first = start} v Carries.enter in
-      (after t f p (c .0), Carries.step (c .1) m, above p (c .0) j (inside m) .1 (inl (marked (g .each p (inside m)) j l .0 b)))
-  carried-above {j} l (Carried.kept {p = p} c b m) =
-      let v = carried-above l c in
-      (after t f p (v .0), Carries.step (v .1) m, above p (v .0) j (inside m) .1 (inr (v .2, unmarked (k .each p (inside m)) j l .0 b)))
+  frame-of : InFrame x
+  frame-of o q h t =
+      let k : q < s .size = omega (arith, size-of) in
+      touched-below (s .frame) (point x q) o (rw (point-of q k) (fits .offsets q k)) t
 
-  above-carried : {j p h : ℕ} → j < 64 → Brought p h → j < h → Carried (leads (funcIn w s)) entry (item gens) (item kills) j p
-  above-carried {j} l Carries.enter i = Carried.enter (low .below j i)
-  above-carried {j} l (Carries.step {p = p} {h = h} c m) i =
-      ⊎-elim
-      (λ b. Carried.given (carries-walk c) (marked (g .each p (inside m)) j l .1 b) m)
-      (λ b. Carried.kept (above-carried l c (b .0)) (unmarked (k .each p (inside m)) j l .1 (b .1)) m)
-      (above p h j (inside m) .0 i)
+  -- the sets of a backward problem
+  pub answered : (problem : Problem) (column : List ℕ) {gens₀ gens kills₀ kills sets : List ℕ}
+      → Filled (Gives problem w s column) (s .size) gens₀ gens → Filled (Takes problem w s column) (s .size) kills₀ kills
+      → Solved (leads x) (s .size) gens kills sets → Answered problem x column sets
+  answered problem column {gens = gens} {kills = kills} g k solved =
+      record {
+        met = λ p j h l.
+            let i : p < s .size = omega (arith, size-of) in
+            let stops : (q : ℕ) → q < s .size → has kills j q ≡ takes problem (s .frame) (item column q) (point x q) j =
+            λ q n. k .each q n .same j l ∙ sym (ap (λ (y : Point). takes problem (s .frame) (item column q) y j) (point-of q n)) in
+            let goals : (q : ℕ) → q < s .size → has gens j q ≡ gives problem (s .frame) (item column q) (point x q) j =
+            λ q n. g .each q n .same j l ∙ sym (ap (λ (y : Point). gives problem (s .frame) (item column q) y j) (point-of q n)) in
+            let same = solved p j i l in (
+              λ e. let m = same .0 e in met-same (leads x) (s .size) (fits .inside) stops goals i (m .1) (m .2),
+              λ m. same .1 (met-same (leads x) (s .size) (fits .inside) (λ q n. sym (stops q n)) (λ q n. sym (goals q n)) i (m .1) (m .2)),
+            );
+      }
 
-  -- high: by the highest bit
-  pub high-read : {sets state : List ℕ} → start ≤ 64 → Reached w s → forward.Solved (leads (funcIn w s)) (s .size) entry gens kills sets state
-      → (p v : ℕ) → p < s .size → Top (item sets p) v → v ≡ highFrom t f e p
-  high-read i reach solved p v h top =
-      let some-point : 0 < size (funcIn w s) = omega (arith, size-of fits, fits .some) in
-      let walk = reached-walk (funcIn w s) (closed-of fits) some-point p .0 (reach p h) in
-      let is = rw (← r .first) at ((rw (r .same) at (high-is t f e)) (closed-of fits) some-point p walk) in
+  -- dead, need: by the lowest and the highest bit of a point's set
+  pub dead-read : {column sets : List ℕ} → Answered Live x column sets → (p v : ℕ) → p < s .size
+      → Lowest (item sets p) (s .frame) v → v ≡ dead x p
+  dead-read a p v h l =
+      let i : p < size x = omega (arith, size-of) in
+      smallest-unique (lowest-smallest _ l (λ j k. a .met p j i (omega (arith, fits .frame)))) (dead-is x closed-of p i)
+
+  pub need-read : {column sets : List ℕ} → Answered Touched x column sets → (p v : ℕ) → p < s .size
+      → Top (item sets p) v → v ≡ need x p
+  need-read a p v h t =
+      let i : p < size x = omega (arith, size-of) in
       largest-unique
-      (top-largest (λ n. (h : ℕ) × Brought p h × (n ≤ h)) top
-      (λ j l. (λ b. carried-above l (solved .carried p j h l b), λ m. solved .held p j h l (above-carried l (m .1) (m .2))))
-      (λ j m. omega (arith, value-low i (m .1), m .2)))
-      (record { bounds = λ n m. omega (arith, is .0 (m .0) (m .1), m .2); attained = λ l. (highFrom t f e p, is .1, omega arith) })
+      (top-largest (λ m. (o : ℕ) × (m ≡ suc o) × Met (leads x) (isEnsure x) (touches x o) p) t
+      (λ j k. (λ e. (j, refl, a .met p j i k .0 e), λ m. let e : j ≡ m .0 = omega (arith, m .1) in rw e (a .met p (m .0) i (rw (← e) k) .1 (m .2))))
+      (λ j m. omega (arith, m .1, fits .frame, frame-of (m .0) (m .2 .0) (walk-inside x closed-of (m .2 .1) i) (m .2 .2))))
+      (need-is x closed-of frame-of p i)
+
+  -- callFree: by bit 0 of point 0
+  pub call-free-read : {column sets : List ℕ} {b : ℕ} → Answered CallFree x column sets → b ≡ bit (item sets 0) 0
+      → eqb b 1 ≡ callFree x
+  call-free-read {sets = sets} {b} a e =
+      let i : 0 < size x = omega (arith, size-of, fits .some) in
+      let met = a .met 0 0 i (lit≤ tt) in
+      let free = callFree-met x closed-of i in
+      same (eqb b 1) (callFree x) (λ t. free .1 (met .0 (sym e ∙ eqb→eq b 1 t))) (λ t. rw (e ∙ met .1 (free .0 t)) tt)
+    where
+      same : (a b : Bool) → (T a → T b) → (T b → T a) → a ≡ b
+      same true true g h = refl
+      same true false g h = absurd (g tt)
+      same false true g h = absurd (h tt)
+      same false false g h = refl
+
+  -- keptNext: by the highest bit
+  pub next-read : {column sets : List ℕ} → Blocks (s .size) column → Answered FirstEnsure x column sets → (p v : ℕ) → p < s .size
+      → Top (item sets p) v → (t : Task) (g : ℕ) → KeptIn w s column t g → v ≡ keptNext t g p
+  next-read {column} low a p v h top t g k =
+      let i : p < size x = omega (arith, size-of) in
+      let at : (e : ℕ) → T (isEnsure x e) → (e < s .size) × (item column e ≡ kept t g e) =
+      λ e n. let l : e < s .size = omega (arith, size-of, ensure-inside x e n) in (l, k .at-ensures e l n) in
+      largest-unique
+      (top-largest (λ m. (e : ℕ) × Walk (leads x) (isEnsure x) p e × T (isEnsure x e) × (m ≡ kept t g e)) top
+      (λ j l. (
+        λ e.
+            let m = a .met p j i l .0 e in
+            let b = and-holds (isEnsure x (m .0)) (eqb (suc j) (item column (m .0))) .0 (m .2) in
+            (m .0, m .1, b .0, eqb→eq (suc j) (item column (m .0)) (b .1) ∙ at (m .0) (b .0) .1),
+        λ m.
+            a .met p j i l .1 (
+              m .0,
+              m .1,
+              and-holds (isEnsure x (m .0)) (eqb (suc j) (item column (m .0))) .1 (m .2, rw (at (m .0) (m .2) .1 ∙ sym (m .3)) (eqb-refl (suc j))),
+            ),
+      ))
+      (λ j m. let n = at (m .0) (m .2) in omega (arith, m .3, n .1, low (m .0) (n .0))))
+      (subst
+      (λ (y : Func). Closed y → (p : ℕ) → p < size y
+      → Largest (λ m. (e : ℕ) × Walk (leads y) (isEnsure y) p e × T (isEnsure y e) × (m ≡ kept t g e)) (keptNext t g p))
+      (k .same) (keptNext-is t g) closed-of p i)
+
+  -- a walk that carries bit j is one that brings a value above j
+  module _
+      (start entry : ℕ)
+      (column : List ℕ)
+      {gens₀ gens kills₀ kills : List ℕ}
+      (low : Low start entry)
+      (g : Filled (Gives Occupied w s column) (s .size) gens₀ gens)
+      (k : Filled (Takes Occupied w s column) (s .size) kills₀ kills)
+      (t : Task)
+      (f e : ℕ)
+      (r : CutIn w s start column t f e) where
+    abbrev Brought : ℕ → ℕ → Type 0
+    Brought = Carries (leads x) (after t f) start
+
+    inside : {p q : ℕ} → List·Memᴰ q (leads x p) → p < s .size
+    inside {p} m = omega (arith, lead-inside x p m, size-of)
+
+    abbrev y : ℕ → Point
+    y p = pointAt w (s .base + p)
+
+    above : (p h j : ℕ) → p < s .size → (j < after t f p h)
+        ↔ (T (gives Occupied (s .frame) (item column p) (y p) j) ⊎ ((j < h) × T (not (takes Occupied (s .frame) (item column p) (y p) j))))
+    unfolding after
+    above p h j i =
+        rw (r .same, point-of p i)
+        (above-after t (y p) h (s .frame) (item column p) j (λ c d. r .at-calls p c i (ap called (point-of p i) ∙ d)))
+
+    value-low : {p h : ℕ} → start ≤ setBits → Brought p h → h ≤ setBits
+    value-low i Carries.enter = i
+    value-low i (Carries.step {p = p} {h = h} c m) =
+        elim (decLt setBits (after t f p h)) [
+          | yes d ↦
+              absurd
+              (⊎-elim (λ l. omega (arith, fits .frame, given-below (y p) (s .frame) (item column p) setBits l))
+              (λ l. omega (arith, value-low i c, l .0))
+              (above p h setBits (inside m) .0 d))
+          | no d ↦ omega arith
+        ]
+
+    carried-above : {j p : ℕ} → j < setBits → Carried (leads x) entry (item gens) (item kills) j p → (h : ℕ) × Brought p h × (j < h)
+    carried-above {j} l (Carried.enter b) = (start, Carries.enter, ltb→lt j start (marked (marks-low low) j l .0 b))
+    carried-above {j} l (Carried.given {p = p} v b m) =
+        let c = walk-carries {after = after t f} {first = start} v Carries.enter in
+        (after t f p (c .0), Carries.step (c .1) m, above p (c .0) j (inside m) .1 (inl (marked (g .each p (inside m)) j l .0 b)))
+    carried-above {j} l (Carried.kept {p = p} c b m) =
+        let v = carried-above l c in
+        (after t f p (v .0), Carries.step (v .1) m, above p (v .0) j (inside m) .1 (inr (v .2, unmarked (k .each p (inside m)) j l .0 b)))
+
+    above-carried : {j p h : ℕ} → j < setBits → Brought p h → j < h → Carried (leads x) entry (item gens) (item kills) j p
+    above-carried {j} l Carries.enter i = Carried.enter (low .below j i)
+    above-carried {j} l (Carries.step {p = p} {h = h} c m) i =
+        ⊎-elim
+        (λ b. Carried.given (carries-walk c) (marked (g .each p (inside m)) j l .1 b) m)
+        (λ b. Carried.kept (above-carried l c (b .0)) (unmarked (k .each p (inside m)) j l .1 (b .1)) m)
+        (above p h j (inside m) .0 i)
+
+    -- high: by the highest bit
+    pub high-read : {sets state : List ℕ} → start ≤ setBits → Reached w s → forward.Solved (leads x) (s .size) entry gens kills sets state
+        → (p v : ℕ) → p < s .size → Top (item sets p) v → v ≡ highFrom t f e p
+    high-read i reach solved p v h top =
+        let some-point : 0 < size x = omega (arith, size-of, fits .some) in
+        let walk = reached-walk x closed-of some-point p .0 (reach p h) in
+        let is = rw (← r .first) at ((rw (r .same) at (high-is t f e)) closed-of some-point p walk) in
+        largest-unique
+        (top-largest (λ n. (h : ℕ) × Brought p h × (n ≤ h)) top
+        (λ j l. (λ b. carried-above l (solved .carried p j h l b), λ m. solved .held p j h l (above-carried l (m .1) (m .2))))
+        (λ j m. omega (arith, value-low i (m .1), m .2)))
+        (record { bounds = λ n m. omega (arith, is .0 (m .0) (m .1), m .2); attained = λ l. (highFrom t f e p, is .1, omega arith) })

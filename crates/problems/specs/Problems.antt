@@ -11,7 +11,7 @@ use Rattle.model.specs.Limits.{mostStack}
 use Rattle.model.specs.Task.{Func, Task, size, func, point}
 use Rattle.model.specs.Walk.{Met, leads, loaded, stored, called, ensured, isReturn, is, present, isEnsure}
 use Rattle.model.specs.Figures as figure
-use Rattle.bits.specs.Bits.{bit}
+use Rattle.bits.specs.Bits.{setBits, bit, Marks}
 use Rattle.tables.specs.declared.Span.{Span}
 use Rattle.tables.specs.Tables.{item, pointAt, funcIn}
 use Rattle.tables.specs.Valid.{Kept}
@@ -24,7 +24,7 @@ abbrev pub gives : Problem → ℕ → ℕ → Point → ℕ → Bool
 gives Live k a x j = is j (loaded x)
 gives Touched k a x j = is j (loaded x) || is j (stored x)
 gives CallFree k a x j = isReturn x
-gives FirstEnsure k a x j = present (ensured x) && eqb a (suc j)
+gives FirstEnsure k a x j = present (ensured x) && eqb (suc j) a
 gives Occupied k a x j = present (ensured x) && ltb j k
 gives Unstored k a x j = false
 
@@ -36,20 +36,16 @@ takes FirstEnsure k a x j = present (ensured x)
 takes Occupied k a x j = present (called x) && not (ltb j a)
 takes Unstored k a x j = is j (stored x)
 
--- m has the bits that pass the test
-pub record Marks (t : ℕ → Bool) (m : ℕ) : Type 0 where
-  pub same : (j : ℕ) → j < mostStack → eqb (bit m j) 1 ≡ t j
-
--- the effect with these sets; e is the effect of point x
-abbrev pub effectWith : ℕ → ℕ → ℕ → ℕ → ℕ → Effect
+-- the effect with these parts; e is the effect of point x
+abbrev pub effectWith : ℕ → ℕ → Bool → Bool → Bool → Effect
 effectWith a b c d e = record { loaded = a; stored = b; called = c; ensured = d; returned = e }
 
 pub record Does (x : Point) (e : Effect) : Type 0 where
   pub loads : Marks (λ j. is j (loaded x)) (e .loaded)
   pub stores : Marks (λ j. is j (stored x)) (e .stored)
-  pub calls : Marks (λ j. present (called x)) (e .called)
-  pub ensures : Marks (λ j. present (ensured x)) (e .ensured)
-  pub returns : Marks (λ j. isReturn x) (e .returned)
+  pub calls : e .called ≡ present (called x)
+  pub ensures : e .ensured ≡ present (ensured x)
+  pub returns : e .returned ≡ isReturn x
 
 -- the first n entries of l′ are of the kind P, each by its place, and the others are those of l
 pub record Filled (P : ℕ → ℕ → Type 0) (n : ℕ) (l l′ : List ℕ) : Type 0 where
@@ -72,7 +68,7 @@ Blocks n column = (p : ℕ) → p < n → item column p ≤ mostStack
 pub record Answered (problem : Problem) (x : Func) (column sets : List ℕ) : Type 0 where
   pub met : (p j : ℕ)
       → p < size x
-      → j < mostStack
+      → j < setBits
       → (bit (item sets p) j ≡ 1)
       ↔ Met (leads x) (λ q. takes problem (x .frame) (item column q) (point x q) j) (λ q. gives problem (x .frame) (item column q) (point x q) j) p
 

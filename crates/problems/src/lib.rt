@@ -1,48 +1,49 @@
 // The gen/kill problems of one function of the task in the tables, as data: what its points give and take, and the figures within the function,
 // each read off the sets that a kernel finds for one problem. Scratch is lent: an entry for each point of the function.
 ghost use mathlib.Core.Path.{_≡_};
-ghost use mathlib.Core.Bool.{Bool, _&&_};
-ghost use Prim.Native.Nat.{ℕ, suc, _+_, _<_, _≤_};
+ghost use Prim.Native.Nat.{ℕ, suc, _≤_};
 ghost use lib.Dec.{T, eqb};
 ghost use lib.ListN.{length};
 ghost use Rattle.model.specs.declared.Point.{Point as PointOf};
 ghost use Rattle.model.specs.Limits.{mostStack};
+ghost use Rattle.model.specs.Basic.{if_then_else_};
 ghost use Rattle.model.specs.Task.{Task, offsetFits};
 ghost use Rattle.model.specs.Figures as figure;
-ghost use Rattle.bits.specs.Bits.{Lowest, Top};
+ghost use Rattle.bits.specs.Bits.{Marks, Lowest, Top};
 ghost use Rattle.tables.specs.Tables.{item, funcIn};
-ghost use Rattle.tables.specs.Valid.{Fits, Kept};
-ghost use Rattle.backward.specs.Backward.{Given};
-ghost use Rattle.problems.specs.Problems.{gives, takes, Marks, effectWith, Does, Filled, Gives, Takes, Blocks, Answered, Scratch, KeptIn, CutIn, Reached};
+ghost use Rattle.tables.specs.Valid.{Kept};
+ghost use Rattle.flow.specs.Flow.{Given};
+ghost use Rattle.problems.specs.Problems.{gives, takes, effectWith, Does, Filled, Gives, Takes, Blocks, Answered, Scratch, KeptIn, CutIn, Reached};
 use model::Point;
 use tables::Span;
 
-// A problem over sets of 64 bits. specs/Problems.antt says what a point gives and takes.
+// A problem over sets of 64 bits. specs/Problems.antt says what a point gives and takes. The first four go backward from each point, the others
+// forward from point 0. Two have a column, a number for each point.
 pub enum Problem {
     // Offsets that a walk loads with no store of them before.
     Live,
     // Offsets that a walk loads or stores before any ensure.
     Touched,
-    // Returns that a walk comes to with no call before.
+    // A walk comes to a return with no call before: every bit, or none.
     CallFree,
     // What is kept at the first ensures of walks: k blocks are bit k - 1. The column has what is kept at each ensure.
     FirstEnsure,
-    // Occupancy that walks from point 0 bring: k blocks are the bits below k. The column has what the callee of each call leaves.
+    // Occupancy that walks bring: k blocks are the bits below k. The column has what the callee of each call leaves of the cache.
     Occupied,
-    // Offsets that a walk from point 0 has not stored.
+    // Offsets that a walk has not stored; at point 0 those below the frame.
     Unstored,
 }
 
-// What a point does, as sets: the offset that it loads; that it stores; every bit where it is a call, an ensure, a return.
+// What a point does: the offset that it loads and the offset that it stores, as sets; whether it is a call, an ensure, a return.
 struct Effect {
     loaded: u64,
     stored: u64,
-    called: u64,
-    ensured: u64,
-    returned: u64,
+    called: bool,
+    ensured: bool,
+    returned: bool,
 }
 
-fn effect_with(loaded: u64, stored: u64, called: u64, ensured: u64, returned: u64) -> Effect
+fn effect_with(loaded: u64, stored: u64, called: bool, ensured: bool, returned: bool) -> Effect
     ensures { λ r. ⌜ r ≡ effectWith loaded stored called ensured returned ⌝ }
 {
     Effect {
@@ -59,27 +60,27 @@ fn effect_of(x: Point) -> Effect
     ensures { λ r. ⌜ Does x r ⌝ }
 {
     match x {
-        Point::Load(o) => effect_with(bits::single_bit(o), 0, 0, 0, 0),
-        Point::Store(o) => effect_with(0, bits::single_bit(o), 0, 0, 0),
-        Point::Call(_) => effect_with(0, 0, u64::MAX, 0, 0),
-        Point::Ensure(_) => effect_with(0, 0, 0, u64::MAX, 0),
-        Point::Goto(_) => effect_with(0, 0, 0, 0, 0),
-        Point::Either(_, _) => effect_with(0, 0, 0, 0, 0),
-        Point::Return => effect_with(0, 0, 0, 0, u64::MAX),
+        Point::Load(o) => effect_with(bits::single_bit(o), 0, false, false, false),
+        Point::Store(o) => effect_with(0, bits::single_bit(o), false, false, false),
+        Point::Call(_) => effect_with(0, 0, true, false, false),
+        Point::Ensure(_) => effect_with(0, 0, false, true, false),
+        Point::Goto(_) => effect_with(0, 0, false, false, false),
+        Point::Either(_, _) => effect_with(0, 0, false, false, false),
+        Point::Return => effect_with(0, 0, false, false, true),
     }
 }
 
-// The bits of both sets.
-fn common(a: u64, b: u64) -> u64
-    ensures { λ r. ⌜ ((t u : ℕ → Bool) → Marks t a → Marks u b → Marks (λ j. t j && u j) r) ⌝ }
+// The set m where the test holds, and no bit where it fails.
+fn only_if(test: bool, m: u64) -> u64
+    ensures { λ r. ⌜ r ≡ (if test then m else 0) ⌝ }
 {
-    a & b
+    if test { m } else { 0 }
 }
 
 // The set that stands for k blocks kept.
 fn kept_bit(k: u32) -> u64
     requires { ⌜ k ≤ mostStack ⌝ }
-    ensures { λ r. ⌜ Marks (λ j. eqb k (suc j)) r ⌝ }
+    ensures { λ r. ⌜ Marks (λ j. eqb (suc j) k) r ⌝ }
 {
     if k == 0 {
         return 0;
@@ -87,7 +88,7 @@ fn kept_bit(k: u32) -> u64
     bits::single_bit(k - 1)
 }
 
-// What a point with the effect e gives, in a function with this frame, where the column has a for it.
+// What a point with the effect e gives, in a function with this frame, where the column has the number a.
 fn gens_of(problem: Problem, e: Effect, frame: u32, a: u32) -> u64
     requires { ⌜ (frame ≤ mostStack) × (a ≤ mostStack) ⌝ }
     ensures { λ r. ⌜ ((x : PointOf) → Does x e → Marks (gives problem frame a x) r) ⌝ }
@@ -95,24 +96,24 @@ fn gens_of(problem: Problem, e: Effect, frame: u32, a: u32) -> u64
     match problem {
         Problem::Live => e.loaded,
         Problem::Touched => bits::union_of(e.loaded, e.stored),
-        Problem::CallFree => e.returned,
-        Problem::FirstEnsure => common(e.ensured, kept_bit(a)),
-        Problem::Occupied => common(e.ensured, bits::low_bits(frame)),
+        Problem::CallFree => only_if(e.returned, u64::MAX),
+        Problem::FirstEnsure => only_if(e.ensured, kept_bit(a)),
+        Problem::Occupied => only_if(e.ensured, bits::low_bits(frame)),
         Problem::Unstored => 0,
     }
 }
 
-// What it takes.
+// What such a point takes.
 fn kills_of(problem: Problem, e: Effect, a: u32) -> u64
     requires { ⌜ a ≤ mostStack ⌝ }
     ensures { λ r. ⌜ ((x : PointOf) (k : ℕ) → Does x e → Marks (takes problem k a x) r) ⌝ }
 {
     match problem {
         Problem::Live => e.stored,
-        Problem::Touched => e.ensured,
-        Problem::CallFree => e.called,
-        Problem::FirstEnsure => e.ensured,
-        Problem::Occupied => bits::difference_of(e.called, bits::low_bits(a)),
+        Problem::Touched => only_if(e.ensured, u64::MAX),
+        Problem::CallFree => only_if(e.called, u64::MAX),
+        Problem::FirstEnsure => only_if(e.ensured, u64::MAX),
+        Problem::Occupied => only_if(e.called, !bits::low_bits(a)),
         Problem::Unstored => e.stored,
     }
 }
@@ -127,7 +128,7 @@ fn column_at(column: &[u32], p: usize) -> u32
     0
 }
 
-// The gens and kills of the points of a function. A problem that has no column takes any.
+// The gens and kills of the points of a function. A problem without a column is lent an empty one.
 pub fn fill(
     problem: Problem,
     work: &[u32],

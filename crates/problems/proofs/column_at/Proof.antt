@@ -6,8 +6,8 @@ use borrow.Author.Needs.{needs}
 use Rattle.problems.proofs.column_at.Statement.{statement}
 use Rattle.problems.proofs.column_at.Tie as tie
 
-returns-2 : tie.Need-returns-2
-returns-2 c = sym (List·getD-eq-default (c .before .args .column .now) 0 (omega arith))
-
 pub column-at-spec : {M : Type 1} → statement M
-column-at-spec = tie.close (tie.spec (λ c. search needs) (λ c. search needs) (λ c. search needs) returns-2)
+column-at-spec =
+    tie.close
+    (tie.spec
+    (λ c. search needs) (λ c. search needs) (λ c. search needs) (λ c. sym (List·getD-eq-default (c .before .args .column .now) 0 (omega arith))))

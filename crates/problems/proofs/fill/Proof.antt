@@ -18,25 +18,32 @@ abbrev μ-loop : tie.MeasureT-loop
 μ-loop problem work column gens₀ kills₀ base n frame p₀ gens kills p = n - p
 
 effect-of-requires : tie.Need-effect-of-requires Inv-loop μ-loop
-effect-of-requires c κs = rw (c .point-at .ensures) (offsets-fit (c .before .before .before .before .before .before .before .pre .0 .fits) (c .before .before .loop .p) (omega arith))
+effect-of-requires c κs =
+    let b = c .before .before in
+    rw (c .point-at .ensures) (offsets-fit (b .before .before .before .before .before .pre .0 .fits) (b .loop .p) (omega arith))
 
 gens-of-requires : tie.Need-gens-of-requires Inv-loop μ-loop
 gens-of-requires c κs =
-    let s = c .before .before .before .before .before .before .before .before .before .pre in
-    (s .0 .fits .frame, rw (c .column-at .ensures) (s .1 (c .before .before .before .before .loop .p) (omega arith)))
+    let b = c .before .before .before .before in
+    let s = b .before .before .before .before .before .pre in
+    (s .0 .fits .frame, rw (c .column-at .ensures) (s .1 (b .loop .p) (omega arith)))
 
 kills-of-requires : tie.Need-kills-of-requires Inv-loop μ-loop
-kills-of-requires c κs = rw (c .before .column-at .ensures) (c .before .before .before .before .before .before .before .before .before .before .pre .1 (c .before .before .before .before .before .loop .p) (omega arith))
+kills-of-requires c κs =
+    let b = c .before .before .before .before .before in
+    rw (c .before .column-at .ensures) (b .before .before .before .before .before .pre .1 (b .loop .p) (omega arith))
 
 loop-again : tie.Need-loop-again Inv-loop μ-loop
 loop-again c =
-    let l = c .before .before .before .before .before .before .loop in
-    let x = c .before .before .before .before .point-at in
     let a = c .before .before .column-at .ensures in
-    let d = c .before .before .before .effect-of .ensures in (
+    let d = c .before .before .before .effect-of .ensures in
+    let x = c .before .before .before .before .point-at in
+    let l = c .before .before .before .before .before .before .loop in
+    let g = c .before .gens-of in
+    let k = c .kills-of in (
       omega arith,
-      filled-more _ (l .gens) (l .p) (c .before .gens-of .result) (omega arith) (rw (← a, ← x .ensures) (c .before .gens-of .ensures (x .result) d)) (l .inv .1),
-      filled-more _ (l .kills) (l .p) (c .kills-of .result) (omega arith) (rw (← a, ← x .ensures) (c .kills-of .ensures (x .result) _ d)) (l .inv .2),
+      filled-more _ (l .gens) (l .p) (g .result) (omega arith) (rw (← a, ← x .ensures) (g .ensures (x .result) d)) (l .inv .1),
+      filled-more _ (l .kills) (l .p) (k .result) (omega arith) (rw (← a, ← x .ensures) (k .ensures (x .result) _ d)) (l .inv .2),
     )
 
 returns : tie.Need-returns Inv-loop μ-loop
@@ -48,22 +55,6 @@ pub fill-spec : {M : Type 1} → statement M
 fill-spec =
     tie.close
     (tie.spec
-    Inv-loop
-    μ-loop
-    (λ c. (omega arith, filled-none _, filled-none _))
-    (λ c. omega arith)
-    (λ c κs. omega arith)
-    effect-of-requires
-    (λ c κs. tt)
-    gens-of-requires
-    (λ c. omega arith)
-    (λ c. omega arith)
-    kills-of-requires
-    (λ c. omega arith)
-    (λ c. omega arith)
-    (λ c. omega arith)
-    (λ c. omega arith)
-    loop-again
-    (λ c. c .before .loop .inv .1 .kept .size)
-    (λ c. c .before .loop .inv .2 .kept .size)
-    returns)
+    Inv-loop μ-loop (λ c. (omega arith, filled-none _, filled-none _)) (λ c. omega arith) (λ c κs. omega arith) effect-of-requires (λ c κs. tt)
+    gens-of-requires (λ c. omega arith) (λ c. omega arith) kills-of-requires (λ c. omega arith) (λ c. omega arith) (λ c. omega arith)
+    (λ c. omega arith) loop-again (λ c. c .before .loop .inv .1 .kept .size) (λ c. c .before .loop .inv .2 .kept .size) returns)
