@@ -1,3 +1,2 @@
-pub mod Laws
 pub mod List
 pub mod Theory

@@ -1,82 +1,48 @@
-// The forward gen/kill data-flow kernel over the points of one function, with a list of the points still to visit.
+// The forward gen/kill data-flow kernel over the points of one function, with a worklist of the points still to visit.
 ghost use mathlib.Core.Path.{_≡_};
 ghost use Prim.Native.Nat.{_+_, _<_, _≤_};
 ghost use lib.ListN.{length, set};
-ghost use Rattle.model.specs.Task.{Func};
-ghost use Rattle.model.specs.Walk.{leadsFrom, leads};
-ghost use Rattle.bits.specs.Bits.{cleared};
-ghost use Rattle.tables.specs.Tables.{item, function, pointsOf};
+ghost use Rattle.model.specs.Limits.{mostPoints};
+ghost use Rattle.model.specs.Walk.{leads};
+ghost use Rattle.tables.specs.Tables.{item, funcIn};
+ghost use Rattle.tables.specs.Valid.{Kept};
+ghost use Rattle.flow.specs.Flow.{targets};
 ghost use Rattle.forward.specs.Forward.{Given, Solved};
-ghost use Rattle.forward.specs.Worklist.{targets, turned, order, nextAt, transfer, progress, listed, Ended, Ends, Raised, Propagated, Visited, Visits, Listed, Fits, FitsAll, Ready};
-use model::Point;
+ghost use Rattle.forward.specs.Worklist.{progress, added, Ended, Ends, Merged, Propagated, Visited, Visits, Listed, Ready, ReadyAll};
+use flow::Next;
+use model::Limits;
+use tables::Span;
 
-// Where a point leads, in the order in which a set comes there.
-enum Next {
-    Nowhere,
-    To(usize),
-    Fork(usize, usize),
+// The state of a point: no walk has come to it; one has; one has, and the point is in the worklist.
+struct State;
+
+impl State {
+    const UNSEEN: u8 = 0;
+
+    const SEEN: u8 = 1;
+
+    const WAITING: u8 = 2;
 }
 
-// The last point of the list, and its set.
+// The last point of the worklist, and its set.
 struct Last {
     point: usize,
     set: u64,
 }
 
-// The length of the list, and its last point where it has one.
+// The length of the worklist, and its last point where it has one.
 struct End {
     count: usize,
     last: Last,
 }
 
-fn next_of(p: usize, x: Point) -> Next
-    requires { ⌜ p < 1024 ⌝ }
-    ensures { λ r. ⌜ targets r ≡ turned (leadsFrom p x) ⌝ }
+// The worklist is a stack of bytes: a point is put at its end and taken from its end.
+fn put(worklist: &mut [u8], count: usize, q: usize) -> usize
+    requires { ⌜ (count < length (now worklist)) × (q < mostPoints) ⌝ }
+    ensures { λ r. ⌜ (r ≡ count + 1) × (now (worklist .exit) ≡ set (now (worklist .entry)) count q) ⌝ }
 {
-    match x {
-        Point::Load(_) => Next::To(p + 1),
-        Point::Store(_) => Next::To(p + 1),
-        Point::Call(_) => Next::To(p + 1),
-        Point::Ensure(_) => Next::To(p + 1),
-        Point::Goto(q) => Next::To(q as usize),
-        Point::Either(q, r) => Next::Fork(r as usize, q as usize),
-        Point::Return => Next::Nowhere,
-    }
-}
-
-// Where point p of the function at base leads. A load or a store is told by one comparison, which is quicker than the choice of next_of.
-fn next_at(work: &[u32], base: usize, p: usize) -> Next
-    requires { ⌜ (base + p < 1024) × (3264 ≤ length (now work)) ⌝ }
-    ensures { λ r. ⌜ targets r ≡ nextAt (now (work .entry)) base p ⌝ }
-{
-    let i = base + p;
-    if tables::access_at(work, i) {
-        return Next::To(p + 1);
-    }
-    next_of(p, tables::point_at(work, i))
-}
-
-// What leaves a point with this set.
-fn transfer_of(set: u64, kills: u64, gens: u64) -> u64
-    ensures { λ r. ⌜ r ≡ transfer set kills gens ⌝ }
-{
-    bits::union_of(bits::difference_of(set, kills), gens)
-}
-
-// The list is a stack of bytes: a point is put at its end and taken from its end.
-fn put(todo: &mut [u8], count: usize, q: usize) -> usize
-    requires { ⌜ (count < length (now todo)) × (q < 256) ⌝ }
-    ensures { λ r. ⌜ (r ≡ count + 1) × (now (todo .exit) ≡ set (now (todo .entry)) count q) ⌝ }
-{
-    todo[count] = q as u8;
+    worklist[count] = q as u8;
     count + 1
-}
-
-fn take_at(todo: &[u8], last: usize) -> usize
-    requires { ⌜ last < length (now todo) ⌝ }
-    ensures { λ r. ⌜ r ≡ item (now (todo .entry)) last ⌝ }
-{
-    wide(todo[last])
 }
 
 fn wide(x: u8) -> usize
@@ -85,220 +51,225 @@ fn wide(x: u8) -> usize
     x as usize
 }
 
-// The last point of the list, where it has one.
-fn last_of(sets: &[u64], todo: &[u8], count: usize) -> Last
-    requires { ⌜ Ended (now sets) (now todo) count ⌝ }
-    ensures { λ r. ⌜ Ends (now (sets .entry)) (now (todo .entry)) count r ⌝ }
+fn take_at(worklist: &[u8], last: usize) -> usize
+    requires { ⌜ last < length (now worklist) ⌝ }
+    ensures { λ r. ⌜ r ≡ item (now (worklist .entry)) last ⌝ }
+{
+    wide(worklist[last])
+}
+
+// The last point of the worklist, where it has one.
+fn last_of(sets: &[u64], worklist: &[u8], count: usize) -> Last
+    requires { ⌜ Ended (now sets) (now worklist) count ⌝ }
+    ensures { λ r. ⌜ Ends (now (sets .entry)) (now (worklist .entry)) count r ⌝ }
 {
     if count == 0 {
         return Last { point: 0, set: 0 };
     }
-    let p = take_at(todo, count - 1);
+    let p = take_at(worklist, count - 1);
     Last {
         point: p,
         set: sets[p],
     }
 }
 
-// The same after a step: it is at, with no load, where the list has grown.
-fn last_after(sets: &[u64], todo: &[u8], before: usize, count: usize, at: Last) -> Last
-    requires { ⌜ Ended (now sets) (now todo) count × (before < count → Ends (now sets) (now todo) count at) ⌝ }
-    ensures { λ r. ⌜ Ends (now (sets .entry)) (now (todo .entry)) count r ⌝ }
+// The same after a step: it is at, with no load, where the worklist has grown.
+fn last_after(sets: &[u64], worklist: &[u8], before: usize, count: usize, at: Last) -> Last
+    requires { ⌜ Ended (now sets) (now worklist) count × (before < count → Ends (now sets) (now worklist) count at) ⌝ }
+    ensures { λ r. ⌜ Ends (now (sets .entry)) (now (worklist .entry)) count r ⌝ }
 {
     if before < count {
         return at;
     }
-    last_of(sets, todo, count)
+    last_of(sets, worklist, count)
 }
 
-// Point q gets the set m and goes into the list.
+// Point q gets the set m and goes into the worklist.
 fn add_to_list(
     sets: &mut [u64],
     state: &mut [u8],
-    todo: &mut [u8],
+    worklist: &mut [u8],
     count: usize,
     q: usize,
     m: u64,
 ) -> usize
-    requires { ⌜ (q < length (now sets)) × (q < length (now state)) × (q < 256) × (count < length (now todo)) ⌝ }
-    ensures { λ r. ⌜ progress (now (sets .exit)) (now (state .exit)) (now (todo .exit)) r
-        ≡ listed q m (progress (now (sets .entry)) (now (state .entry)) (now (todo .entry)) count) ⌝ }
+    requires { ⌜ (q < length (now sets)) × (q < length (now state)) × (q < mostPoints) × (count < length (now worklist)) ⌝ }
+    ensures { λ r. ⌜ progress (now (sets .exit)) (now (state .exit)) (now (worklist .exit)) r
+        ≡ added q m (progress (now (sets .entry)) (now (state .entry)) (now (worklist .entry)) count) ⌝ }
 {
     sets[q] = m;
-    state[q] = 2;
-    put(todo, count, q)
+    state[q] = State::WAITING;
+    put(worklist, count, q)
 }
 
-// The set m comes to point q.
-fn raise(
+// The set m is merged into that of point q.
+fn merge(
     sets: &mut [u64],
     state: &mut [u8],
-    todo: &mut [u8],
+    worklist: &mut [u8],
     count: usize,
     q: usize,
     m: u64,
 ) -> usize
-    requires { ⌜ Fits q (progress (now sets) (now state) (now todo) count) ⌝ }
-    ensures { λ r. ⌜ Raised q m (progress (now (sets .entry)) (now (state .entry)) (now (todo .entry)) count)
-        (progress (now (sets .exit)) (now (state .exit)) (now (todo .exit)) r) ⌝ }
+    requires { ⌜ Ready q (progress (now sets) (now state) (now worklist) count) ⌝ }
+    ensures { λ r. ⌜ Merged q m (progress (now (sets .entry)) (now (state .entry)) (now (worklist .entry)) count)
+        (progress (now (sets .exit)) (now (state .exit)) (now (worklist .exit)) r) ⌝ }
 {
     let s = state[q];
     let old = sets[q];
     let new = bits::union_of(old, m);
-    if s == 0 {
-        return add_to_list(sets, state, todo, count, q, new);
+    if s == State::UNSEEN {
+        return add_to_list(sets, state, worklist, count, q, new);
     }
     if new == old {
         return count;
     }
-    if s == 2 {
+    if s == State::WAITING {
         sets[q] = new;
         return count;
     }
-    add_to_list(sets, state, todo, count, q, new)
+    add_to_list(sets, state, worklist, count, q, new)
 }
 
-// The set m comes to each point that is next.
+// The same, with the end of the worklist.
+fn merge_last(
+    sets: &mut [u64],
+    state: &mut [u8],
+    worklist: &mut [u8],
+    count: usize,
+    q: usize,
+    m: u64,
+) -> End
+    requires { ⌜ Ready q (progress (now sets) (now state) (now worklist) count) ⌝ }
+    ensures { λ r. ⌜ Merged q m (progress (now (sets .entry)) (now (state .entry)) (now (worklist .entry)) count)
+        (progress (now (sets .exit)) (now (state .exit)) (now (worklist .exit)) (r .count))
+        × Ends (now (sets .exit)) (now (worklist .exit)) (r .count) (r .last) ⌝ }
+{
+    let set = bits::union_of(sets[q], m);
+    let more = merge(sets, state, worklist, count, q, m);
+    End {
+        count: more,
+        last: last_after(sets, worklist, count, more, Last { point: q, set }),
+    }
+}
+
+// The set m is merged into that of each point that is next, the first of two last, so that it is visited first.
 fn propagate(
     next: Next,
     m: u64,
     sets: &mut [u64],
     state: &mut [u8],
-    todo: &mut [u8],
+    worklist: &mut [u8],
     count: usize,
 ) -> End
-    requires { ⌜ FitsAll (targets next) (progress (now sets) (now state) (now todo) count) ⌝ }
-    ensures { λ r. ⌜ Propagated m (targets next) (progress (now (sets .entry)) (now (state .entry)) (now (todo .entry)) count)
-        (progress (now (sets .exit)) (now (state .exit)) (now (todo .exit)) (r .count))
-        × Ends (now (sets .exit)) (now (todo .exit)) (r .count) (r .last) ⌝ }
+    requires { ⌜ ReadyAll (targets next) (progress (now sets) (now state) (now worklist) count) ⌝ }
+    ensures { λ r. ⌜ Propagated m (targets next) (progress (now (sets .entry)) (now (state .entry)) (now (worklist .entry)) count)
+        (progress (now (sets .exit)) (now (state .exit)) (now (worklist .exit)) (r .count))
+        × Ends (now (sets .exit)) (now (worklist .exit)) (r .count) (r .last) ⌝ }
 {
     match next {
         Next::Nowhere => End {
             count,
-            last: last_of(sets, todo, count),
+            last: last_of(sets, worklist, count),
         },
-        Next::To(q) => {
-            let set = bits::union_of(sets[q], m);
-            let more = raise(sets, state, todo, count, q, m);
-            End {
-                count: more,
-                last: last_after(sets, todo, count, more, Last { point: q, set }),
-            }
-        }
+        Next::To(q) => merge_last(sets, state, worklist, count, q, m),
         Next::Fork(q, r) => {
-            let some = raise(sets, state, todo, count, q, m);
-            let set = bits::union_of(sets[r], m);
-            let more = raise(sets, state, todo, some, r, m);
-            End {
-                count: more,
-                last: last_after(sets, todo, some, more, Last { point: r, set }),
-            }
+            let more = merge(sets, state, worklist, count, r, m);
+            merge_last(sets, state, worklist, more, q, m)
         }
     }
 }
 
-// The last point of the list is taken, and what leaves it comes to the points that are next.
+// The last point of the worklist is taken, and what leaves it is merged into the points that are next.
 fn visit(
     work: &[u32],
-    base: usize,
+    s: Span,
     gens: &[u64],
     kills: &[u64],
     sets: &mut [u64],
     state: &mut [u8],
-    todo: &mut [u8],
+    worklist: &mut [u8],
     count: usize,
     at: Last,
 ) -> End
-    requires { ⌜ Ready (now work) base (now gens) (now kills) (progress (now sets) (now state) (now todo) count)
-        × Ends (now sets) (now todo) count at ⌝ }
-    ensures { λ r. ⌜ Visited (nextAt (now (work .entry)) base) (now (gens .entry)) (now (kills .entry))
-        (progress (now (sets .entry)) (now (state .entry)) (now (todo .entry)) count)
-        (progress (now (sets .exit)) (now (state .exit)) (now (todo .exit)) (r .count))
-        × Ends (now (sets .exit)) (now (todo .exit)) (r .count) (r .last) ⌝ }
+    requires { ⌜ Given (now work) s (now gens) (now kills) × Listed (s .size) (progress (now sets) (now state) (now worklist) count)
+        × (0 < count) × Ends (now sets) (now worklist) count at ⌝ }
+    ensures { λ r. ⌜ Visited (leads (funcIn (now (work .entry)) s)) (now (gens .entry)) (now (kills .entry))
+        (progress (now (sets .entry)) (now (state .entry)) (now (worklist .entry)) count)
+        (progress (now (sets .exit)) (now (state .exit)) (now (worklist .exit)) (r .count))
+        × Ends (now (sets .exit)) (now (worklist .exit)) (r .count) (r .last) ⌝ }
 {
     let left = count - 1;
     let p = at.point;
-    state[p] = 1;
-    let m = transfer_of(at.set, kills[p], gens[p]);
-    propagate(next_at(work, base, p), m, sets, state, todo, left)
+    state[p] = State::SEEN;
+    let m = bits::transfer_of(at.set, kills[p], gens[p]);
+    propagate(flow::next_at(work, s, p), m, sets, state, worklist, left)
 }
 
-// Points are visited until the list is empty.
+// Points are visited until the worklist is empty.
 fn drain(
     work: &[u32],
-    base: usize,
-    n: usize,
+    s: Span,
     gens: &[u64],
     kills: &[u64],
     sets: &mut [u64],
     state: &mut [u8],
-    todo: &mut [u8],
+    worklist: &mut [u8],
     first: usize,
 )
-    requires { ⌜ Given n (now work) base (now gens) (now kills) × Listed n (progress (now sets) (now state) (now todo) first) ⌝ }
-    ensures { λ r. ⌜ Visits (order (function (now (work .entry)) base n)) (now (gens .entry)) (now (kills .entry))
-        (progress (now (sets .entry)) (now (state .entry)) (now (todo .entry)) first)
-        (progress (now (sets .exit)) (now (state .exit)) (now (todo .exit)) 0) ⌝ }
+    requires { ⌜ Given (now work) s (now gens) (now kills) × Listed (s .size) (progress (now sets) (now state) (now worklist) first) ⌝ }
+    ensures { λ r. ⌜ Visits (leads (funcIn (now (work .entry)) s)) (now (gens .entry)) (now (kills .entry))
+        (progress (now (sets .entry)) (now (state .entry)) (now (worklist .entry)) first)
+        (progress (now (sets .exit)) (now (state .exit)) (now (worklist .exit)) 0) ⌝ }
 {
     let mut count = first;
-    let mut at = last_of(sets, todo, first);
+    let mut at = last_of(sets, worklist, first);
     while count > 0 {
-        let end = visit(work, base, gens, kills, sets, state, todo, count, at);
+        let end = visit(work, s, gens, kills, sets, state, worklist, count, at);
         count = end.count;
         at = end.last;
-    }
-}
-
-// The first n marks are cleared.
-fn clear_state(state: &mut [u8], n: usize)
-    requires { ⌜ n ≤ length (now state) ⌝ }
-    ensures { λ r. ⌜ now (state .exit) ≡ cleared n (now (state .entry)) ⌝ }
-{
-    let mut i = 0;
-    while i < n {
-        state[i] = 0;
-        i += 1;
     }
 }
 
 // The tables are cleared, and the visits start at point 0 with the set entry.
 fn solve(
     work: &[u32],
-    base: usize,
-    n: usize,
+    s: Span,
     entry: u64,
     gens: &[u64],
     kills: &[u64],
     sets: &mut [u64],
     state: &mut [u8],
-    todo: &mut [u8],
+    worklist: &mut [u8],
 )
-    requires { ⌜ Given n (now work) base (now gens) (now kills) × (n ≤ length (now sets)) × (n ≤ length (now state)) × (n ≤ length (now todo)) ⌝ }
-    ensures { λ r. ⌜ Solved (leads (function (now (work .entry)) base n)) n entry (now (gens .entry)) (now (kills .entry))
-        (now (sets .exit)) (now (state .exit)) ⌝ }
+    requires { ⌜ Given (now work) s (now gens) (now kills) × (s .size ≤ length (now sets)) × (s .size ≤ length (now state))
+        × (s .size ≤ length (now worklist)) ⌝ }
+    ensures { λ r. ⌜ Solved (leads (funcIn (now (work .entry)) s)) (s .size) entry (now (gens .entry)) (now (kills .entry))
+        (now (sets .exit)) (now (state .exit))
+        × Kept (s .size) (now (sets .entry)) (now (sets .exit)) × Kept (s .size) (now (state .entry)) (now (state .exit)) ⌝ }
 {
-    bits::clear_sets(sets, n);
-    clear_state(state, n);
-    let count = add_to_list(sets, state, todo, 0, 0, entry);
-    drain(work, base, n, gens, kills, sets, state, todo, count);
+    bits::clear_sets(sets, s.size);
+    bits::clear_marks(state, s.size);
+    let count = add_to_list(sets, state, worklist, 0, 0, entry);
+    drain(work, s, gens, kills, sets, state, worklist, count);
 }
 
-// For the n points of work from base on: which of them a walk from point 0 reaches, and which bits such walks carry to each. The first n
-// entries of sets and state are the answer, whatever they held.
+// For the points of a function: which of them a walk from point 0 reaches, and which bits such walks carry to each. The first entries of sets
+// and state are the answer, whatever they held; the others stay.
 pub fn forward(
     work: &[u32],
-    base: usize,
-    n: usize,
+    s: Span,
     entry: u64,
     gens: &[u64],
     kills: &[u64],
     sets: &mut [u64],
     state: &mut [u8],
 )
-    requires { ⌜ Given n (now work) base (now gens) (now kills) × (n ≤ length (now sets)) × (n ≤ length (now state)) ⌝ }
-    ensures { λ r. ⌜ ((x : Func) → x .points ≡ pointsOf (now (work .entry)) base n
-        → Solved (leads x) n entry (now (gens .entry)) (now (kills .entry)) (now (sets .exit)) (now (state .exit))) ⌝ }
+    requires { ⌜ Given (now work) s (now gens) (now kills) × (s .size ≤ length (now sets)) × (s .size ≤ length (now state)) ⌝ }
+    ensures { λ r. ⌜ Solved (leads (funcIn (now (work .entry)) s)) (s .size) entry (now (gens .entry)) (now (kills .entry))
+        (now (sets .exit)) (now (state .exit))
+        × Kept (s .size) (now (sets .entry)) (now (sets .exit)) × Kept (s .size) (now (state .entry)) (now (state .exit)) ⌝ }
 {
-    let mut todo = [0u8; 256];
-    solve(work, base, n, entry, gens, kills, sets, state, &mut todo);
+    let mut worklist = [0u8; Limits::POINTS];
+    solve(work, s, entry, gens, kills, sets, state, &mut worklist);
 }

@@ -1,44 +1,21 @@
--- Every visit costs, and leaves the list right.
+-- Every visit costs, and leaves the worklist right.
 use native.Mathlib.Omega.{arith}
-use Rattle.forward.specs.Worklist.{progress, Ends}
-use Rattle.forward.proofs.List.{cost, listed-ended, Draining, draining-none, draining-ready, draining-less, draining-more, drained}
+use mathlib.Core.Path.{_≡_}
+use Rattle.model.specs.Walk.{leads}
+use Rattle.tables.specs.Tables.{funcIn}
+use Rattle.forward.specs.Worklist.{progress, Ends, Visits}
+use Rattle.forward.proofs.List.{cost, listed-ended, onward-visited, onward-visits}
 use Rattle.forward.proofs.drain.Statement.{statement}
 use Rattle.forward.proofs.drain.Tie as tie
 
 abbrev Inv-loop : tie.InvT-loop
-Inv-loop work base n gens kills sets₀ state₀ todo₀ first count₀ at₀ sets state todo count at =
-    Draining work base n gens kills (progress sets₀ state₀ todo₀ first) (progress sets state todo count)
-    × Ends sets todo count at
+Inv-loop work s gens kills sets₀ state₀ worklist₀ first count₀ at₀ sets state worklist count at =
+    Visits (leads (funcIn work s)) gens kills (progress sets₀ state₀ worklist₀ first) (progress sets state worklist count)
+    × Ends sets worklist count at
 
 abbrev μ-loop : tie.MeasureT-loop
-μ-loop work base n gens kills sets₀ state₀ todo₀ first count₀ at₀ sets state todo count at =
-    cost n (progress sets state todo count)
-
-last-of-requires : tie.Need-last-of-requires Inv-loop μ-loop
-last-of-requires c κs = listed-ended _ _ (c .before .before .before .before .before .before .before .before .pre .1)
-
-loop-holds : tie.Need-loop-holds Inv-loop μ-loop
-loop-holds c =
-    let s = c .before .before .before .before .before .before .before .before .before in
-    (draining-none _ _ _ _ _ _ (s .pre .0) (s .pre .1), c .last-of .ensures)
-
-visit-requires : tie.Need-visit-requires Inv-loop μ-loop
-visit-requires c κs =
-    let i = c .before .before .before .before .loop .inv in
-    (draining-ready _ _ _ _ _ _ _ (i .0) (c .before .before .before .loop-test .taken), i .1)
-
-loop-less : tie.Need-loop-less Inv-loop μ-loop
-loop-less c =
-    draining-less _ _ _ _ _ _ _ (c .before .before .before .before .before .before .before .before .before .before .before .before .loop .inv .0) (c .before .before .before .before .before .before .before .before .before .before .before .loop-test .taken) _ (c .before .before .before .before .before .before .before .visit .ensures .0)
-
-loop-again : tie.Need-loop-again Inv-loop μ-loop
-loop-again c =
-    let v = c .before .before .before .before .before .before .before .visit in
-    let k = v .kept in
-    (draining-more _ _ _ _ _ _ _ (c .before .before .before .before .before .before .before .before .before .before .before .before .loop .inv .0) (c .before .before .before .before .before .before .before .before .before .before .before .loop-test .taken) _ (v .ensures .0) (k .1 .1 .1 .1 .0) (k .1 .1 .1 .1 .1 .0) (k .1 .1 .1 .1 .1 .1 .0), v .ensures .1)
-
-returns : tie.Need-returns Inv-loop μ-loop
-returns c = drained _ _ _ _ _ _ _ (c .before .loop .inv .0) (omega arith)
+μ-loop work s gens kills sets₀ state₀ worklist₀ first count₀ at₀ sets state worklist count at =
+    cost (s .size) (progress sets state worklist count)
 
 pub drain-spec : {M : Type 1} → statement M
 drain-spec =
@@ -46,12 +23,18 @@ drain-spec =
     (tie.spec
     Inv-loop
     μ-loop
-    last-of-requires
-    loop-holds
-    visit-requires
-    loop-less
-    loop-again
-    (λ c. c .before .loop .inv .0 .same-sets)
-    (λ c. c .before .loop .inv .0 .same-state)
-    (λ c. c .before .loop .inv .0 .same-todo)
-    returns)
+    (λ c κs. listed-ended (c .before .before .before .before .before .before .before .before .pre .1))
+    (λ c. (Visits.none, c .last-of .ensures))
+    (λ c κs.
+    let p = c .before .before .before .before .before .before .before .before .before .before .before .before .before .before .pre in
+    let i = c .before .before .before .before .loop .inv in
+    (p .0, onward-visits (p .0 .fits .inside) (p .1) (i .0) .list, omega arith, i .1))
+    (λ c.
+    let p = c .before .before .before .before .before .before .before .before .before .before .before .before .before .before .before .before .before .before .before .before .before .before .pre in
+    let o = onward-visits (p .0 .fits .inside) (p .1) (c .before .before .before .before .before .before .before .before .before .before .before .before .loop .inv .0) in
+    onward-visited (p .0 .fits .inside) (o .list) (c .before .before .before .before .before .before .before .before .before .before .before .loop-test .taken) (c .before .before .before .before .before .before .before .visit .ensures .0) .1)
+    (λ c. let r = c .before .before .before .before .before .before .before .visit .ensures in (Visits.more (c .before .before .before .before .before .before .before .before .before .before .before .before .loop .inv .0) (c .before .before .before .before .before .before .before .before .before .before .before .loop-test .taken) (r .0), r .1))
+    (λ c. onward-visits (c .before .before .before .before .before .before .before .before .before .before .before .pre .0 .fits .inside) (c .before .before .before .before .before .before .before .before .before .before .before .pre .1) (c .before .loop .inv .0) .sets-kept .size)
+    (λ c. onward-visits (c .before .before .before .before .before .before .before .before .before .before .before .pre .0 .fits .inside) (c .before .before .before .before .before .before .before .before .before .before .before .pre .1) (c .before .loop .inv .0) .state-kept .size)
+    (λ c. onward-visits (c .before .before .before .before .before .before .before .before .before .before .before .pre .0 .fits .inside) (c .before .before .before .before .before .before .before .before .before .before .before .pre .1) (c .before .loop .inv .0) .list-same)
+    (λ c. let e : c .before .loop .count ≡ 0 = omega arith in rw e at (c .before .loop .inv .0)))

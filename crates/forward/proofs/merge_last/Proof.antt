@@ -1,0 +1,16 @@
+-- A merge, and the end of the worklist after it.
+use borrow.Author.Needs.{needs}
+use Rattle.forward.proofs.List.{merged-ends}
+use Rattle.forward.proofs.merge_last.Statement.{statement}
+use Rattle.forward.proofs.merge_last.Tie as tie
+
+pub merge-last-spec : {M : Type 1} → statement M
+merge-last-spec =
+    tie.close
+    (tie.spec
+    (λ c. search needs) (λ c. search needs)
+    (λ c κs. search needs)
+    (λ c κs. search needs)
+    (λ c κs. merged-ends (c .before .before .before .before .before .before .before .before .before .before .before .before .before .before .before .before .before .pre) (c .before .before .before .before .before .before .before .before .before .before .before .before .union-of .ensures) (c .before .before .before .before .before .before .before .before .merge .ensures))
+    (λ c. search needs) (λ c. search needs) (λ c. search needs)
+    (λ c. search needs))
