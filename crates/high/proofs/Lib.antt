@@ -1,2 +1,0 @@
-pub mod Theory
-pub mod Laws

@@ -1,0 +1,95 @@
+-- The gen/kill problems as data: what each point gives and takes; and what the functions of this crate are given and do.
+use Prim.Native.Nat.{ℕ, suc, _+_, _-_, _≤_, _<_, min}
+use mathlib.Core.Bool.{Bool, false, not, _&&_, _||_}
+use mathlib.Core.List.{List}
+use mathlib.Core.Logic.{_↔_}
+use mathlib.Core.Option.{some}
+use mathlib.Core.Path.{_≡_}
+use lib.Dec.{T, eqb, ltb}
+use Rattle.model.specs.declared.Point.{Point}
+use Rattle.model.specs.Limits.{mostStack}
+use Rattle.model.specs.Task.{Func, Task, size, func, point}
+use Rattle.model.specs.Walk.{Met, leads, loaded, stored, called, ensured, isReturn, is, present, isEnsure}
+use Rattle.model.specs.Figures as figure
+use Rattle.bits.specs.Bits.{setBits, bit, Marks}
+use Rattle.tables.specs.declared.Span.{Span}
+use Rattle.tables.specs.Tables.{item, pointAt, funcIn}
+use Rattle.tables.specs.Valid.{Kept}
+use Rattle.problems.specs.declared.Problem.{Problem}
+use Rattle.problems.specs.declared.Problem.the-variants.{Live, Touched, CallFree, FirstEnsure, Occupied, Unstored}
+use Rattle.problems.specs.declared.Effect.{Effect}
+
+-- bit j is given, and bit j is taken, at point x of a function with frame k, where the column of the problem has the number a for the point
+abbrev pub gives : Problem → ℕ → ℕ → Point → ℕ → Bool
+gives Live k a x j = is j (loaded x)
+gives Touched k a x j = is j (loaded x) || is j (stored x)
+gives CallFree k a x j = isReturn x
+gives FirstEnsure k a x j = present (ensured x) && eqb (suc j) a
+gives Occupied k a x j = present (ensured x) && ltb j k
+gives Unstored k a x j = false
+
+abbrev pub takes : Problem → ℕ → ℕ → Point → ℕ → Bool
+takes Live k a x j = is j (stored x)
+takes Touched k a x j = present (ensured x)
+takes CallFree k a x j = present (called x)
+takes FirstEnsure k a x j = present (ensured x)
+takes Occupied k a x j = present (called x) && not (ltb j a)
+takes Unstored k a x j = is j (stored x)
+
+-- the effect with these parts; e is the effect of point x
+abbrev pub effectWith : ℕ → ℕ → Bool → Bool → Bool → Effect
+effectWith a b c d e = record { loaded = a; stored = b; called = c; ensured = d; returned = e }
+
+pub record Does (x : Point) (e : Effect) : Type 0 where
+  pub loads : Marks (λ j. is j (loaded x)) (e .loaded)
+  pub stores : Marks (λ j. is j (stored x)) (e .stored)
+  pub calls : e .called ≡ present (called x)
+  pub ensures : e .ensured ≡ present (ensured x)
+  pub returns : e .returned ≡ isReturn x
+
+-- the first n entries of l′ are of the kind P, each by its place, and the others are those of l
+pub record Filled (P : ℕ → ℕ → Type 0) (n : ℕ) (l l′ : List ℕ) : Type 0 where
+  pub each : (p : ℕ) → p < n → P p (item l′ p)
+  pub kept : Kept n l l′
+
+-- m is what point p of a function gives, and what it takes
+abbrev pub Gives : Problem → List ℕ → Span → List ℕ → ℕ → ℕ → Type 0
+Gives problem w s column p m = Marks (gives problem (s .frame) (item column p) (pointAt w (s .base + p))) m
+
+abbrev pub Takes : Problem → List ℕ → Span → List ℕ → ℕ → ℕ → Type 0
+Takes problem w s column p m = Marks (takes problem (s .frame) (item column p) (pointAt w (s .base + p))) m
+
+-- the first n numbers of a column are numbers of blocks; past its end a column has 0
+abbrev pub Blocks : ℕ → List ℕ → Type 0
+Blocks n column = (p : ℕ) → p < n → item column p ≤ mostStack
+
+-- the sets of the points of x have what its walks meet: bit j where some walk from the point meets one that gives j, with none before it that
+-- takes j
+pub record Answered (problem : Problem) (x : Func) (column sets : List ℕ) : Type 0 where
+  pub met : (p j : ℕ)
+      → p < size x
+      → j < setBits
+      → (bit (item sets p) j ≡ 1)
+      ↔ Met (leads x) (λ q. takes problem (x .frame) (item column q) (point x q) j) (λ q. gives problem (x .frame) (item column q) (point x q) j) p
+
+-- of the scratch that a figure is lent, only the first n entries have changed
+pub record Scratch (n : ℕ) (gens gens′ kills kills′ sets sets′ : List ℕ) : Type 0 where
+  pub of-gens : Kept n gens gens′
+  pub of-kills : Kept n kills kills′
+  pub of-sets : Kept n sets sets′
+
+-- function g of the task t is the function s of the tables w, and the column has what is kept at each of its ensures
+pub record KeptIn (w : List ℕ) (s : Span) (column : List ℕ) (t : Task) (g : ℕ) : Type 0 where
+  pub same : func t g ≡ funcIn w s
+  pub at-ensures : (p : ℕ) → p < s .size → T (isEnsure (funcIn w s) p) → item column p ≡ figure.kept t g p
+
+-- function g of the task t is the function s of the tables w; called at an occupancy of at most e it starts with the value start, and the
+-- column has for each call what its callee leaves of the cache
+pub record CutIn (w : List ℕ) (s : Span) (start : ℕ) (column : List ℕ) (t : Task) (g e : ℕ) : Type 0 where
+  pub same : func t g ≡ funcIn w s
+  pub first : start ≡ min (t .stack) (e + s .frame)
+  pub at-calls : (p h : ℕ) → p < s .size → called (point (funcIn w s) p) ≡ some h → item column p ≡ t .stack - figure.shortest t h
+
+-- a walk reaches each point of the function s of the tables w
+abbrev pub Reached : List ℕ → Span → Type 0
+Reached w s = (p : ℕ) → p < s .size → T (figure.reached (funcIn w s) p)

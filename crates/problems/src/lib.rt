@@ -1,0 +1,291 @@
+// The gen/kill problems of one function of the task in the tables, as data: what its points give and take, and the figures within the function,
+// each read off the sets that a kernel finds for one problem. Scratch is lent: an entry for each point of the function.
+ghost use mathlib.Core.Path.{_≡_};
+ghost use Prim.Native.Nat.{ℕ, suc, _≤_};
+ghost use lib.Dec.{T, eqb};
+ghost use lib.ListN.{length};
+ghost use Rattle.model.specs.declared.Point.{Point as PointOf};
+ghost use Rattle.model.specs.Limits.{mostStack};
+ghost use Rattle.model.specs.Basic.{if_then_else_};
+ghost use Rattle.model.specs.Task.{Task, offsetFits};
+ghost use Rattle.model.specs.Figures as figure;
+ghost use Rattle.bits.specs.Bits.{Marks, Lowest, Top};
+ghost use Rattle.tables.specs.Tables.{item, funcIn};
+ghost use Rattle.tables.specs.Valid.{Kept};
+ghost use Rattle.flow.specs.Flow.{Given};
+ghost use Rattle.problems.specs.Problems.{gives, takes, effectWith, Does, Filled, Gives, Takes, Blocks, Answered, Scratch, KeptIn, CutIn, Reached};
+use model::Point;
+use tables::Span;
+
+// A problem over sets of 64 bits. specs/Problems.antt says what a point gives and takes. The first four go backward from each point, the others
+// forward from point 0. Two have a column, a number for each point.
+pub enum Problem {
+    // Offsets that a walk loads with no store of them before.
+    Live,
+    // Offsets that a walk loads or stores before any ensure.
+    Touched,
+    // A walk comes to a return with no call before: every bit, or none.
+    CallFree,
+    // What is kept at the first ensures of walks: k blocks are bit k - 1. The column has what is kept at each ensure.
+    FirstEnsure,
+    // Occupancy that walks bring: k blocks are the bits below k. The column has what the callee of each call leaves of the cache.
+    Occupied,
+    // Offsets that a walk has not stored; at point 0 those below the frame.
+    Unstored,
+}
+
+// What a point does: the offset that it loads and the offset that it stores, as sets; whether it is a call, an ensure, a return.
+struct Effect {
+    loaded: u64,
+    stored: u64,
+    called: bool,
+    ensured: bool,
+    returned: bool,
+}
+
+fn effect_with(loaded: u64, stored: u64, called: bool, ensured: bool, returned: bool) -> Effect
+    ensures { λ r. ⌜ r ≡ effectWith loaded stored called ensured returned ⌝ }
+{
+    Effect {
+        loaded,
+        stored,
+        called,
+        ensured,
+        returned,
+    }
+}
+
+fn effect_of(x: Point) -> Effect
+    requires { ⌜ T (offsetFits mostStack x) ⌝ }
+    ensures { λ r. ⌜ Does x r ⌝ }
+{
+    match x {
+        Point::Load(o) => effect_with(bits::single_bit(o), 0, false, false, false),
+        Point::Store(o) => effect_with(0, bits::single_bit(o), false, false, false),
+        Point::Call(_) => effect_with(0, 0, true, false, false),
+        Point::Ensure(_) => effect_with(0, 0, false, true, false),
+        Point::Goto(_) => effect_with(0, 0, false, false, false),
+        Point::Either(_, _) => effect_with(0, 0, false, false, false),
+        Point::Return => effect_with(0, 0, false, false, true),
+    }
+}
+
+// The set m where the test holds, and no bit where it fails.
+fn only_if(test: bool, m: u64) -> u64
+    ensures { λ r. ⌜ r ≡ (if test then m else 0) ⌝ }
+{
+    if test { m } else { 0 }
+}
+
+// The set that stands for k blocks kept.
+fn kept_bit(k: u32) -> u64
+    requires { ⌜ k ≤ mostStack ⌝ }
+    ensures { λ r. ⌜ Marks (λ j. eqb (suc j) k) r ⌝ }
+{
+    if k == 0 {
+        return 0;
+    }
+    bits::single_bit(k - 1)
+}
+
+// What a point with the effect e gives, in a function with this frame, where the column has the number a.
+fn gens_of(problem: Problem, e: Effect, frame: u32, a: u32) -> u64
+    requires { ⌜ (frame ≤ mostStack) × (a ≤ mostStack) ⌝ }
+    ensures { λ r. ⌜ ((x : PointOf) → Does x e → Marks (gives problem frame a x) r) ⌝ }
+{
+    match problem {
+        Problem::Live => e.loaded,
+        Problem::Touched => bits::union_of(e.loaded, e.stored),
+        Problem::CallFree => only_if(e.returned, u64::MAX),
+        Problem::FirstEnsure => only_if(e.ensured, kept_bit(a)),
+        Problem::Occupied => only_if(e.ensured, bits::low_bits(frame)),
+        Problem::Unstored => 0,
+    }
+}
+
+// What such a point takes.
+fn kills_of(problem: Problem, e: Effect, a: u32) -> u64
+    requires { ⌜ a ≤ mostStack ⌝ }
+    ensures { λ r. ⌜ ((x : PointOf) (k : ℕ) → Does x e → Marks (takes problem k a x) r) ⌝ }
+{
+    match problem {
+        Problem::Live => e.stored,
+        Problem::Touched => only_if(e.ensured, u64::MAX),
+        Problem::CallFree => only_if(e.called, u64::MAX),
+        Problem::FirstEnsure => only_if(e.ensured, u64::MAX),
+        Problem::Occupied => only_if(e.called, !bits::low_bits(a)),
+        Problem::Unstored => e.stored,
+    }
+}
+
+// The number that a column has for point p, 0 past its end.
+fn column_at(column: &[u32], p: usize) -> u32
+    ensures { λ r. ⌜ r ≡ item (now (column .entry)) p ⌝ }
+{
+    if p < column.len() {
+        return column[p];
+    }
+    0
+}
+
+// The gens and kills of the points of a function. A problem without a column is lent an empty one.
+pub fn fill(
+    problem: Problem,
+    work: &[u32],
+    s: Span,
+    column: &[u32],
+    gens: &mut [u64],
+    kills: &mut [u64],
+)
+    requires { ⌜ Given (now work) s (now gens) (now kills) × Blocks (s .size) (now column) ⌝ }
+    ensures { λ r. ⌜ Filled (Gives problem (now (work .entry)) s (now (column .entry))) (s .size) (now (gens .entry)) (now (gens .exit))
+        × Filled (Takes problem (now (work .entry)) s (now (column .entry))) (s .size) (now (kills .entry)) (now (kills .exit)) ⌝ }
+{
+    let base = s.base;
+    let n = s.size;
+    let frame = s.frame;
+    let mut p = 0;
+    while p < n {
+        let e = effect_of(tables::point_at(work, base + p));
+        let a = column_at(column, p);
+        gens[p] = gens_of(problem, e, frame, a);
+        kills[p] = kills_of(problem, e, a);
+        p += 1;
+    }
+}
+
+// One more than the highest bit of each of the first n sets.
+fn highest_each(sets: &[u64], n: usize, out: &mut [u32])
+    requires { ⌜ (n ≤ length (now sets)) × (n ≤ length (now out)) ⌝ }
+    ensures { λ r. ⌜ Filled (λ p v. Top (item (now (sets .entry)) p) v) n (now (out .entry)) (now (out .exit)) ⌝ }
+{
+    let mut p = 0;
+    while p < n {
+        out[p] = bits::top_of(sets[p]);
+        p += 1;
+    }
+}
+
+// The lowest bit below k of each of the first n sets.
+fn lowest_each(sets: &[u64], n: usize, k: u32, out: &mut [u32])
+    requires { ⌜ (n ≤ length (now sets)) × (n ≤ length (now out)) × (k ≤ mostStack) ⌝ }
+    ensures { λ r. ⌜ Filled (λ p v. Lowest (item (now (sets .entry)) p) k v) n (now (out .entry)) (now (out .exit)) ⌝ }
+{
+    let mut p = 0;
+    while p < n {
+        out[p] = bits::lowest_of(sets[p], k);
+        p += 1;
+    }
+}
+
+// The sets of the points of a function, for a problem that goes backward.
+fn solve(
+    problem: Problem,
+    work: &[u32],
+    s: Span,
+    column: &[u32],
+    gens: &mut [u64],
+    kills: &mut [u64],
+    sets: &mut [u64],
+)
+    requires { ⌜ Given (now work) s (now gens) (now kills) × Blocks (s .size) (now column) × (s .size ≤ length (now sets)) ⌝ }
+    ensures { λ r. ⌜ Answered problem (funcIn (now (work .entry)) s) (now (column .entry)) (now (sets .exit))
+        × Scratch (s .size) (now (gens .entry)) (now (gens .exit)) (now (kills .entry)) (now (kills .exit)) (now (sets .entry)) (now (sets .exit)) ⌝ }
+{
+    fill(problem, work, s, column, gens, kills);
+    backward::backward(work, s, gens, kills, sets);
+}
+
+// The figure dead of each point of a function.
+pub fn dead_points(
+    work: &[u32],
+    s: Span,
+    gens: &mut [u64],
+    kills: &mut [u64],
+    sets: &mut [u64],
+    dead: &mut [u32],
+)
+    requires { ⌜ Given (now work) s (now gens) (now kills) × (s .size ≤ length (now sets)) × (s .size ≤ length (now dead)) ⌝ }
+    ensures { λ r. ⌜ Filled (λ p v. v ≡ figure.dead (funcIn (now (work .entry)) s) p) (s .size) (now (dead .entry)) (now (dead .exit))
+        × Scratch (s .size) (now (gens .entry)) (now (gens .exit)) (now (kills .entry)) (now (kills .exit)) (now (sets .entry)) (now (sets .exit)) ⌝ }
+{
+    solve(Problem::Live, work, s, &work[0..0], gens, kills, sets);
+    lowest_each(sets, s.size, s.frame, dead);
+}
+
+// The figure need of each point of a function.
+pub fn need_points(
+    work: &[u32],
+    s: Span,
+    gens: &mut [u64],
+    kills: &mut [u64],
+    sets: &mut [u64],
+    need: &mut [u32],
+)
+    requires { ⌜ Given (now work) s (now gens) (now kills) × (s .size ≤ length (now sets)) × (s .size ≤ length (now need)) ⌝ }
+    ensures { λ r. ⌜ Filled (λ p v. v ≡ figure.need (funcIn (now (work .entry)) s) p) (s .size) (now (need .entry)) (now (need .exit))
+        × Scratch (s .size) (now (gens .entry)) (now (gens .exit)) (now (kills .entry)) (now (kills .exit)) (now (sets .entry)) (now (sets .exit)) ⌝ }
+{
+    solve(Problem::Touched, work, s, &work[0..0], gens, kills, sets);
+    highest_each(sets, s.size, need);
+}
+
+// Some walk from the entry of a function to a return makes no call.
+pub fn call_free(
+    work: &[u32],
+    s: Span,
+    gens: &mut [u64],
+    kills: &mut [u64],
+    sets: &mut [u64],
+) -> bool
+    requires { ⌜ Given (now work) s (now gens) (now kills) × (s .size ≤ length (now sets)) ⌝ }
+    ensures { λ r. ⌜ (r ≡ figure.callFree (funcIn (now (work .entry)) s))
+        × Scratch (s .size) (now (gens .entry)) (now (gens .exit)) (now (kills .entry)) (now (kills .exit)) (now (sets .entry)) (now (sets .exit)) ⌝ }
+{
+    solve(Problem::CallFree, work, s, &work[0..0], gens, kills, sets);
+    bits::bit_of(sets[0], 0) == 1
+}
+
+// The largest part of the frame that is kept at a first ensure on walks from each point of a function; kept has what is kept at each ensure.
+pub fn next_points(
+    work: &[u32],
+    s: Span,
+    kept: &[u32],
+    gens: &mut [u64],
+    kills: &mut [u64],
+    sets: &mut [u64],
+    next: &mut [u32],
+)
+    requires { ⌜ Given (now work) s (now gens) (now kills) × Blocks (s .size) (now kept) × (s .size ≤ length (now sets)) × (s .size ≤ length (now next)) ⌝ }
+    ensures { λ r. ⌜ Filled (λ p v. (t : Task) (g : ℕ) → KeptIn (now (work .entry)) s (now (kept .entry)) t g → v ≡ figure.keptNext t g p)
+        (s .size) (now (next .entry)) (now (next .exit))
+        × Scratch (s .size) (now (gens .entry)) (now (gens .exit)) (now (kills .entry)) (now (kills .exit)) (now (sets .entry)) (now (sets .exit)) ⌝ }
+{
+    solve(Problem::FirstEnsure, work, s, kept, gens, kills, sets);
+    highest_each(sets, s.size, next);
+}
+
+// The largest occupancy with which a walk from point 0 arrives at each point of a function that starts with the value start; cuts has what the
+// callee of each call leaves of the cache.
+pub fn high_points(
+    work: &[u32],
+    s: Span,
+    start: u32,
+    cuts: &[u32],
+    gens: &mut [u64],
+    kills: &mut [u64],
+    sets: &mut [u64],
+    state: &mut [u8],
+    high: &mut [u32],
+)
+    requires { ⌜ Given (now work) s (now gens) (now kills) × Blocks (s .size) (now cuts) × (start ≤ mostStack) × Reached (now work) s
+        × (s .size ≤ length (now sets)) × (s .size ≤ length (now state)) × (s .size ≤ length (now high)) ⌝ }
+    ensures { λ r. ⌜ Filled (λ p v. (t : Task) (g e : ℕ) → CutIn (now (work .entry)) s start (now (cuts .entry)) t g e → v ≡ figure.highFrom t g e p)
+        (s .size) (now (high .entry)) (now (high .exit))
+        × Scratch (s .size) (now (gens .entry)) (now (gens .exit)) (now (kills .entry)) (now (kills .exit)) (now (sets .entry)) (now (sets .exit))
+        × Kept (s .size) (now (state .entry)) (now (state .exit)) ⌝ }
+{
+    fill(Problem::Occupied, work, s, cuts, gens, kills);
+    forward::forward(work, s, bits::low_bits(start), gens, kills, sets, state);
+    highest_each(sets, s.size, high);
+}
