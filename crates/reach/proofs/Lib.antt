@@ -1,0 +1,5 @@
+pub mod Points
+pub mod Theory
+pub mod Answers
+pub mod Rows
+pub mod Called

@@ -1,4 +1,0 @@
-pub mod Theory
-pub mod Laws
-pub mod Turns
-pub mod Answers

@@ -1,4 +1,0 @@
-pub mod Points
-pub mod Rows
-pub mod Ready
-pub mod Answers
