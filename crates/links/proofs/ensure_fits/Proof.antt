@@ -1,46 +1,25 @@
--- Where there is no ensure nothing is asked. An ensure that is first or follows no call does not fit; after a call the frame decides.
+-- An ensure that is first does not fit; after another point that point and the frame decide.
 use native.Mathlib.Omega.{arith}
+use mathlib.Core.Path.{ap, _∙_}
+use mathlib.Core.Bool.{_&&_}
+use lib.Dec.{eqb}
 use borrow.Author.Needs.{needs}
-use Rattle.links.proofs.Laws.{ensure-first, ensure-alone, ensure-after}
+use borrow.Author.Tests.{le-leb}
+use Rattle.model.specs.declared.Point.{Point}
+use Rattle.model.specs.Walk.{called, present}
 use Rattle.links.proofs.ensure_fits.Statement.{statement}
 use Rattle.links.proofs.ensure_fits.Tie as tie
-
-returns-2 : tie.Need-returns-2
-returns-2 c = ensure-first _ _ _ (c .before .before .k .given .1) (c .if1 .taken)
-
-returns-3 : tie.Need-returns-3
-returns-3 c =
-    let k = c .before .before .before .before in
-    ensure-alone
-    _
-    _
-    (k .before .before .before .args .p)
-    (k .k .given .1)
-    (c .before .call-at .ensures)
-    (c .if2 .taken)
-    (omega arith)
-
-returns-4 : tie.Need-returns-4
-returns-4 c =
-    let k = c .before .before .before .before .before in
-    ensure-after
-    _
-    _
-    (k .before .before .before .args .p)
-    (k .k .given .1)
-    (c .before .before .call-at .ensures)
-    (c .before .if2 .left)
-    (omega arith)
 
 pub ensure-fits-spec : {M : Type 1} → statement M
 ensure-fits-spec =
     tie.close
     (tie.spec
-    (λ c. search needs)
-    (λ c. search needs)
-    (λ c. search needs)
-    returns-2
+    (λ c. rw (c .if1 .taken))
     (λ c. search needs)
     (λ c κs. search needs)
-    returns-3
-    returns-4)
+    (λ c κs. search needs)
+    (λ c.
+    let i = c .before in
+    let a = i .before .before .before .before .args in
+    let call = i .is-call .ensures ∙ ap (λ (x : Point). present (called x)) (i .before .point-in .ensures) in
+    rw (le-leb 1 (a .p) (omega arith)) (λ j. call j && eqb (a .k) (a .s .frame))))
