@@ -9,7 +9,7 @@ felknost-check-spec =
     tie.close
     (tie.spec
     (λ c. search needs)
-    (λ c κs. omega arith)
+    (λ c κs. search needs)
     (λ c. search needs)
     (λ c. search needs)
     (λ c κs. fits (c .before .before .before .before .before .before .before .args .text .now) (c .before .before .before .before .judge-text .ensures) (c .before .r .given .1))

@@ -1,13 +1,8 @@
--- `task::offset_fits` meets its contract, case by case.
+-- Each arm is one case of the definition.
+use mathlib.Core.Path.{refl}
 use borrow.Author.Needs.{needs}
-use Rattle.task.proofs.offset_fits.Statement.{statement}
-use Rattle.task.proofs.offset_fits.Tie as tie
-
-returns : tie.Need-returns
-returns c = rw (c .before .x .given .1)
-
-returns-2 : tie.Need-returns-2
-returns-2 c = rw (c .before .x2 .given .1)
+use Rattle.reader.proofs.offset_fits.Statement.{statement}
+use Rattle.reader.proofs.offset_fits.Tie as tie
 
 pub offset-fits-spec : {M : Type 1} → statement M
 offset-fits-spec =
@@ -20,8 +15,8 @@ offset-fits-spec =
     (λ c. search needs)
     (λ c. search needs)
     (λ c. search needs)
-    returns
-    returns-2
+    (λ c. rw (c .before .x .given .1) refl)
+    (λ c. rw (c .before .x2 .given .1) refl)
     (λ c. search needs)
     (λ c. search needs)
     (λ c. search needs)

@@ -1,0 +1,7 @@
+-- What is left of all points, or the points of one function.
+use native.Mathlib.Omega.{arith}
+use Rattle.reader.proofs.most_points.Statement.{statement}
+use Rattle.reader.proofs.most_points.Tie as tie
+
+pub most-points-spec : {M : Type 1} → statement M
+most-points-spec = tie.close (tie.spec (λ c. omega arith) (λ c. omega arith) (λ c. omega arith))
