@@ -3,7 +3,7 @@
 use std::process::ExitCode;
 
 use crate::texts::texts;
-use crate::{grouped, times, Check};
+use crate::{grouped, micros, times, Check};
 
 /// The slowest that a row may get, in parts of what it was.
 const SLOWEST: f64 = 1.03;
@@ -51,10 +51,10 @@ pub fn compare() -> ExitCode {
         }
         slower += u32::from(new / old > SLOWEST);
         println!(
-            "| {name} | {} | {:.2} | {:.2} | {:.2} |",
+            "| {name} | {} | {} | {} | {:.2} |",
             grouped(text.len()),
-            old * 1e6,
-            new * 1e6,
+            micros(old),
+            micros(new),
             new / old
         );
     }

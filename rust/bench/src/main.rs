@@ -42,11 +42,11 @@ fn against_second() -> ExitCode {
         let [proved, second] = times(&text, [proved as Check, second]);
         let points = text.windows(3).filter(|part| part == b"  (").count();
         println!(
-            "| {name} | {} | {} | {:.2} | {:.2} | {:.2} |",
+            "| {name} | {} | {} | {} | {} | {:.2} |",
             grouped(text.len()),
             grouped(points),
-            proved * 1e6,
-            second * 1e6,
+            micros(proved),
+            micros(second),
             proved / second
         );
     }
@@ -81,6 +81,15 @@ fn round(call: impl Fn() -> u32) -> f64 {
         if spent >= ROUND {
             return spent.as_secs_f64() / f64::from(calls);
         }
+    }
+}
+
+/// Seconds as microseconds, the short ones with one place more.
+fn micros(seconds: f64) -> String {
+    let micros = seconds * 1e6;
+    match micros < 0.1 {
+        true => format!("{micros:.3}"),
+        false => format!("{micros:.2}"),
     }
 }
 

@@ -79,7 +79,14 @@ pub fn judge_all(root: &Path, show: bool) -> Findings {
         if show {
             let error = log.as_deref().and_then(first_error);
             let error = error.unwrap_or_else(|| "no error".to_string());
-            findings.lines.push(format!("{edit}: {}", cut(&error, 240)));
+            let side = if is_side_need(&error) {
+                " (side need)"
+            } else {
+                ""
+            };
+            findings
+                .lines
+                .push(format!("{edit}{side}: {}", cut(&error, 240)));
         }
         findings.count(judge(&edit, log.as_deref()));
     }
@@ -106,6 +113,27 @@ fn judge(edit: &Edit, log: Option<&str>) -> Result<(), String> {
         Ok(()) => Ok(()),
         Err(why) => nothing(&format!("{why}: {}", cut(&error, 160))),
     }
+}
+
+/// Whether an error is about what a call requires or a bound, and not about what a function ensures. Such an edit may stand for another fact
+/// than the one that refuses it first; whoever reads the list decides.
+fn is_side_need(error: &str) -> bool {
+    let need = error
+        .trim_start_matches('`')
+        .split('`')
+        .next()
+        .unwrap_or_default();
+    let starts = [
+        "add-",
+        "sub-",
+        "mul-",
+        "shl-",
+        "cast-",
+        "part-",
+        "shared-slice-",
+        "unique-slice-",
+    ];
+    need.ends_with("-requires") || starts.iter().any(|start| need.starts_with(start))
 }
 
 /// Whether an error is about a fact; else what it is about.
@@ -220,7 +248,7 @@ mod tests {
                 "a proof file that no function has",
             ),
             (
-                "/a/Proof.antt:9:3: error: `union-of-spec`: expected type `x.Lts.Closed x.Reads.Pre`\n  but this has type `tie.Need-returns-2 → x.Lts.Closed`",
+                "/a/Proof.antt:9:3: error: `union-of-spec`: expected type `x.Lts.Closed x.Pre`\n  but this has type `tie.Need-returns-2 → x.Lts.Closed`",
                 "a need that the proof file does not give",
             ),
             (
@@ -249,6 +277,17 @@ mod tests {
             let start = format!("bits/edit shows nothing: {why}");
             assert!(line.starts_with(&start), "{line}");
         }
+    }
+
+    #[test]
+    fn side_needs() {
+        assert!(is_side_need(
+            "`read-body-requires`: `omega`: the goal does not follow"
+        ));
+        assert!(is_side_need("`add-t12`: `omega`: the goal does not follow"));
+        assert!(!is_side_need(
+            "`returns`: `omega`: the goal does not follow"
+        ));
     }
 
     /// Only the first error counts, and what is quoted in it does not.

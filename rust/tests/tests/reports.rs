@@ -1,6 +1,7 @@
 //! Report on generated texts, with outputs of every length around the one wanted and buffers that are not zero.
 
-use generate::Case;
+use std::fmt::Display;
+
 use second::{admit, figures, sheet, WORK_MIN};
 use tests::{check, is_noise_from, report};
 
@@ -15,8 +16,8 @@ fn sheet_of(text: &[u8]) -> Vec<u8> {
 }
 
 /// Reports into an output of this length, and requires the whole report or refusal 14.
-fn report_into(case: &Case, sheet: &[u8], output: usize, work: usize) {
-    let reported = report(&case.text, output, work);
+fn report_into(case: &impl Display, text: &[u8], sheet: &[u8], output: usize, work: usize) {
+    let reported = report(text, output, work);
     let wanted = sheet.len();
     let written = if output < wanted { 0 } else { wanted };
     let numbers = match written {
@@ -36,7 +37,8 @@ fn reports_of_accepted_texts() {
         let sheet = sheet_of(&case.text);
         // From four bytes too few to four too many.
         let output = sheet.len() + seed as usize % 9 - 4;
-        report_into(&case, &sheet, output, WORK_MIN + seed as usize % 5);
+        let work = WORK_MIN + seed as usize % 5;
+        report_into(&case, &case.text, &sheet, output, work);
     }
 }
 
@@ -53,13 +55,14 @@ fn reports_of_damaged_texts() {
     }
 }
 
+/// Every length from 0 to some bytes too many, on small tasks.
 #[test]
 fn every_output_length() {
-    for seed in 0..40 {
-        let case = generate::valid(seed + 6_000_000);
-        let sheet = sheet_of(&case.text);
-        for output in 0..sheet.len().min(2_000) + 8 {
-            report_into(&case, &sheet, output, WORK_MIN);
+    for seed in 0..60 {
+        let small = generate::small(seed + 6_000_000, 8);
+        let sheet = sheet_of(&small.text);
+        for output in 0..sheet.len() + 8 {
+            report_into(&small, &small.text, &sheet, output, WORK_MIN);
         }
     }
 }
