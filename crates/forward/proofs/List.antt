@@ -67,11 +67,8 @@ tally-le t s = elim (ℕ-discrete s t) [ yes e ↦ omega (arith, tally-yes t s e
 -- ---- the worklist
 
 module _ {n : ℕ} {x : Progress} (l : Listed n x) where
-  -- it never has more entries than there are points, and fewer where some point does not wait
-  pub list-short : x .count ≤ n
-  list-short = omega (arith, l .counted, sum-le (λ p. tally waiting (item (x .state) p)) n (λ p. tally-le waiting (item (x .state) p)))
-
-  pub list-room : (q : ℕ) → q < n → (item (x .state) q ≡ waiting → ⊥) → x .count < n
+  -- it has fewer entries than there are points where some point does not wait
+  list-room : (q : ℕ) → q < n → (item (x .state) q ≡ waiting → ⊥) → x .count < n
   list-room q h k =
       omega
       (arith, l .counted, sum-short (λ p. tally waiting (item (x .state) p)) q n (λ p. tally-le waiting (item (x .state) p)) h (tally-no waiting (item (x .state) q) k))
@@ -82,7 +79,7 @@ module _ {n : ℕ} {x : Progress} (l : Listed n x) where
       omega (arith, l .counted, sum-at (λ p. tally waiting (item (x .state) p)) a n h, tally-yes waiting (item (x .state) a) e)
 
   pub listed-ended : Ended (x .sets) (x .worklist) (x .count)
-  listed-ended = (omega (arith, list-short, l .list-long), λ h. omega (arith, l .within (x .count - 1) (omega arith), l .sets-long))
+  listed-ended = (omega (arith, l .few, l .list-long), λ h. omega (arith, l .within (x .count - 1) (omega arith), l .sets-long))
 
   -- the states with another one at q, which was s: the count of those that wait
   tally-set : (q s t : ℕ) → q < n → item (x .state) q ≡ s → sum (λ p. tally waiting (item (set (x .state) q t) p)) n + tally waiting s ≡ x .count + tally waiting t
@@ -112,11 +109,13 @@ module _ {n : ℕ} {x : Progress} (q m : ℕ) (l : Listed n x) (h : q < n) (k : 
 
   pub listed-put : Listed n (added q m x)
   listed-put = record {
+    small = l .small;
     sets-long = simp length-set (l .sets-long);
     state-long = simp length-set (l .state-long);
     list-long = simp length-set (l .list-long);
     states = set-each (λ p s. p < n → s ≤ waiting) (x .state) (omega (arith, l .state-long)) (λ d. omega arith) (λ p d. l .states p);
     counted = omega (arith, tally-set l q (item (x .state) q) waiting h refl, tally-no waiting (item (x .state) q) k, tally-yes waiting waiting refl);
+    few = omega (arith, list-room l q h k);
     within = each (λ p. p < n) h (l .within);
     waits = each (λ p. item (set (x .state) q waiting) p ≡ waiting) (here (x .state) q waiting (omega (arith, l .state-long)))
         (λ i d. elsewhere (x .state) q (item (x .worklist) i) waiting (other i d) ∙ l .waits i d);
@@ -214,11 +213,13 @@ effect {n} {q} {m} {x} l h (Merged.grows s) =
     record {
       on = record {
         list = record {
+          small = l .small;
           sets-long = simp length-set (l .sets-long);
           state-long = l .state-long;
           list-long = l .list-long;
           states = l .states;
           counted = l .counted;
+          few = l .few;
           within = l .within;
           waits = l .waits;
           apart = l .apart;
@@ -286,11 +287,13 @@ module _ {n : ℕ} {x : Progress} (l : Listed n x) (h : 0 < x .count) where
   pub onward-taken : Onward n x (taken x)
   onward-taken = record {
     list = record {
+      small = l .small;
       sets-long = l .sets-long;
       state-long = simp length-set (l .state-long);
       list-long = l .list-long;
       states = set-each (λ p s. p < n → s ≤ waiting) (x .state) (omega (arith, last-within, l .state-long)) (λ d. omega arith) (λ p d. l .states p);
       counted = omega (arith, tally-set l (last x) waiting seen last-within last-waits, tally-yes waiting waiting refl, tally-no waiting seen (λ e. omega arith));
+      few = omega (arith, l .few);
       within = λ i d. l .within i (omega arith);
       waits = λ i d.
           elsewhere (x .state) (last x) (item (x .worklist) i) seen (l .apart i (x .count - 1) d (omega arith)) ∙ l .waits i (omega arith);
@@ -323,7 +326,7 @@ progress-same {s} {t} d e = λ i. progress s t (d i) (e i)
 -- a point that does not wait can go into the worklist
 pub ready-room : {q : ℕ} {x : Progress} → Ready q x → (item (x .state) q ≡ waiting → ⊥)
     → (q < length (x .sets)) × (q < length (x .state)) × (q < mostPoints) × (x .count < length (x .worklist))
-ready-room {q} r k = omega (arith, list-room (r .list) q (r .below) k, r .list .sets-long, r .list .state-long, r .list .list-long)
+ready-room {q} r k = omega (arith, list-room (r .list) q (r .below) k, r .list .small, r .list .sets-long, r .list .state-long, r .list .list-long)
 
 -- the ways in which the set m is merged into that of q, where u is the union
 module _ {q m u : ℕ} {x : Progress} (e : u ≡ union (item (x .sets) q) m) where
@@ -346,15 +349,15 @@ merged-ends r e a =
 
 module _ {next : Next} {x : Progress} (r : ReadyAll (targets next) x) where
   pub ready-one : {q : ℕ} → next ≡ To q → Ready q x
-  ready-one e = record { n = r .n; small = r .small; below = next-one (r .inside) e; list = r .list }
+  ready-one e = record { n = r .n; below = next-one (r .inside) e; list = r .list }
 
   pub ready-first : {q p : ℕ} → next ≡ Fork q p → Ready p x
-  ready-first e = record { n = r .n; small = r .small; below = next-both (r .inside) e .1; list = r .list }
+  ready-first e = record { n = r .n; below = next-both (r .inside) e .1; list = r .list }
 
   pub ready-second : {q p m : ℕ} {y : Progress} → next ≡ Fork q p → Merged p m x y → Ready q y
   ready-second e a =
       let b = next-both (r .inside) e in
-      record { n = r .n; small = r .small; below = b .0; list = effect (r .list) (b .1) a .on .list }
+      record { n = r .n; below = b .0; list = effect (r .list) (b .1) a .on .list }
 
 -- the visit of p, the last point of the worklist, which has the set v
 module _ {x : Progress} {p : ℕ} (e : p ≡ last x) where
@@ -362,7 +365,6 @@ module _ {x : Progress} {p : ℕ} (e : p ≡ last x) where
       → l ≡ leads (funcIn w s) p → ReadyAll l (progress (x .sets) (set (x .state) p seen) (x .worklist) (x .count - 1))
   ready-visit {s = s} g l h d = record {
     n = s .size;
-    small = g .fits .small;
     inside = λ q m. g .fits .inside p q (rw e (last-within l h)) (rw d at m);
     list = rw e (onward-taken l h .list);
   }

@@ -8,6 +8,7 @@ use mathlib.Core.Logic.{⊎-elim}
 use lib.ListN.{length}
 use Rattle.bits.specs.Bits.{setBits, bit, union, transfer, cleared}
 use Rattle.bits.proofs.Laws.{bit-le, bit-zero, bit-union, bit-transfer, length-cleared, item-cleared}
+use Rattle.model.specs.Limits.{mostPoints}
 use Rattle.model.specs.Walk.{Walk, never}
 use Rattle.tables.specs.Tables.{item}
 use Rattle.tables.specs.Valid.{Kept}
@@ -208,6 +209,7 @@ module _
     {s′ t′ : List ℕ}
     {x : Progress}
     (some : 1 ≤ n)
+    (few : n ≤ mostPoints)
     (i : n ≤ length s)
     (j : n ≤ length t)
     (k : n ≤ length l)
@@ -235,11 +237,13 @@ module _
       0
       entry
       (record {
+        small = few;
         sets-long = sets-long;
         state-long = state-long;
         list-long = k;
         states = λ p h. omega (arith, zero-state p h);
         counted = sym (sum-zero (λ p. tally waiting (item t′ p)) n (λ p h. tally-no waiting (item t′ p) (λ d. omega (arith, zero-state p h))));
+        few = omega arith;
         within = λ a h. absurd (omega arith);
         waits = λ a h. absurd (omega arith);
         apart = λ a b c h. absurd (omega arith);

@@ -82,13 +82,16 @@ pub data Visits (next : ℕ → List ℕ) (gens kills : List ℕ) (x : Progress)
 unfoldable pub tally : ℕ → ℕ → ℕ
 tally t s = if eqb s t then 1 else 0
 
--- the tables have room for n points, each with one of the three states, and the worklist holds each point that waits, once
+-- the tables have room for n points, each with one of the three states; the worklist holds each point that waits, so never more than mostPoints,
+-- and none twice
 pub record Listed (n : ℕ) (x : Progress) : Type 0 where
+  pub small : n ≤ mostPoints
   pub sets-long : n ≤ length (x .sets)
   pub state-long : n ≤ length (x .state)
   pub list-long : n ≤ length (x .worklist)
   pub states : (p : ℕ) → p < n → item (x .state) p ≤ waiting
   pub counted : x .count ≡ sum (λ p. tally waiting (item (x .state) p)) n
+  pub few : x .count ≤ n
   pub within : (i : ℕ) → i < x .count → item (x .worklist) i < n
   pub waits : (i : ℕ) → i < x .count → item (x .state) (item (x .worklist) i) ≡ waiting
   pub apart : (i j : ℕ) → i < j → j < x .count → item (x .worklist) i ≡ item (x .worklist) j → ⊥
@@ -96,12 +99,10 @@ pub record Listed (n : ℕ) (x : Progress) : Type 0 where
 -- what a merge requires: of point q, and of each of the points l
 pub record Ready (q : ℕ) (x : Progress) : Type 0 where
   pub n : ℕ
-  pub small : n ≤ mostPoints
   pub below : q < n
   pub list : Listed n x
 
 pub record ReadyAll (l : List ℕ) (x : Progress) : Type 0 where
   pub n : ℕ
-  pub small : n ≤ mostPoints
   pub inside : (q : ℕ) → List·Memᴰ q l → q < n
   pub list : Listed n x

@@ -197,6 +197,7 @@ fn visit(
     ensures { λ r. ⌜ Visited (leads (funcIn (now (work .entry)) s)) (now (gens .entry)) (now (kills .entry))
         (progress (now (sets .entry)) (now (state .entry)) (now (worklist .entry)) count)
         (progress (now (sets .exit)) (now (state .exit)) (now (worklist .exit)) (r .count))
+        × Listed (s .size) (progress (now (sets .exit)) (now (state .exit)) (now (worklist .exit)) (r .count))
         × Ends (now (sets .exit)) (now (worklist .exit)) (r .count) (r .last) ⌝ }
 {
     let left = count - 1;
