@@ -18,8 +18,9 @@ use Rattle.tables.proofs.Valid.{kept-same, kept-on}
 use Rattle.flow.specs.Flow.{Inside, Given, targets}
 use Rattle.flow.proofs.Laws.{next-one, next-both, set-each, kept-set}
 use Rattle.flow.specs.declared.Next.{Next}
-use Rattle.flow.specs.declared.Next.the-variants.{To, Fork}
-use Rattle.forward.specs.Worklist.{unseen, seen, waiting, Progress, progress, added, last, taken, leaving, Ended, Ends, Merged, Propagated, Visited, Visits, tally, Listed, Ready, ReadyAll}
+use Rattle.flow.specs.declared.Next.the-variants.{Nowhere, To, Fork}
+use Rattle.forward.specs.Worklist.{unseen, seen, waiting, tally, Progress, progress, added, last, taken, Ended, Ends}
+use Rattle.forward.specs.Worklist.{Merged, Propagated, Visited, Visits, Listed, Ready, ReadyAll}
 
 -- ---- sums
 
@@ -66,26 +67,28 @@ tally-le t s = elim (ℕ-discrete s t) [ yes e ↦ omega (arith, tally-yes t s e
 
 -- ---- the worklist
 
+-- 1 for a point that waits
+abbrev waits-at : List ℕ → ℕ → ℕ
+waits-at state p = tally waiting (item state p)
+
 module _ {n : ℕ} {x : Progress} (l : Listed n x) where
   -- it has fewer entries than there are points where some point does not wait
   list-room : (q : ℕ) → q < n → (item (x .state) q ≡ waiting → ⊥) → x .count < n
   list-room q h k =
-      omega
-      (arith, l .counted, sum-short (λ p. tally waiting (item (x .state) p)) q n (λ p. tally-le waiting (item (x .state) p)) h (tally-no waiting (item (x .state) q) k))
+      let z = tally-no waiting (item (x .state) q) k in
+      omega (arith, l .counted, sum-short (waits-at (x .state)) q n (λ p. tally-le waiting (item (x .state) p)) h z)
 
   -- no point waits where it is empty
   pub list-none : x .count ≡ 0 → (a : ℕ) → a < n → item (x .state) a ≡ waiting → ⊥
-  list-none z a h e =
-      omega (arith, l .counted, sum-at (λ p. tally waiting (item (x .state) p)) a n h, tally-yes waiting (item (x .state) a) e)
+  list-none z a h e = omega (arith, l .counted, sum-at (waits-at (x .state)) a n h, tally-yes waiting (item (x .state) a) e)
 
   pub listed-ended : Ended (x .sets) (x .worklist) (x .count)
   listed-ended = (omega (arith, l .few, l .list-long), λ h. omega (arith, l .within (x .count - 1) (omega arith), l .sets-long))
 
-  -- the states with another one at q, which was s: the count of those that wait
-  tally-set : (q s t : ℕ) → q < n → item (x .state) q ≡ s → sum (λ p. tally waiting (item (set (x .state) q t) p)) n + tally waiting s ≡ x .count + tally waiting t
+  -- how many wait once q has the state t in place of s
+  tally-set : (q s t : ℕ) → q < n → item (x .state) q ≡ s → sum (waits-at (set (x .state) q t)) n + tally waiting s ≡ x .count + tally waiting t
   tally-set q s t h e =
-      let b = sum-but (λ p. tally waiting (item (set (x .state) q t) p)) (λ p. tally waiting (item (x .state) p)) q n h
-      (λ p d. ap (tally waiting) (elsewhere (x .state) q p t d)) in
+      let b = sum-but (waits-at (set (x .state) q t)) (waits-at (x .state)) q n h (λ p d. ap (tally waiting) (elsewhere (x .state) q p t d)) in
       omega (arith, l .counted, ap (tally waiting) e, ap (tally waiting) (here (x .state) q t (omega (arith, l .state-long))))
 
 -- a point that does not wait is put at its end
@@ -100,7 +103,8 @@ module _ {n : ℕ} {x : Progress} (q m : ℕ) (l : Listed n x) (h : q < n) (k : 
   other i d e = k (ap (item (x .state)) (sym e) ∙ l .waits i d)
 
   -- what is so of q and of the entries before is so of all
-  each : (P : ℕ → Type 0) → P q → ((i : ℕ) → i < x .count → P (item (x .worklist) i)) → (i : ℕ) → i < x .count + 1 → P (item (set (x .worklist) (x .count) q) i)
+  each : (P : ℕ → Type 0) → P q → ((i : ℕ) → i < x .count → P (item (x .worklist) i)) → (i : ℕ) → i < x .count + 1
+      → P (item (set (x .worklist) (x .count) q) i)
   each P a b i d =
       elim (decLt i (x .count)) [
         | yes j ↦ rw (old i j) (b i j)
@@ -173,11 +177,11 @@ pub record Onward (n : ℕ) (x y : Progress) : Type 0 where
   pub list-same : length (y .worklist) ≡ length (x .worklist)
   pub costs : cost n y ≤ cost n x
 
-onward-none : {n : ℕ} {x : Progress} → Listed n x → Onward n x x
+pub onward-none : {n : ℕ} {x : Progress} → Listed n x → Onward n x x
 onward-none {n} {x} l =
     record { list = l; sets-kept = kept-same n (x .sets); state-kept = kept-same n (x .state); list-same = refl; costs = omega arith }
 
-onward-on : {n : ℕ} {x y z : Progress} → Onward n x y → Onward n y z → Onward n x z
+pub onward-on : {n : ℕ} {x y z : Progress} → Onward n x y → Onward n y z → Onward n x z
 onward-on a b = record {
   list = b .list;
   sets-kept = kept-on (a .sets-kept) (b .sets-kept);
@@ -292,7 +296,9 @@ module _ {n : ℕ} {x : Progress} (l : Listed n x) (h : 0 < x .count) where
       state-long = simp length-set (l .state-long);
       list-long = l .list-long;
       states = set-each (λ p s. p < n → s ≤ waiting) (x .state) (omega (arith, last-within, l .state-long)) (λ d. omega arith) (λ p d. l .states p);
-      counted = omega (arith, tally-set l (last x) waiting seen last-within last-waits, tally-yes waiting waiting refl, tally-no waiting seen (λ e. omega arith));
+      counted =
+          let z = tally-no waiting seen (λ e. omega arith) in
+          omega (arith, tally-set l (last x) waiting seen last-within last-waits, tally-yes waiting waiting refl);
       few = omega (arith, l .few);
       within = λ i d. l .within i (omega arith);
       waits = λ i d.
@@ -358,6 +364,17 @@ module _ {next : Next} {x : Progress} (r : ReadyAll (targets next) x) where
   ready-second e a =
       let b = next-both (r .inside) e in
       record { n = r .n; below = b .0; list = effect (r .list) (b .1) a .on .list }
+
+-- the arms of propagate
+module _ {next : Next} {m : ℕ} {x : Progress} where
+  pub propagated-none : next ≡ Nowhere → Propagated m (targets next) x x
+  propagated-none e = rw e Propagated.none
+
+  pub propagated-one : {q : ℕ} {y : Progress} → next ≡ To q → Merged q m x y → Propagated m (targets next) x y
+  propagated-one e a = rw e (Propagated.one a)
+
+  pub propagated-two : {q p : ℕ} {y z : Progress} → next ≡ Fork q p → Merged p m x y → Merged q m y z → Propagated m (targets next) x z
+  propagated-two e a b = rw e (Propagated.two a b)
 
 -- the visit of p, the last point of the worklist, which has the set v
 module _ {x : Progress} {p : ℕ} (e : p ≡ last x) where

@@ -18,7 +18,7 @@ use Rattle.flow.specs.Flow.{Inside}
 use Rattle.flow.proofs.Laws.{set-each, kept-set, kept-cleared}
 use Rattle.forward.specs.Forward.{Carried, Solved}
 use Rattle.forward.specs.Worklist.{unseen, seen, waiting, Progress, progress, added, last, taken, leaving, Propagated, Visited, Visits, tally, Listed}
-use Rattle.forward.proofs.List.{sum-zero, tally-no, list-none, listed-put, Effect, effect, Onward, last-within, last-waits, last-seen, onward-visits, onward-taken}
+use Rattle.forward.proofs.List.{sum-zero, tally-no, list-none, listed-put, Effect, effect, last-within, last-waits, onward-visits, onward-taken}
 
 -- ---- what comes to a point
 
@@ -137,7 +137,8 @@ module _ (next : ℕ → List ℕ) (n entry : ℕ) (gens kills : List ℕ) where
         was-seen = set-each (λ a s. (s ≡ unseen → ⊥) → item (x .state) a ≡ unseen → ⊥) (x .state) long (λ k e. omega (arith, last-waits l h)) (λ a d k. k)
 
         got-taken : (b m : ℕ) → Got x b m → Got (taken x) b m
-        got-taken b m g = (set-each (λ a s. (item (x .state) a ≡ unseen → ⊥) → s ≡ unseen → ⊥) (x .state) long (λ k e. omega arith) (λ a d k. k) b (g .0), g .1)
+        got-taken b m g =
+            (set-each (λ a s. (item (x .state) a ≡ unseen → ⊥) → s ≡ unseen → ⊥) (x .state) long (λ k e. omega arith) (λ a d k. k) b (g .0), g .1)
 
         right-taken : Right (λ a. a ≡ last x) (taken x)
         right-taken = record {

@@ -11,6 +11,9 @@ merge-last-spec =
     (λ c. search needs) (λ c. search needs)
     (λ c κs. search needs)
     (λ c κs. search needs)
-    (λ c κs. merged-ends (c .before .before .before .before .before .before .before .before .before .before .before .before .before .before .before .before .before .pre) (c .before .before .before .before .before .before .before .before .before .before .before .before .union-of .ensures) (c .before .before .before .before .before .before .before .before .merge .ensures))
+    (λ c κs.
+    let m = c .before .before .before .before .before .before .before .before in
+    let u = m .before .before .before .before in
+    merged-ends (u .before .before .before .before .before .pre) (u .union-of .ensures) (m .merge .ensures))
     (λ c. search needs) (λ c. search needs) (λ c. search needs)
     (λ c. search needs))

@@ -15,13 +15,13 @@ visit-spec =
     tie.close
     (tie.spec
     (λ c. search needs)
-    (λ c. let h = place (c .before .before .before .before .before .before) in omega (arith, c .before .before .before .before .before .before .pre .1 .state-long))
-    (λ c. let h = place (c .before .before .before .before .before .before) in omega (arith, c .before .before .before .before .before .before .pre .1 .small))
-    (λ c. let h = place (c .before .before .before .before .before .before .before) in omega (arith, c .before .before .before .before .before .before .before .pre .0 .kills-long))
-    (λ c. let h = place (c .before .before .before .before .before .before .before) in omega (arith, c .before .before .before .before .before .before .before .pre .1 .small))
-    (λ c. let h = place (c .before .before .before .before .before .before .before .before) in omega (arith, c .before .before .before .before .before .before .before .before .pre .0 .gens-long))
+    (λ c. let h = place (c .before .before .before .before .before .before) in omega arith)
+    (λ c. let h = place (c .before .before .before .before .before .before) in omega arith)
+    (λ c. let h = place (c .before .before .before .before .before .before .before) in omega arith)
+    (λ c. let h = place (c .before .before .before .before .before .before .before) in omega arith)
+    (λ c. let h = place (c .before .before .before .before .before .before .before .before) in omega arith)
     (λ c κs. search needs)
-    (λ c κs. (c .before .before .before .before .before .before .before .before .before .pre .0 .fits .lies, place (c .before .before .before .before .before .before .before .before .before)))
+    (λ c κs. let h = place (c .before .before .before .before .before .before .before .before .before) in search needs)
     (λ c κs.
     let n = c .before .before .before in
     let p = n .before .before .before .before .before .before .before .before .before .before .pre in
