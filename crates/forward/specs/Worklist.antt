@@ -42,12 +42,12 @@ last x = item (x .worklist) (x .count - 1)
 abbrev pub taken : Progress → Progress
 taken x = progress (x .sets) (set (x .state) (last x) seen) (x .worklist) (x .count - 1)
 
--- the first count entries of the worklist l are there, and the set of the last of them; at is that point and its set
-abbrev pub Ended : List ℕ → List ℕ → ℕ → Type 0
-Ended sets l count = (count ≤ length l) × (0 < count → item l (count - 1) < length sets)
+-- the first count entries of the worklist l are there, and so is the set of the last of them; at is that point and its set
+abbrev pub LastThere : List ℕ → List ℕ → ℕ → Type 0
+LastThere sets l count = (count ≤ length l) × (0 < count → item l (count - 1) < length sets)
 
-abbrev pub Ends : List ℕ → List ℕ → ℕ → Last → Type 0
-Ends sets l count at = 0 < count → (at .point ≡ item l (count - 1)) × (at .set ≡ item sets (at .point))
+abbrev pub LastIs : List ℕ → List ℕ → ℕ → Last → Type 0
+LastIs sets l count at = 0 < count → (at .point ≡ item l (count - 1)) × (at .set ≡ item sets (at .point))
 
 -- the set m is merged into that of point q, which becomes the union: it brings nothing new; q waits already; q goes into the worklist, since it
 -- is seen for the first time or its set has grown

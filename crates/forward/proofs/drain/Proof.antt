@@ -3,16 +3,16 @@ use native.Mathlib.Omega.{arith}
 use mathlib.Core.Path.{_≡_}
 use Rattle.model.specs.Walk.{leads}
 use Rattle.tables.specs.Tables.{funcIn}
-use Rattle.forward.specs.Worklist.{progress, Ends, Visits}
-use Rattle.forward.proofs.List.{cost, Onward, onward-none, onward-on, listed-ended, onward-visited}
+use Rattle.forward.specs.Worklist.{progress, LastIs, Visits}
+use Rattle.forward.proofs.List.{cost, Preserved, preserved-none, preserved-on, listed-last, preserved-visited}
 use Rattle.forward.proofs.drain.Statement.{statement}
 use Rattle.forward.proofs.drain.Tie as tie
 
 abbrev Inv-loop : tie.InvT-loop
 Inv-loop work s gens kills sets₀ state₀ worklist₀ first count₀ at₀ sets state worklist count at =
     Visits (leads (funcIn work s)) gens kills (progress sets₀ state₀ worklist₀ first) (progress sets state worklist count)
-    × Onward (s .size) (progress sets₀ state₀ worklist₀ first) (progress sets state worklist count)
-    × Ends sets worklist count at
+    × Preserved (s .size) (progress sets₀ state₀ worklist₀ first) (progress sets state worklist count)
+    × LastIs sets worklist count at
 
 abbrev μ-loop : tie.MeasureT-loop
 μ-loop work s gens kills sets₀ state₀ worklist₀ first count₀ at₀ sets state worklist count at =
@@ -24,8 +24,8 @@ drain-spec =
     (tie.spec
     Inv-loop
     μ-loop
-    (λ c κs. search listed-ended)
-    (λ c. (Visits.none, search onward-none, c .last-of .ensures))
+    (λ c κs. search listed-last)
+    (λ c. (Visits.none, search preserved-none, c .last-of .ensures))
     (λ c κs.
     let l = c .before .before .before .before in
     let p = l .before .before .before .before .before .before .before .before .before .before .pre in
@@ -34,14 +34,14 @@ drain-spec =
     let t = c .before .before .before .before .before .before .before .before .before .before .before in
     let p = t .before .before .before .before .before .before .before .before .before .before .before .pre in
     let v = c .before .before .before .before .before .before .before .visit .ensures .0 in
-    onward-visited (p .0 .fits .inside) (t .before .loop .inv .1 .list) (t .loop-test .taken) v .1)
+    preserved-visited (p .0 .fits .inside) (t .before .loop .inv .1 .list) (t .loop-test .taken) v .1)
     (λ c.
     let t = c .before .before .before .before .before .before .before .before .before .before .before in
     let p = t .before .before .before .before .before .before .before .before .before .before .before .pre in
     let r = c .before .before .before .before .before .before .before .visit .ensures in
     let i = t .before .loop .inv in (
       Visits.more (i .0) (t .loop-test .taken) (r .0),
-      onward-on (i .1) (onward-visited (p .0 .fits .inside) (i .1 .list) (t .loop-test .taken) (r .0) .0),
+      preserved-on (i .1) (preserved-visited (p .0 .fits .inside) (i .1 .list) (t .loop-test .taken) (r .0) .0),
       r .2,
     ))
     (λ c. c .before .loop .inv .1 .sets-kept .size)

@@ -3,7 +3,7 @@ use Prim.Native.Nat.{_<_}
 use native.Mathlib.Omega.{arith}
 use lib.ListN.{length-set}
 use borrow.Author.Needs.{needs}
-use Rattle.forward.proofs.List.{last-within, ready-visit, visited, onward-visited}
+use Rattle.forward.proofs.List.{last-within, ready-visit, visited, preserved-visited}
 use Rattle.forward.proofs.visit.Statement.{statement}
 use Rattle.forward.proofs.visit.Tie as tie
 
@@ -35,4 +35,4 @@ visit-spec =
     let p = n .before .before .before .before .before .before .before .before .before .before .pre in
     let e = p .3 (p .2) in
     let v = visited (e .0) (e .1) (n .before .transfer-of .ensures) (n .next-at .ensures) (r .0) in
-    (v, onward-visited (p .0 .fits .inside) (p .1) (p .2) v .0 .list, r .1)))
+    (v, preserved-visited (p .0 .fits .inside) (p .1) (p .2) v .0 .list, r .1)))
