@@ -1,4 +1,4 @@
-// Sets of 64 bits: one bit, the lowest bits, the reading of a bit, the highest and the lowest bit, and the operators by name. The laws of bits are in proofs/Laws.antt.
+// Sets of 64 bits: one bit, the lowest bits, the reading of a bit, the highest and the lowest bit, and the operators by name.
 ghost use mathlib.Core.Path.{_≡_};
 ghost use Prim.Native.Nat.{_<_, _≤_};
 ghost use lib.ListN.{length};

@@ -38,7 +38,7 @@ module _ (w : List ℕ) (s : Span) (p : ℕ) (h : p < s .size) where
   pub point-leads : {l : List ℕ} {x : Point} → l ≡ leadsFrom p x → x ≡ pointAt w (s .base + p) → l ≡ leads (funcIn w s) p
   point-leads e d = e ∙ (ap (leadsFrom p) d ∙ sym (leads-there w s p h))
 
--- what is so of every point that is next, of one and of both
+-- where every point that is next is below n, so is the only one, and so are both
 module _ {next : Next} {n : ℕ} (all : (p : ℕ) → List·Memᴰ p (targets next) → p < n) where
   pub next-one : {q : ℕ} → next ≡ To q → q < n
   next-one {q} e = all q (rw e (List·Memᴰ·head refl))

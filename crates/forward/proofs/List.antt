@@ -18,12 +18,13 @@ use Rattle.tables.proofs.Valid.{kept-same, kept-on}
 use Rattle.flow.specs.Flow.{Inside, Given, targets}
 use Rattle.flow.proofs.Laws.{next-one, next-both, set-each, kept-set}
 use Rattle.flow.specs.declared.Next.{Next}
-use Rattle.flow.specs.declared.Next.the-variants.{To, Fork}
-use Rattle.forward.specs.Worklist.{unseen, seen, waiting, Progress, progress, added, last, taken, leaving, Ended, Ends, Merged, Propagated, Visited, Visits, tally, Listed, Ready, ReadyAll}
+use Rattle.flow.specs.declared.Next.the-variants.{Nowhere, To, Fork}
+use Rattle.forward.specs.Worklist.{unseen, seen, waiting, tally, Progress, progress, added, last, taken, LastThere, LastIs}
+use Rattle.forward.specs.Worklist.{Merged, Propagated, Visited, Visits, Listed, Ready, ReadyAll}
 
 -- ---- sums
 
--- of terms of which each is at most 1; where one of them is 0; of terms that are all 0; and one term of a sum
+-- n terms that are at most 1 sum to at most n, and to less where one of them is 0
 sum-le : (f : ℕ → ℕ) (n : ℕ) → ((p : ℕ) → f p ≤ 1) → sum f n ≤ n
 unfolding sum
 sum-le f zero h = omega arith
@@ -38,11 +39,13 @@ sum-short f q (suc n) h k z =
       | no d ↦ omega (arith, sum-short f q n h (omega arith) z, h n)
     ]
 
+-- terms that are all 0 sum to 0
 pub sum-zero : (f : ℕ → ℕ) (n : ℕ) → ((p : ℕ) → p < n → f p ≡ 0) → sum f n ≡ 0
 unfolding sum
 sum-zero f zero h = refl
 sum-zero f (suc n) h = omega (arith, sum-zero f n (λ p k. h p (omega arith)), h n (omega arith))
 
+-- a term is at most the sum
 sum-at : (f : ℕ → ℕ) (p n : ℕ) → p < n → f p ≤ sum f n
 unfolding sum
 sum-at f p zero h = absurd (omega arith)
@@ -66,29 +69,29 @@ tally-le t s = elim (ℕ-discrete s t) [ yes e ↦ omega (arith, tally-yes t s e
 
 -- ---- the worklist
 
+-- 1 for a point that waits
+abbrev waits-at : List ℕ → ℕ → ℕ
+waits-at state p = tally waiting (item state p)
+
 module _ {n : ℕ} {x : Progress} (l : Listed n x) where
-  -- it never has more entries than there are points, and fewer where some point does not wait
-  pub list-short : x .count ≤ n
-  list-short = omega (arith, l .counted, sum-le (λ p. tally waiting (item (x .state) p)) n (λ p. tally-le waiting (item (x .state) p)))
-
-  pub list-room : (q : ℕ) → q < n → (item (x .state) q ≡ waiting → ⊥) → x .count < n
+  -- where some point does not wait, it has fewer entries than there are points
+  list-room : (q : ℕ) → q < n → (item (x .state) q ≡ waiting → ⊥) → x .count < n
   list-room q h k =
-      omega
-      (arith, l .counted, sum-short (λ p. tally waiting (item (x .state) p)) q n (λ p. tally-le waiting (item (x .state) p)) h (tally-no waiting (item (x .state) q) k))
+      let z = tally-no waiting (item (x .state) q) k in
+      omega (arith, l .counted, sum-short (waits-at (x .state)) q n (λ p. tally-le waiting (item (x .state) p)) h z)
 
-  -- no point waits where it is empty
+  -- where it is empty, no point waits
   pub list-none : x .count ≡ 0 → (a : ℕ) → a < n → item (x .state) a ≡ waiting → ⊥
-  list-none z a h e =
-      omega (arith, l .counted, sum-at (λ p. tally waiting (item (x .state) p)) a n h, tally-yes waiting (item (x .state) a) e)
+  list-none z a h e = omega (arith, l .counted, sum-at (waits-at (x .state)) a n h, tally-yes waiting (item (x .state) a) e)
 
-  pub listed-ended : Ended (x .sets) (x .worklist) (x .count)
-  listed-ended = (omega (arith, list-short, l .list-long), λ h. omega (arith, l .within (x .count - 1) (omega arith), l .sets-long))
+  -- its last point is there
+  pub listed-last : LastThere (x .sets) (x .worklist) (x .count)
+  listed-last = (omega (arith, l .few, l .list-long), λ h. omega (arith, l .within (x .count - 1) (omega arith), l .sets-long))
 
-  -- the states with another one at q, which was s: the count of those that wait
-  tally-set : (q s t : ℕ) → q < n → item (x .state) q ≡ s → sum (λ p. tally waiting (item (set (x .state) q t) p)) n + tally waiting s ≡ x .count + tally waiting t
+  -- how many wait once q has the state t in place of s
+  tally-set : (q s t : ℕ) → q < n → item (x .state) q ≡ s → sum (waits-at (set (x .state) q t)) n + tally waiting s ≡ x .count + tally waiting t
   tally-set q s t h e =
-      let b = sum-but (λ p. tally waiting (item (set (x .state) q t) p)) (λ p. tally waiting (item (x .state) p)) q n h
-      (λ p d. ap (tally waiting) (elsewhere (x .state) q p t d)) in
+      let b = sum-but (waits-at (set (x .state) q t)) (waits-at (x .state)) q n h (λ p d. ap (tally waiting) (elsewhere (x .state) q p t d)) in
       omega (arith, l .counted, ap (tally waiting) e, ap (tally waiting) (here (x .state) q t (omega (arith, l .state-long))))
 
 -- a point that does not wait is put at its end
@@ -103,7 +106,8 @@ module _ {n : ℕ} {x : Progress} (q m : ℕ) (l : Listed n x) (h : q < n) (k : 
   other i d e = k (ap (item (x .state)) (sym e) ∙ l .waits i d)
 
   -- what is so of q and of the entries before is so of all
-  each : (P : ℕ → Type 0) → P q → ((i : ℕ) → i < x .count → P (item (x .worklist) i)) → (i : ℕ) → i < x .count + 1 → P (item (set (x .worklist) (x .count) q) i)
+  each : (P : ℕ → Type 0) → P q → ((i : ℕ) → i < x .count → P (item (x .worklist) i)) → (i : ℕ) → i < x .count + 1
+      → P (item (set (x .worklist) (x .count) q) i)
   each P a b i d =
       elim (decLt i (x .count)) [
         | yes j ↦ rw (old i j) (b i j)
@@ -112,11 +116,13 @@ module _ {n : ℕ} {x : Progress} (q m : ℕ) (l : Listed n x) (h : q < n) (k : 
 
   pub listed-put : Listed n (added q m x)
   listed-put = record {
+    small = l .small;
     sets-long = simp length-set (l .sets-long);
     state-long = simp length-set (l .state-long);
     list-long = simp length-set (l .list-long);
     states = set-each (λ p s. p < n → s ≤ waiting) (x .state) (omega (arith, l .state-long)) (λ d. omega arith) (λ p d. l .states p);
     counted = omega (arith, tally-set l q (item (x .state) q) waiting h refl, tally-no waiting (item (x .state) q) k, tally-yes waiting waiting refl);
+    few = omega (arith, list-room l q h k);
     within = each (λ p. p < n) h (l .within);
     waits = each (λ p. item (set (x .state) q waiting) p ≡ waiting) (here (x .state) q waiting (omega (arith, l .state-long)))
         (λ i d. elsewhere (x .state) q (item (x .worklist) i) waiting (other i d) ∙ l .waits i d);
@@ -166,20 +172,20 @@ cost-but {n} {q} x y h s t e f =
 
 -- ---- the steps
 
--- what every step keeps: the worklist is right, the tables have their lengths, and what lies past the n points is as it was; the cost is no more
-pub record Onward (n : ℕ) (x y : Progress) : Type 0 where
+-- what every step from x to y preserves: the worklist's facts, the lengths of the tables, and what lies past the n points. The cost does not rise
+pub record Preserved (n : ℕ) (x y : Progress) : Type 0 where
   pub list : Listed n y
   pub sets-kept : Kept n (x .sets) (y .sets)
   pub state-kept : Kept n (x .state) (y .state)
   pub list-same : length (y .worklist) ≡ length (x .worklist)
   pub costs : cost n y ≤ cost n x
 
-onward-none : {n : ℕ} {x : Progress} → Listed n x → Onward n x x
-onward-none {n} {x} l =
+pub preserved-none : {n : ℕ} {x : Progress} → Listed n x → Preserved n x x
+preserved-none {n} {x} l =
     record { list = l; sets-kept = kept-same n (x .sets); state-kept = kept-same n (x .state); list-same = refl; costs = omega arith }
 
-onward-on : {n : ℕ} {x y z : Progress} → Onward n x y → Onward n y z → Onward n x z
-onward-on a b = record {
+pub preserved-on : {n : ℕ} {x y z : Progress} → Preserved n x y → Preserved n y z → Preserved n x z
+preserved-on a b = record {
   list = b .list;
   sets-kept = kept-on (a .sets-kept) (b .sets-kept);
   state-kept = kept-on (a .state-kept) (b .state-kept);
@@ -189,7 +195,7 @@ onward-on a b = record {
 
 -- what a merge of m into the set of q has done
 pub record Effect (n q m : ℕ) (x y : Progress) : Type 0 where
-  pub on : Onward n x y
+  pub on : Preserved n x y
   pub state-else : (p : ℕ) → (p ≡ q → ⊥) → item (y .state) p ≡ item (x .state) p
   pub sets-else : (p : ℕ) → (p ≡ q → ⊥) → item (y .sets) p ≡ item (x .sets) p
   pub set-here : item (y .sets) q ≡ union (item (x .sets) q) m
@@ -199,7 +205,7 @@ pub record Effect (n q m : ℕ) (x y : Progress) : Type 0 where
 
 pub effect : {n q m : ℕ} {x y : Progress} → Listed n x → q < n → Merged q m x y → Effect n q m x y
 effect l h (Merged.rests s e) = record {
-  on = onward-none l;
+  on = preserved-none l;
   state-else = λ p d. refl;
   sets-else = λ p d. refl;
   set-here = sym e;
@@ -214,11 +220,13 @@ effect {n} {q} {m} {x} l h (Merged.grows s) =
     record {
       on = record {
         list = record {
+          small = l .small;
           sets-long = simp length-set (l .sets-long);
           state-long = l .state-long;
           list-long = l .list-long;
           states = l .states;
           counted = l .counted;
+          few = l .few;
           within = l .within;
           waits = l .waits;
           apart = l .apart;
@@ -259,15 +267,15 @@ effect {n} {q} {m} {x} l h (Merged.adds k d b) =
       grown = λ i. let e : x .count + 1 - 1 ≡ x .count = omega arith in rw e (sym (new q u l h k));
     }
 
--- a merge into each of the points to which a point leads
-pub onward-propagated : {n m : ℕ} {ls : List ℕ} {x y : Progress} → Listed n x → ((q : ℕ) → List·Memᴰ q ls → q < n) → Propagated m ls x y → Onward n x y
-onward-propagated l h Propagated.none = onward-none l
-onward-propagated l h (Propagated.one {q = q} a) = effect l (h q (List·Memᴰ·head refl)) a .on
-onward-propagated l h (Propagated.two {q = q} {r = r} a b) =
+-- merges into the points to which a point leads preserve all that
+pub preserved-propagated : {n m : ℕ} {ls : List ℕ} {x y : Progress} → Listed n x → ((q : ℕ) → List·Memᴰ q ls → q < n) → Propagated m ls x y → Preserved n x y
+preserved-propagated l h Propagated.none = preserved-none l
+preserved-propagated l h (Propagated.one {q = q} a) = effect l (h q (List·Memᴰ·head refl)) a .on
+preserved-propagated l h (Propagated.two {q = q} {r = r} a b) =
     let f = effect l (h r (List·Memᴰ·tail (List·Memᴰ·head refl))) a .on in
-    onward-on f (effect (f .list) (h q (List·Memᴰ·head refl)) b .on)
+    preserved-on f (effect (f .list) (h q (List·Memᴰ·head refl)) b .on)
 
--- the last point of the worklist is taken
+-- and so does taking the last point of the worklist, which lowers the cost
 module _ {n : ℕ} {x : Progress} (l : Listed n x) (h : 0 < x .count) where
   pub last-within : last x < n
   last-within = l .within (x .count - 1) (omega arith)
@@ -275,7 +283,7 @@ module _ {n : ℕ} {x : Progress} (l : Listed n x) (h : 0 < x .count) where
   pub last-waits : item (x .state) (last x) ≡ waiting
   last-waits = l .waits (x .count - 1) (omega arith)
 
-  pub last-seen : item (taken x .state) (last x) ≡ seen
+  last-seen : item (taken x .state) (last x) ≡ seen
   last-seen = here (x .state) (last x) seen (omega (arith, last-within, l .state-long))
 
   cost-taken : cost n (taken x) < cost n x
@@ -283,14 +291,18 @@ module _ {n : ℕ} {x : Progress} (l : Listed n x) (h : 0 < x .count) where
       let c = cost-but x (taken x) last-within (λ p d. elsewhere (x .state) (last x) p seen d) (λ p d. refl) last-seen refl in
       omega (arith, ap (λ (s : ℕ). left s (item (x .sets) (last x))) last-waits, left-takes (item (x .sets) (last x)))
 
-  pub onward-taken : Onward n x (taken x)
-  onward-taken = record {
+  pub preserved-taken : Preserved n x (taken x)
+  preserved-taken = record {
     list = record {
+      small = l .small;
       sets-long = l .sets-long;
       state-long = simp length-set (l .state-long);
       list-long = l .list-long;
       states = set-each (λ p s. p < n → s ≤ waiting) (x .state) (omega (arith, last-within, l .state-long)) (λ d. omega arith) (λ p d. l .states p);
-      counted = omega (arith, tally-set l (last x) waiting seen last-within last-waits, tally-yes waiting waiting refl, tally-no waiting seen (λ e. omega arith));
+      counted =
+          let z = tally-no waiting seen (λ e. omega arith) in
+          omega (arith, tally-set l (last x) waiting seen last-within last-waits, tally-yes waiting waiting refl);
+      few = omega (arith, l .few);
       within = λ i d. l .within i (omega arith);
       waits = λ i d.
           elsewhere (x .state) (last x) (item (x .worklist) i) seen (l .apart i (x .count - 1) d (omega arith)) ∙ l .waits i (omega arith);
@@ -302,17 +314,17 @@ module _ {n : ℕ} {x : Progress} (l : Listed n x) (h : 0 < x .count) where
     costs = omega (arith, cost-taken);
   }
 
--- a visit, and any number of them
+-- so do a visit, which lowers the cost too, and any number of visits
 module _ {next : ℕ → List ℕ} {n : ℕ} (inside : Inside next n) {gens kills : List ℕ} where
-  pub onward-visited : {x y : Progress} → Listed n x → 0 < x .count → Visited next gens kills x y → Onward n x y × (cost n y < cost n x)
-  onward-visited {x} l h v =
-      let a = onward-taken l h in
-      let b = onward-propagated (a .list) (λ q k. inside (last x) q (last-within l h) k) (v .merges) in
-      (onward-on a b, omega (arith, cost-taken l h, b .costs))
+  pub preserved-visited : {x y : Progress} → Listed n x → 0 < x .count → Visited next gens kills x y → Preserved n x y × (cost n y < cost n x)
+  preserved-visited {x} l h v =
+      let a = preserved-taken l h in
+      let b = preserved-propagated (a .list) (λ q k. inside (last x) q (last-within l h) k) (v .merges) in
+      (preserved-on a b, omega (arith, cost-taken l h, b .costs))
 
-  pub onward-visits : {x y : Progress} → Listed n x → Visits next gens kills x y → Onward n x y
-  onward-visits l Visits.none = onward-none l
-  onward-visits l (Visits.more w h v) = let a = onward-visits l w in onward-on a (onward-visited (a .list) h v .0)
+  pub preserved-visits : {x y : Progress} → Listed n x → Visits next gens kills x y → Preserved n x y
+  preserved-visits l Visits.none = preserved-none l
+  preserved-visits l (Visits.more w h v) = let a = preserved-visits l w in preserved-on a (preserved-visited (a .list) h v .0)
 
 -- ---- what the functions ask of one another
 
@@ -323,7 +335,7 @@ progress-same {s} {t} d e = λ i. progress s t (d i) (e i)
 -- a point that does not wait can go into the worklist
 pub ready-room : {q : ℕ} {x : Progress} → Ready q x → (item (x .state) q ≡ waiting → ⊥)
     → (q < length (x .sets)) × (q < length (x .state)) × (q < mostPoints) × (x .count < length (x .worklist))
-ready-room {q} r k = omega (arith, list-room (r .list) q (r .below) k, r .list .sets-long, r .list .state-long, r .list .list-long)
+ready-room {q} r k = omega (arith, list-room (r .list) q (r .below) k, r .list .small, r .list .sets-long, r .list .state-long, r .list .list-long)
 
 -- the ways in which the set m is merged into that of q, where u is the union
 module _ {q m u : ℕ} {x : Progress} (e : u ≡ union (item (x .sets) q) m) where
@@ -338,33 +350,44 @@ module _ {q m u : ℕ} {x : Progress} (e : u ≡ union (item (x .sets) q) m) whe
   merged-adds b d s t = rw (d, e) (Merged.adds s (rw e at t) (rw e at b))
 
 -- the end of the worklist after a merge of m into the set of q
-pub merged-ends : {q m v : ℕ} {x y : Progress} → Ready q x → v ≡ union (item (x .sets) q) m → Merged q m x y
-    → Ended (y .sets) (y .worklist) (y .count) × (x .count < y .count → Ends (y .sets) (y .worklist) (y .count) (record { point = q; set = v }))
-merged-ends r e a =
+pub merged-last : {q m v : ℕ} {x y : Progress} → Ready q x → v ≡ union (item (x .sets) q) m → Merged q m x y
+    → LastThere (y .sets) (y .worklist) (y .count) × (x .count < y .count → LastIs (y .sets) (y .worklist) (y .count) (record { point = q; set = v }))
+merged-last r e a =
     let f = effect (r .list) (r .below) a in
-    (listed-ended (f .on .list), λ d k. (f .grown d, e ∙ sym (f .set-here)))
+    (listed-last (f .on .list), λ d k. (f .grown d, e ∙ sym (f .set-here)))
 
+-- the points that are next are ready for a merge, the first of two after the merge into the second
 module _ {next : Next} {x : Progress} (r : ReadyAll (targets next) x) where
   pub ready-one : {q : ℕ} → next ≡ To q → Ready q x
-  ready-one e = record { n = r .n; small = r .small; below = next-one (r .inside) e; list = r .list }
+  ready-one e = record { n = r .n; below = next-one (r .inside) e; list = r .list }
 
   pub ready-first : {q p : ℕ} → next ≡ Fork q p → Ready p x
-  ready-first e = record { n = r .n; small = r .small; below = next-both (r .inside) e .1; list = r .list }
+  ready-first e = record { n = r .n; below = next-both (r .inside) e .1; list = r .list }
 
   pub ready-second : {q p m : ℕ} {y : Progress} → next ≡ Fork q p → Merged p m x y → Ready q y
   ready-second e a =
       let b = next-both (r .inside) e in
-      record { n = r .n; small = r .small; below = b .0; list = effect (r .list) (b .1) a .on .list }
+      record { n = r .n; below = b .0; list = effect (r .list) (b .1) a .on .list }
 
--- the visit of p, the last point of the worklist, which has the set v
+-- the arms of propagate
+module _ {next : Next} {m : ℕ} {x : Progress} where
+  pub propagated-none : next ≡ Nowhere → Propagated m (targets next) x x
+  propagated-none e = rw e Propagated.none
+
+  pub propagated-one : {q : ℕ} {y : Progress} → next ≡ To q → Merged q m x y → Propagated m (targets next) x y
+  propagated-one e a = rw e (Propagated.one a)
+
+  pub propagated-two : {q p : ℕ} {y z : Progress} → next ≡ Fork q p → Merged p m x y → Merged q m y z → Propagated m (targets next) x z
+  propagated-two e a b = rw e (Propagated.two a b)
+
+-- the visit of p, the last point of the worklist
 module _ {x : Progress} {p : ℕ} (e : p ≡ last x) where
   pub ready-visit : {w : List ℕ} {s : Span} {gens kills l : List ℕ} → Given w s gens kills → Listed (s .size) x → 0 < x .count
       → l ≡ leads (funcIn w s) p → ReadyAll l (progress (x .sets) (set (x .state) p seen) (x .worklist) (x .count - 1))
   ready-visit {s = s} g l h d = record {
     n = s .size;
-    small = g .fits .small;
     inside = λ q m. g .fits .inside p q (rw e (last-within l h)) (rw d at m);
-    list = rw e (onward-taken l h .list);
+    list = rw e (preserved-taken l h .list);
   }
 
   pub visited : {next : ℕ → List ℕ} {gens kills l : List ℕ} {v m : ℕ} {y : Progress} → v ≡ item (x .sets) p

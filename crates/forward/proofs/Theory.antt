@@ -3,11 +3,12 @@ use Prim.Native.Nat.{ℕ, _^_, _≤_, _<_, max}
 use native.Mathlib.Omega.{arith}
 use native.Mathlib.Decide.{ℕ-discrete}
 use mathlib.Core.Path.{_≡_, refl, ap, sym, _∙_}
-use mathlib.Core.List.{List, [], _∷_, List·Memᴰ, List·Memᴰ·head, List·Memᴰ·tail, List·Memᴰ·cases-cons, List·Memᴰ·not-nil, List·Memᴰ·eq-of-singleton}
+use mathlib.Core.List.{List, List·Memᴰ, List·Memᴰ·head, List·Memᴰ·tail, List·Memᴰ·cases-cons, List·Memᴰ·not-nil, List·Memᴰ·eq-of-singleton}
 use mathlib.Core.Logic.{⊎-elim}
 use lib.ListN.{length}
-use Rattle.bits.specs.Bits.{setBits, bit, union, transfer, cleared}
+use Rattle.bits.specs.Bits.{setBits, bit, cleared}
 use Rattle.bits.proofs.Laws.{bit-le, bit-zero, bit-union, bit-transfer, length-cleared, item-cleared}
+use Rattle.model.specs.Limits.{mostPoints}
 use Rattle.model.specs.Walk.{Walk, never}
 use Rattle.tables.specs.Tables.{item}
 use Rattle.tables.specs.Valid.{Kept}
@@ -17,24 +18,24 @@ use Rattle.flow.specs.Flow.{Inside}
 use Rattle.flow.proofs.Laws.{set-each, kept-set, kept-cleared}
 use Rattle.forward.specs.Forward.{Carried, Solved}
 use Rattle.forward.specs.Worklist.{unseen, seen, waiting, Progress, progress, added, last, taken, leaving, Propagated, Visited, Visits, tally, Listed}
-use Rattle.forward.proofs.List.{sum-zero, tally-no, list-none, listed-put, Effect, effect, Onward, last-within, last-waits, last-seen, onward-visits, onward-taken}
+use Rattle.forward.proofs.List.{sum-zero, tally-no, list-none, listed-put, Effect, effect, last-within, last-waits, preserved-visits, preserved-taken}
 
 -- ---- what comes to a point
 
 -- the set m has come to point b
-abbrev Got : Progress → ℕ → ℕ → Type 0
-Got x b m = (item (x .state) b ≡ unseen → ⊥) × ((j : ℕ) → j < setBits → bit m j ≡ 1 → bit (item (x .sets) b) j ≡ 1)
+abbrev Arrived : Progress → ℕ → ℕ → Type 0
+Arrived x b m = (item (x .state) b ≡ unseen → ⊥) × ((j : ℕ) → j < setBits → bit m j ≡ 1 → bit (item (x .sets) b) j ≡ 1)
 
 -- a merge of m into the set of q: m has come to q, what has come stays, and a point that does not wait is as before
 module _ {n q m : ℕ} {x y : Progress} (f : Effect n q m x y) where
   bits-here : (j : ℕ) → bit (item (y .sets) q) j ≡ max (bit (item (x .sets) q) j) (bit m j)
   bits-here j = ap (λ (v : ℕ). bit v j) (f .set-here) ∙ bit-union (item (x .sets) q) m j
 
-  got-here : Got y q m
-  got-here = (f .found, λ j h e. omega (arith, bits-here j, bit-le (item (x .sets) q) j))
+  arrived-here : Arrived y q m
+  arrived-here = (f .found, λ j h e. omega (arith, bits-here j, bit-le (item (x .sets) q) j))
 
-  got-on : (b v : ℕ) → Got x b v → Got y b v
-  got-on b v g =
+  arrived-on : (b v : ℕ) → Arrived x b v → Arrived y b v
+  arrived-on b v g =
       elim (ℕ-discrete b q) [
         | yes d ↦ rw d (f .found, λ j h e. omega (arith, bits-here j, bit-le m j, (rw d at (g .1)) j h e))
         | no d ↦ rw (f .state-else b d, f .sets-else b d) g
@@ -58,9 +59,9 @@ module _ (next : ℕ → List ℕ) (n entry : ℕ) (gens kills : List ℕ) where
   record Right (But : ℕ → Type 0) (x : Progress) : Type 0 where
     pub reached : (a : ℕ) → a < n → (item (x .state) a ≡ unseen → ⊥) → Walk next never 0 a
     pub carried : (a j : ℕ) → a < n → j < setBits → bit (item (x .sets) a) j ≡ 1 → Carried next entry (item gens) (item kills) j a
-    pub entered : Got x 0 entry
+    pub entered : Arrived x 0 entry
     pub passed : (a b : ℕ) → a < n → (But a → ⊥) → (item (x .state) a ≡ unseen → ⊥) → (item (x .state) a ≡ waiting → ⊥) → List·Memᴰ b (next a)
-        → Got x b (leaving gens kills x a)
+        → Arrived x b (leaving gens kills x a)
 
   -- a visit of p, which m leaves
   module _
@@ -68,12 +69,12 @@ module _ (next : ℕ → List ℕ) (n entry : ℕ) (gens kills : List ℕ) where
       (walk : Walk next never 0 p)
       (brings : (b j : ℕ) → List·Memᴰ b (next p) → j < setBits → bit m j ≡ 1 → Carried next entry (item gens) (item kills) j b) where
     -- it is under way: the tables are right but for p, and m is what leaves p unless p waits again
-    record Midway (x : Progress) : Type 0 where
+    record Visiting (x : Progress) : Type 0 where
       pub right : Right (λ a. a ≡ p) x
       pub same : (item (x .state) p ≡ waiting → ⊥) → m ≡ leaving gens kills x p
 
-    midway-merged : {q : ℕ} {x y : Progress} → List·Memᴰ q (next p) → Effect n q m x y → Midway x → Midway y
-    midway-merged {q} {x} {y} k f w = record {
+    visiting-merged : {q : ℕ} {x y : Progress} → List·Memᴰ q (next p) → Effect n q m x y → Visiting x → Visiting y
+    visiting-merged {q} {x} {y} k f w = record {
       right = record {
         reached = λ a h u. elim (ℕ-discrete a q) [
           | yes d ↦ rw d (walk-on walk k)
@@ -88,28 +89,28 @@ module _ (next : ℕ → List ℕ) (n entry : ℕ) (gens kills : List ℕ) where
           ]
           | no d ↦ w .right .carried a j h i (rw (f .sets-else a d) at e)
         ];
-        entered = got-on f 0 entry (w .right .entered);
+        entered = arrived-on f 0 entry (w .right .entered);
         passed = λ a b h o u v i.
             let (s, t) = as-before f a v in
-            rw t (got-on f b (leaving gens kills x a) (w .right .passed a b h o (rw (← s) u) (rw (← s) v) i));
+            rw t (arrived-on f b (leaving gens kills x a) (w .right .passed a b h o (rw (← s) u) (rw (← s) v) i));
       };
       same = λ d. let (s, t) = as-before f p d in rw t (w .same (rw (← s) d));
     }
 
-    midway-propagated : {ls : List ℕ} {x y : Progress} → Inside next n → p < n → Listed n x → ((q : ℕ) → List·Memᴰ q ls → List·Memᴰ q (next p))
-        → Midway x → Propagated m ls x y → Midway y × ((b : ℕ) → List·Memᴰ b ls → Got y b m)
-    midway-propagated i h l k w Propagated.none = (w, λ b e. absurd (List·Memᴰ·not-nil e))
-    midway-propagated i h l k w (Propagated.one {q = q} a) =
+    visiting-propagated : {ls : List ℕ} {x y : Progress} → Inside next n → p < n → Listed n x → ((q : ℕ) → List·Memᴰ q ls → List·Memᴰ q (next p))
+        → Visiting x → Propagated m ls x y → Visiting y × ((b : ℕ) → List·Memᴰ b ls → Arrived y b m)
+    visiting-propagated i h l k w Propagated.none = (w, λ b e. absurd (List·Memᴰ·not-nil e))
+    visiting-propagated i h l k w (Propagated.one {q = q} a) =
         let g = k q (List·Memᴰ·head refl) in
         let f = effect l (i p q h g) a in
-        (midway-merged g f w, λ b e. let d = List·Memᴰ·eq-of-singleton e in rw d (got-here f))
-    midway-propagated i h l k w (Propagated.two {q = q} {r = r} a b) =
+        (visiting-merged g f w, λ b e. let d = List·Memᴰ·eq-of-singleton e in rw d (arrived-here f))
+    visiting-propagated i h l k w (Propagated.two {q = q} {r = r} a b) =
         let g = k q (List·Memᴰ·head refl) in
         let j = k r (List·Memᴰ·tail (List·Memᴰ·head refl)) in
         let e = effect l (i p r h j) a in
         let f = effect (e .on .list) (i p q h g) b in (
-          midway-merged g f (midway-merged j e w),
-          λ c d. ⊎-elim (λ o. rw o (got-here f)) (λ o. let z = List·Memᴰ·eq-of-singleton o in rw z (got-on f r m (got-here e))) (List·Memᴰ·cases-cons d),
+          visiting-merged g f (visiting-merged j e w),
+          λ c d. ⊎-elim (λ o. rw o (arrived-here f)) (λ o. let z = List·Memᴰ·eq-of-singleton o in rw z (arrived-on f r m (arrived-here e))) (List·Memᴰ·cases-cons d),
         )
 
   -- the last point of the worklist is visited: it is seen as before, and what leaves it comes to the points that are next
@@ -117,7 +118,7 @@ module _ (next : ℕ → List ℕ) (n entry : ℕ) (gens kills : List ℕ) where
     right-visited : {x y : Progress} → Listed n x → 0 < x .count → Right (λ a. ⊥) x → Visited next gens kills x y → Right (λ a. ⊥) y
     right-visited {x} {y} l h r v =
         let w = r .reached (last x) (last-within l h) (λ e. omega (arith, last-waits l h)) in
-        let (d, g) = midway-propagated (last x) (leaving gens kills x (last x)) w brings inside (last-within l h) (onward-taken l h .list) (λ q k. k)
+        let (d, g) = visiting-propagated (last x) (leaving gens kills x (last x)) w brings inside (last-within l h) (preserved-taken l h .list) (λ q k. k)
         (record { right = right-taken; same = λ d. refl }) (v .merges) in
         record {
           reached = d .right .reached;
@@ -135,16 +136,17 @@ module _ (next : ℕ → List ℕ) (n entry : ℕ) (gens kills : List ℕ) where
         was-seen : (a : ℕ) → (item (taken x .state) a ≡ unseen → ⊥) → item (x .state) a ≡ unseen → ⊥
         was-seen = set-each (λ a s. (s ≡ unseen → ⊥) → item (x .state) a ≡ unseen → ⊥) (x .state) long (λ k e. omega (arith, last-waits l h)) (λ a d k. k)
 
-        got-taken : (b m : ℕ) → Got x b m → Got (taken x) b m
-        got-taken b m g = (set-each (λ a s. (item (x .state) a ≡ unseen → ⊥) → s ≡ unseen → ⊥) (x .state) long (λ k e. omega arith) (λ a d k. k) b (g .0), g .1)
+        arrived-taken : (b m : ℕ) → Arrived x b m → Arrived (taken x) b m
+        arrived-taken b m g =
+            (set-each (λ a s. (item (x .state) a ≡ unseen → ⊥) → s ≡ unseen → ⊥) (x .state) long (λ k e. omega arith) (λ a d k. k) b (g .0), g .1)
 
         right-taken : Right (λ a. a ≡ last x) (taken x)
         right-taken = record {
           reached = λ a b s. r .reached a b (was-seen a s);
           carried = r .carried;
-          entered = got-taken 0 entry (r .entered);
+          entered = arrived-taken 0 entry (r .entered);
           passed = λ a b c o s t k.
-              got-taken b (leaving gens kills x a) (r .passed a b c (λ e. e) (was-seen a s) (rw (elsewhere (x .state) (last x) a seen o) at t) k);
+              arrived-taken b (leaving gens kills x a) (r .passed a b c (λ e. e) (was-seen a s) (rw (elsewhere (x .state) (last x) a seen o) at t) k);
         }
 
         brings : (b j : ℕ) → List·Memᴰ b (next (last x)) → j < setBits → bit (leaving gens kills x (last x)) j ≡ 1
@@ -162,12 +164,12 @@ module _ (next : ℕ → List ℕ) (n entry : ℕ) (gens kills : List ℕ) where
 
     right-visits : {x y : Progress} → Listed n x → Right (λ a. ⊥) x → Visits next gens kills x y → Right (λ a. ⊥) y
     right-visits l r Visits.none = r
-    right-visits l r (Visits.more w h v) = right-visited (onward-visits inside l w .list) h (right-visits l r w) v
+    right-visits l r (Visits.more w h v) = right-visited (preserved-visits inside l w .list) h (right-visits l r w) v
 
     -- when the worklist is empty all that walks carry is there
     module _ (some : 1 ≤ n) {x : Progress} (l : Listed n x) (none : x .count ≡ 0) (r : Right (λ a. ⊥) x) where
       -- what leaves a seen point has come to those that are next
-      passes : (a b : ℕ) → a < n → (item (x .state) a ≡ unseen → ⊥) → List·Memᴰ b (next a) → Got x b (leaving gens kills x a)
+      passes : (a b : ℕ) → a < n → (item (x .state) a ≡ unseen → ⊥) → List·Memᴰ b (next a) → Arrived x b (leaving gens kills x a)
       passes a b h s k = r .passed a b h (λ e. e) s (list-none l none a h) k
 
       marks : {a b : ℕ} → a < n → (item (x .state) a ≡ unseen → ⊥) → Walk next never a b → (b < n) × (item (x .state) b ≡ unseen → ⊥)
@@ -208,6 +210,7 @@ module _
     {s′ t′ : List ℕ}
     {x : Progress}
     (some : 1 ≤ n)
+    (few : n ≤ mostPoints)
     (i : n ≤ length s)
     (j : n ≤ length t)
     (k : n ≤ length l)
@@ -235,11 +238,13 @@ module _
       0
       entry
       (record {
+        small = few;
         sets-long = sets-long;
         state-long = state-long;
         list-long = k;
         states = λ p h. omega (arith, zero-state p h);
         counted = sym (sum-zero (λ p. tally waiting (item t′ p)) n (λ p h. tally-no waiting (item t′ p) (λ d. omega (arith, zero-state p h))));
+        few = omega arith;
         within = λ a h. absurd (omega arith);
         waits = λ a h. absurd (omega arith);
         apart = λ a b c h. absurd (omega arith);
@@ -266,7 +271,7 @@ module _
     pub start-solved : {y : Progress} → Inside next n → ((a : ℕ) → item kills a < 2 ^ setBits) → Visits next gens kills x y → y .count ≡ 0
         → Solved next n entry gens kills (y .sets) (y .state) × Kept n s (y .sets) × Kept n t (y .state)
     start-solved inside small v z =
-        let o = onward-visits inside start-listed v in (
+        let o = preserved-visits inside start-listed v in (
           solved-empty next n entry gens kills inside small some (o .list) z
               (right-visits next n entry gens kills inside small start-listed (rw g start-right) v),
           kept-on (kept-cleared e i) (kept-on (rw g (kept-set s′ 0 entry some)) (o .sets-kept)),

@@ -42,12 +42,12 @@ last x = item (x .worklist) (x .count - 1)
 abbrev pub taken : Progress → Progress
 taken x = progress (x .sets) (set (x .state) (last x) seen) (x .worklist) (x .count - 1)
 
--- the first count entries of the worklist l are there, and the set of the last of them; at is that point and its set
-abbrev pub Ended : List ℕ → List ℕ → ℕ → Type 0
-Ended sets l count = (count ≤ length l) × (0 < count → item l (count - 1) < length sets)
+-- the first count entries of the worklist l are there, and so is the set of the last of them; at is that point and its set
+abbrev pub LastThere : List ℕ → List ℕ → ℕ → Type 0
+LastThere sets l count = (count ≤ length l) × (0 < count → item l (count - 1) < length sets)
 
-abbrev pub Ends : List ℕ → List ℕ → ℕ → Last → Type 0
-Ends sets l count at = 0 < count → (at .point ≡ item l (count - 1)) × (at .set ≡ item sets (at .point))
+abbrev pub LastIs : List ℕ → List ℕ → ℕ → Last → Type 0
+LastIs sets l count at = 0 < count → (at .point ≡ item l (count - 1)) × (at .set ≡ item sets (at .point))
 
 -- the set m is merged into that of point q, which becomes the union: it brings nothing new; q waits already; q goes into the worklist, since it
 -- is seen for the first time or its set has grown
@@ -82,13 +82,16 @@ pub data Visits (next : ℕ → List ℕ) (gens kills : List ℕ) (x : Progress)
 unfoldable pub tally : ℕ → ℕ → ℕ
 tally t s = if eqb s t then 1 else 0
 
--- the tables have room for n points, each with one of the three states, and the worklist holds each point that waits, once
+-- the tables have room for n points, each with one of the three states; the worklist holds each point that waits, so never more than mostPoints,
+-- and none twice
 pub record Listed (n : ℕ) (x : Progress) : Type 0 where
+  pub small : n ≤ mostPoints
   pub sets-long : n ≤ length (x .sets)
   pub state-long : n ≤ length (x .state)
   pub list-long : n ≤ length (x .worklist)
   pub states : (p : ℕ) → p < n → item (x .state) p ≤ waiting
   pub counted : x .count ≡ sum (λ p. tally waiting (item (x .state) p)) n
+  pub few : x .count ≤ n
   pub within : (i : ℕ) → i < x .count → item (x .worklist) i < n
   pub waits : (i : ℕ) → i < x .count → item (x .state) (item (x .worklist) i) ≡ waiting
   pub apart : (i j : ℕ) → i < j → j < x .count → item (x .worklist) i ≡ item (x .worklist) j → ⊥
@@ -96,12 +99,10 @@ pub record Listed (n : ℕ) (x : Progress) : Type 0 where
 -- what a merge requires: of point q, and of each of the points l
 pub record Ready (q : ℕ) (x : Progress) : Type 0 where
   pub n : ℕ
-  pub small : n ≤ mostPoints
   pub below : q < n
   pub list : Listed n x
 
 pub record ReadyAll (l : List ℕ) (x : Progress) : Type 0 where
   pub n : ℕ
-  pub small : n ≤ mostPoints
   pub inside : (q : ℕ) → List·Memᴰ q l → q < n
   pub list : Listed n x

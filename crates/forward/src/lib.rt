@@ -8,7 +8,7 @@ ghost use Rattle.tables.specs.Tables.{item, funcIn};
 ghost use Rattle.tables.specs.Valid.{Kept};
 ghost use Rattle.flow.specs.Flow.{targets};
 ghost use Rattle.forward.specs.Forward.{Given, Solved};
-ghost use Rattle.forward.specs.Worklist.{progress, added, Ended, Ends, Merged, Propagated, Visited, Visits, Listed, Ready, ReadyAll};
+ghost use Rattle.forward.specs.Worklist.{progress, added, LastThere, LastIs, Merged, Propagated, Visited, Visits, Listed, Ready, ReadyAll};
 use flow::Next;
 use model::Limits;
 use tables::Span;
@@ -60,8 +60,8 @@ fn take_at(worklist: &[u8], last: usize) -> usize
 
 // The last point of the worklist, where it has one.
 fn last_of(sets: &[u64], worklist: &[u8], count: usize) -> Last
-    requires { ⌜ Ended (now sets) (now worklist) count ⌝ }
-    ensures { λ r. ⌜ Ends (now (sets .entry)) (now (worklist .entry)) count r ⌝ }
+    requires { ⌜ LastThere (now sets) (now worklist) count ⌝ }
+    ensures { λ r. ⌜ LastIs (now (sets .entry)) (now (worklist .entry)) count r ⌝ }
 {
     if count == 0 {
         return Last { point: 0, set: 0 };
@@ -75,8 +75,8 @@ fn last_of(sets: &[u64], worklist: &[u8], count: usize) -> Last
 
 // The same after a step: it is at, with no load, where the worklist has grown.
 fn last_after(sets: &[u64], worklist: &[u8], before: usize, count: usize, at: Last) -> Last
-    requires { ⌜ Ended (now sets) (now worklist) count × (before < count → Ends (now sets) (now worklist) count at) ⌝ }
-    ensures { λ r. ⌜ Ends (now (sets .entry)) (now (worklist .entry)) count r ⌝ }
+    requires { ⌜ LastThere (now sets) (now worklist) count × (before < count → LastIs (now sets) (now worklist) count at) ⌝ }
+    ensures { λ r. ⌜ LastIs (now (sets .entry)) (now (worklist .entry)) count r ⌝ }
 {
     if before < count {
         return at;
@@ -143,7 +143,7 @@ fn merge_last(
     requires { ⌜ Ready q (progress (now sets) (now state) (now worklist) count) ⌝ }
     ensures { λ r. ⌜ Merged q m (progress (now (sets .entry)) (now (state .entry)) (now (worklist .entry)) count)
         (progress (now (sets .exit)) (now (state .exit)) (now (worklist .exit)) (r .count))
-        × Ends (now (sets .exit)) (now (worklist .exit)) (r .count) (r .last) ⌝ }
+        × LastIs (now (sets .exit)) (now (worklist .exit)) (r .count) (r .last) ⌝ }
 {
     let set = bits::union_of(sets[q], m);
     let more = merge(sets, state, worklist, count, q, m);
@@ -165,7 +165,7 @@ fn propagate(
     requires { ⌜ ReadyAll (targets next) (progress (now sets) (now state) (now worklist) count) ⌝ }
     ensures { λ r. ⌜ Propagated m (targets next) (progress (now (sets .entry)) (now (state .entry)) (now (worklist .entry)) count)
         (progress (now (sets .exit)) (now (state .exit)) (now (worklist .exit)) (r .count))
-        × Ends (now (sets .exit)) (now (worklist .exit)) (r .count) (r .last) ⌝ }
+        × LastIs (now (sets .exit)) (now (worklist .exit)) (r .count) (r .last) ⌝ }
 {
     match next {
         Next::Nowhere => End {
@@ -193,11 +193,12 @@ fn visit(
     at: Last,
 ) -> End
     requires { ⌜ Given (now work) s (now gens) (now kills) × Listed (s .size) (progress (now sets) (now state) (now worklist) count)
-        × (0 < count) × Ends (now sets) (now worklist) count at ⌝ }
+        × (0 < count) × LastIs (now sets) (now worklist) count at ⌝ }
     ensures { λ r. ⌜ Visited (leads (funcIn (now (work .entry)) s)) (now (gens .entry)) (now (kills .entry))
         (progress (now (sets .entry)) (now (state .entry)) (now (worklist .entry)) count)
         (progress (now (sets .exit)) (now (state .exit)) (now (worklist .exit)) (r .count))
-        × Ends (now (sets .exit)) (now (worklist .exit)) (r .count) (r .last) ⌝ }
+        × Listed (s .size) (progress (now (sets .exit)) (now (state .exit)) (now (worklist .exit)) (r .count))
+        × LastIs (now (sets .exit)) (now (worklist .exit)) (r .count) (r .last) ⌝ }
 {
     let left = count - 1;
     let p = at.point;

@@ -1,13 +1,12 @@
 -- Rounds until one changes nothing.
 use native.Mathlib.Omega.{arith}
-use mathlib.Core.Path.{_∙_}
 use Rattle.model.specs.Walk.{leads}
 use Rattle.tables.specs.Tables.{funcIn}
 use Rattle.tables.specs.Valid.{Kept}
 use Rattle.tables.proofs.Valid.{kept-same, kept-on}
 use Rattle.flow.proofs.Laws.{kept-cleared}
 use Rattle.backward.specs.Rounds.{cost, Right}
-use Rattle.backward.proofs.Laws.{right-cleared, solved-round}
+use Rattle.backward.proofs.Theory.{right-cleared, solved-round}
 use Rattle.backward.proofs.backward.Statement.{statement}
 use Rattle.backward.proofs.backward.Tie as tie
 

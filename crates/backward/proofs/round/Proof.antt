@@ -5,7 +5,7 @@ use mathlib.Core.Path.{_≡_}
 use Rattle.model.specs.Walk.{leads}
 use Rattle.tables.specs.Tables.{funcIn}
 use Rattle.backward.specs.Rounds.{Round}
-use Rattle.backward.proofs.Laws.{round-starts, round-writes, round-leaves}
+use Rattle.backward.proofs.Theory.{round-starts, round-writes, round-leaves}
 use Rattle.backward.proofs.round.Statement.{statement}
 use Rattle.backward.proofs.round.Tie as tie
 

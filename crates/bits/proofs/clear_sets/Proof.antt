@@ -18,10 +18,7 @@ clear-sets-spec =
     Inv-loop
     μ-loop
     (λ c. clearing-none _ _)
-    (λ c. omega arith)
-    (λ c. omega arith)
-    (λ c. omega arith)
-    (λ c. omega arith)
+    (λ c. omega arith) (λ c. omega arith) (λ c. omega arith) (λ c. omega arith)
     (λ c. clearing-more (c .before .loop .inv) (omega arith) (omega arith))
     (λ c. c .before .loop .inv .long)
     (λ c. clearing-end (c .before .loop .inv) (omega arith)))

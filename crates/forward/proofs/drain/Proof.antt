@@ -3,15 +3,16 @@ use native.Mathlib.Omega.{arith}
 use mathlib.Core.Path.{_≡_}
 use Rattle.model.specs.Walk.{leads}
 use Rattle.tables.specs.Tables.{funcIn}
-use Rattle.forward.specs.Worklist.{progress, Ends, Visits}
-use Rattle.forward.proofs.List.{cost, listed-ended, onward-visited, onward-visits}
+use Rattle.forward.specs.Worklist.{progress, LastIs, Visits}
+use Rattle.forward.proofs.List.{cost, Preserved, preserved-none, preserved-on, listed-last, preserved-visited}
 use Rattle.forward.proofs.drain.Statement.{statement}
 use Rattle.forward.proofs.drain.Tie as tie
 
 abbrev Inv-loop : tie.InvT-loop
 Inv-loop work s gens kills sets₀ state₀ worklist₀ first count₀ at₀ sets state worklist count at =
     Visits (leads (funcIn work s)) gens kills (progress sets₀ state₀ worklist₀ first) (progress sets state worklist count)
-    × Ends sets worklist count at
+    × Preserved (s .size) (progress sets₀ state₀ worklist₀ first) (progress sets state worklist count)
+    × LastIs sets worklist count at
 
 abbrev μ-loop : tie.MeasureT-loop
 μ-loop work s gens kills sets₀ state₀ worklist₀ first count₀ at₀ sets state worklist count at =
@@ -23,18 +24,27 @@ drain-spec =
     (tie.spec
     Inv-loop
     μ-loop
-    (λ c κs. listed-ended (c .before .before .before .before .before .before .before .before .pre .1))
-    (λ c. (Visits.none, c .last-of .ensures))
+    (λ c κs. search listed-last)
+    (λ c. (Visits.none, search preserved-none, c .last-of .ensures))
     (λ c κs.
-    let p = c .before .before .before .before .before .before .before .before .before .before .before .before .before .before .pre in
-    let i = c .before .before .before .before .loop .inv in
-    (p .0, onward-visits (p .0 .fits .inside) (p .1) (i .0) .list, omega arith, i .1))
+    let l = c .before .before .before .before in
+    let p = l .before .before .before .before .before .before .before .before .before .before .pre in
+    (p .0, l .loop .inv .1 .list, omega arith, l .loop .inv .2))
     (λ c.
-    let p = c .before .before .before .before .before .before .before .before .before .before .before .before .before .before .before .before .before .before .before .before .before .before .pre in
-    let o = onward-visits (p .0 .fits .inside) (p .1) (c .before .before .before .before .before .before .before .before .before .before .before .before .loop .inv .0) in
-    onward-visited (p .0 .fits .inside) (o .list) (c .before .before .before .before .before .before .before .before .before .before .before .loop-test .taken) (c .before .before .before .before .before .before .before .visit .ensures .0) .1)
-    (λ c. let r = c .before .before .before .before .before .before .before .visit .ensures in (Visits.more (c .before .before .before .before .before .before .before .before .before .before .before .before .loop .inv .0) (c .before .before .before .before .before .before .before .before .before .before .before .loop-test .taken) (r .0), r .1))
-    (λ c. onward-visits (c .before .before .before .before .before .before .before .before .before .before .before .pre .0 .fits .inside) (c .before .before .before .before .before .before .before .before .before .before .before .pre .1) (c .before .loop .inv .0) .sets-kept .size)
-    (λ c. onward-visits (c .before .before .before .before .before .before .before .before .before .before .before .pre .0 .fits .inside) (c .before .before .before .before .before .before .before .before .before .before .before .pre .1) (c .before .loop .inv .0) .state-kept .size)
-    (λ c. onward-visits (c .before .before .before .before .before .before .before .before .before .before .before .pre .0 .fits .inside) (c .before .before .before .before .before .before .before .before .before .before .before .pre .1) (c .before .loop .inv .0) .list-same)
+    let t = c .before .before .before .before .before .before .before .before .before .before .before in
+    let p = t .before .before .before .before .before .before .before .before .before .before .before .pre in
+    let v = c .before .before .before .before .before .before .before .visit .ensures .0 in
+    preserved-visited (p .0 .fits .inside) (t .before .loop .inv .1 .list) (t .loop-test .taken) v .1)
+    (λ c.
+    let t = c .before .before .before .before .before .before .before .before .before .before .before in
+    let p = t .before .before .before .before .before .before .before .before .before .before .before .pre in
+    let r = c .before .before .before .before .before .before .before .visit .ensures in
+    let i = t .before .loop .inv in (
+      Visits.more (i .0) (t .loop-test .taken) (r .0),
+      preserved-on (i .1) (preserved-visited (p .0 .fits .inside) (i .1 .list) (t .loop-test .taken) (r .0) .0),
+      r .2,
+    ))
+    (λ c. c .before .loop .inv .1 .sets-kept .size)
+    (λ c. c .before .loop .inv .1 .state-kept .size)
+    (λ c. c .before .loop .inv .1 .list-same)
     (λ c. let e : c .before .loop .count ≡ 0 = omega arith in rw e at (c .before .loop .inv .0)))

@@ -1,5 +1,4 @@
 -- The worklist is empty, or its end is loaded.
-use Prim.Native.Nat.{_-_}
 use native.Mathlib.Omega.{arith}
 use borrow.Author.Needs.{needs}
 use Rattle.forward.proofs.last_of.Statement.{statement}

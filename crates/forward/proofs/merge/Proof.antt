@@ -11,18 +11,22 @@ merge-spec =
     (tie.spec
     (λ c. search needs) (λ c. search needs) (λ c. search needs)
     (λ c κs. search needs)
-    (λ c κs. ready-room (c .before .before .before .before .before .before .before .before .before .before .pre) (λ e. omega (arith, c .before .before .before .if1 .taken)))
+    (λ c κs.
+    let i = c .before .before .before in
+    ready-room (i .before .before .before .before .before .before .before .pre) (λ e. omega (arith, i .if1 .taken)))
     (λ c. search needs) (λ c. search needs) (λ c. search needs)
     (λ c.
-    let s = c .before .before .before .before .before .before .before .before .before .before in
-    merged-adds (s .before .union-of .ensures) (omega (arith, s .before .union-of .ok)) (c .before .before .before .before .before .before .add-to-list .ensures)
-    (λ e. omega (arith, s .if1 .taken)) (λ e. absurd (e (s .if1 .taken))))
-    (λ c. merged-rests (c .before .before .union-of .ensures) (c .before .if1 .left) (c .if2 .taken))
+    let a = c .before .before .before .before .before .before in
+    let i = a .before .before .before .before in
+    let u = i .before .union-of in
+    merged-adds (u .ensures) (omega (arith, u .ok)) (a .add-to-list .ensures) (λ e. omega (arith, i .if1 .taken)) (λ e. absurd (e (i .if1 .taken))))
+    (λ c. search (merged-rests, c .before .if1 .left))
     (λ c. search needs) (λ c. search needs) (λ c. search needs)
-    (λ c. merged-grows (c .before .before .before .union-of .ensures) (c .if3 .taken))
-    (λ c κs. ready-room (c .before .before .before .before .before .before .before .before .before .before .before .before .pre) (c .before .before .before .if3 .left))
+    (λ c. search merged-grows)
+    (λ c κs. let i = c .before .before .before in ready-room (i .before .before .before .before .before .before .before .before .before .pre) (i .if3 .left))
     (λ c. search needs) (λ c. search needs) (λ c. search needs)
     (λ c.
-    let s = c .before .before .before .before .before .before .before .before .before .before in
-    let u = s .before .before .before .union-of in
-    merged-adds (u .ensures) (omega (arith, u .ok)) (c .before .before .before .before .before .before .add-to-list2 .ensures) (s .if3 .left) (λ e. s .before .if2 .left)))
+    let a = c .before .before .before .before .before .before in
+    let i = a .before .before .before .before in
+    let u = i .before .before .before .union-of in
+    merged-adds (u .ensures) (omega (arith, u .ok)) (a .add-to-list2 .ensures) (i .if3 .left) (λ e. i .before .if2 .left)))

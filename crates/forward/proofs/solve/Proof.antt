@@ -15,8 +15,11 @@ solve-spec =
     let m = a .before .before .before .before .before .before in
     let s = m .before .before .before .before in
     let b = s .before .before .before .before .before .before .before .before in
-    let p = b .pre in
-    (p .0, start-listed _ _ _ _ (b .args .worklist .now) (p .0 .fits .some) (p .1) (p .2) (p .3) (s .clear-sets .ensures) (m .clear-marks .ensures) (a .add-to-list .ensures)))
+    let p = b .pre in (
+      p .0,
+      start-listed _ _ _ _ (b .args .worklist .now) (p .0 .fits .some) (p .0 .fits .small) (p .1) (p .2) (p .3)
+          (s .clear-sets .ensures) (m .clear-marks .ensures) (a .add-to-list .ensures),
+    ))
     (λ c. search needs) (λ c. search needs) (λ c. search needs)
     (λ c.
     let a = c .before .before .before .before .before .before .before .before .before .before .before .before .before .before .before .before in
@@ -25,5 +28,6 @@ solve-spec =
     let k = s .before .before .before .before .before in
     let b = k .before .before .before in
     let p = b .pre in
-    start-solved _ _ _ _ (b .args .worklist .now) (p .0 .fits .some) (p .1) (p .2) (p .3) (s .clear-sets .ensures) (m .clear-marks .ensures) (a .add-to-list .ensures)
+    start-solved _ _ _ _ (b .args .worklist .now) (p .0 .fits .some) (p .0 .fits .small) (p .1) (p .2) (p .3)
+    (s .clear-sets .ensures) (m .clear-marks .ensures) (a .add-to-list .ensures)
     _ _ _ (p .0 .fits .inside) (λ a. (k .shared-slice-known3 .given a) .fits) (c .before .before .before .before .before .before .drain .ensures) refl))

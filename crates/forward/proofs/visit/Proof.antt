@@ -3,7 +3,7 @@ use Prim.Native.Nat.{_<_}
 use native.Mathlib.Omega.{arith}
 use lib.ListN.{length-set}
 use borrow.Author.Needs.{needs}
-use Rattle.forward.proofs.List.{last-within, ready-visit, visited}
+use Rattle.forward.proofs.List.{last-within, ready-visit, visited, preserved-visited}
 use Rattle.forward.proofs.visit.Statement.{statement}
 use Rattle.forward.proofs.visit.Tie as tie
 
@@ -15,18 +15,24 @@ visit-spec =
     tie.close
     (tie.spec
     (λ c. search needs)
-    (λ c. let h = place (c .before .before .before .before .before .before) in omega (arith, c .before .before .before .before .before .before .pre .1 .state-long))
-    (λ c. let h = place (c .before .before .before .before .before .before) in omega (arith, c .before .before .before .before .before .before .pre .0 .fits .small))
-    (λ c. let h = place (c .before .before .before .before .before .before .before) in omega (arith, c .before .before .before .before .before .before .before .pre .0 .kills-long))
-    (λ c. let h = place (c .before .before .before .before .before .before .before) in omega (arith, c .before .before .before .before .before .before .before .pre .0 .fits .small))
-    (λ c. let h = place (c .before .before .before .before .before .before .before .before) in omega (arith, c .before .before .before .before .before .before .before .before .pre .0 .gens-long))
+    (λ c. let h = place (c .before .before .before .before .before .before) in omega arith)
+    (λ c. let h = place (c .before .before .before .before .before .before) in omega arith)
+    (λ c. let h = place (c .before .before .before .before .before .before .before) in omega arith)
+    (λ c. let h = place (c .before .before .before .before .before .before .before) in omega arith)
+    (λ c. let h = place (c .before .before .before .before .before .before .before .before) in omega arith)
     (λ c κs. search needs)
-    (λ c κs. (c .before .before .before .before .before .before .before .before .before .pre .0 .fits .lies, place (c .before .before .before .before .before .before .before .before .before)))
-    (λ c κs. let p = c .before .before .before .before .before .before .before .before .before .before .before .before .before .pre in ready-visit (p .3 (p .2) .0) (p .0) (p .1) (p .2) (c .before .before .before .next-at .ensures))
+    (λ c κs. let h = place (c .before .before .before .before .before .before .before .before .before) in search needs)
+    (λ c κs.
+    let n = c .before .before .before in
+    let p = n .before .before .before .before .before .before .before .before .before .before .pre in
+    ready-visit (p .3 (p .2) .0) (p .0) (p .1) (p .2) (n .next-at .ensures))
     (λ c. search needs)
     (λ c. simp length-set at (c .before .before .before .before .before .before .propagate .kept .1 .1 .1 .0))
     (λ c. search needs)
     (λ c.
-    let e = c .before .before .before .before .before .before .before .before .before .before .before .before .before .before .before .before .before .before .before .before .pre .3 (c .before .before .before .before .before .before .before .before .before .before .before .before .before .before .before .before .before .before .before .before .pre .2) in
     let r = c .before .before .before .before .before .before .propagate .ensures in
-    (visited (e .0) (e .1) (c .before .before .before .before .before .before .before .before .before .before .before .transfer-of .ensures) (c .before .before .before .before .before .before .before .before .before .before .next-at .ensures) (r .0), r .1)))
+    let n = c .before .before .before .before .before .before .before .before .before .before in
+    let p = n .before .before .before .before .before .before .before .before .before .before .pre in
+    let e = p .3 (p .2) in
+    let v = visited (e .0) (e .1) (n .before .transfer-of .ensures) (n .next-at .ensures) (r .0) in
+    (v, preserved-visited (p .0 .fits .inside) (p .1) (p .2) v .0 .list, r .1)))

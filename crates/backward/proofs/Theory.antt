@@ -1,10 +1,10 @@
 -- Why the rounds solve the problem: a bit of a set is met by a walk, sets only grow, and sets that no round changes have every bit that is
 -- met. No code is mentioned.
-use Prim.Native.Nat.{ℕ, zero, _-_, _^_, _≤_, _<_, min, max}
+use Prim.Native.Nat.{ℕ, _-_, _^_, _≤_, _<_, min, max}
 use native.Mathlib.Omega.{arith}
 use native.Mathlib.Decide.{ℕ-discrete}
 use mathlib.Core.Path.{_≡_, refl, ap, sym, _∙_}
-use mathlib.Core.Bool.{Bool, true, false, not, true≢false}
+use mathlib.Core.Bool.{Bool, true, false, true≢false}
 use mathlib.Core.List.{List, [], _∷_, List·Memᴰ, List·Memᴰ·head, List·Memᴰ·tail, List·Memᴰ·not-nil, List·Memᴰ·cases-cons}
 use mathlib.Core.Logic.{⊎-elim}
 use lib.Dec.{T, eqb→eq, eqb-refl, T-not}
@@ -16,7 +16,7 @@ use Rattle.tables.specs.Tables.{item}
 use Rattle.tables.proofs.Laws.{sum-but, here, elsewhere}
 use Rattle.tables.proofs.Valid.{kept-same, kept-on}
 use Rattle.flow.specs.Flow.{Inside}
-use Rattle.flow.proofs.Laws.{kept-set}
+use Rattle.flow.proofs.Laws.{set-each, kept-set}
 use Rattle.backward.specs.Backward.{has, Solved}
 use Rattle.backward.specs.Rounds.{joined, setAt, cost, Right, Round}
 
@@ -128,11 +128,7 @@ module _
     -- what is so of the set that is written and of every other set is so of all
     all : (P : ℕ → ℕ → Type 0) → P q (setAt next gens kills sets q) → ((p : ℕ) → p < n → P p (item sets p)) → (p : ℕ) → p < n
         → P p (item (set sets q m) p)
-    all P a b p k =
-        elim (ℕ-discrete p q) [
-          | yes d ↦ rw (d, here sets q m (omega arith), made) a
-          | no d ↦ rw (elsewhere sets q p m d) (b p k)
-        ]
+    all P a b = set-each (λ p s. p < n → P p s) sets (omega arith) (λ i. rw made a) (λ p d. b p)
 
     wider : (j : ℕ) → j < setBits → (p : ℕ) → p < n → bit (item sets p) j ≤ bit (item (set sets q m) p) j
     wider j i = all (λ p s. bit (item sets p) j ≤ bit s j) (r .rises q j h i) (λ p k. omega arith)
