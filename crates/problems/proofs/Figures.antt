@@ -1,18 +1,18 @@
 -- From the sets that a kernel leaves to the figures of a function.
-use Prim.Native.Nat.{ℕ, zero, suc, _+_, _-_, _≤_, _<_, min, max}
+use Prim.Native.Nat.{ℕ, zero, suc, _+_, _-_, _≤_, _<_, max}
 use native.Mathlib.Omega.{arith}
 use native.Mathlib.Decide.{decLe, decLt}
 use mathlib.Core.Path.{_≡_, refl, ap, sym, subst, _∙_}
-use mathlib.Core.Bool.{Bool, true, false, not, _||_}
+use mathlib.Core.Bool.{Bool, true, false, not}
 use mathlib.Core.List.{List, List·Memᴰ}
-use mathlib.Core.Logic.{_↔_, Iff·trans, _⊎_, inl, inr, ⊎-elim}
+use mathlib.Core.Logic.{_↔_, _⊎_, inl, inr, ⊎-elim}
 use mathlib.Core.Option.{some}
 use lib.Dec.{T, eqb, ltb, eqb→eq, eqb-refl, ltb→lt, lt→ltb, lit≤}
 use borrow.Author.Tests.{lt-ltb}
 use Rattle.model.specs.declared.Point.{Point}
 use Rattle.model.specs.declared.Point.the-variants.{Load, Store, Call, Ensure, Goto, Either, Return}
 use Rattle.model.specs.Basic.{if_then_else_}
-use Rattle.model.specs.Task.{Func, Task, size, func, point, offsetFits}
+use Rattle.model.specs.Task.{Func, Task, size, point, offsetFits}
 use Rattle.model.specs.Walk.{Walk, Met, Carries, Largest, Smallest, leads, called, ensured, present, touches, isEnsure, never}
 use Rattle.model.specs.Figures.{shortest, cutBy, after, dead, need, callFree, kept, keptNext, highFrom}
 use Rattle.theory.proofs.Lists.{and-holds, or-holds, smallest-unique, largest-unique}
@@ -34,9 +34,9 @@ use Rattle.problems.specs.Problems.{gives, takes, Filled, Gives, Takes, 
 use Rattle.problems.proofs.Laws.{unmarked}
 
 -- one more than the highest bit, where bit j tells of a number j + 1 of the kind P; the lowest bit, where bit j tells of j
-top-largest : (P : ℕ → Type 0) {m r : ℕ} → Top m r → ((j : ℕ) → j < setBits → (bit m j ≡ 1) ↔ P (suc j))
+largest-by-top : (P : ℕ → Type 0) {m r : ℕ} → Top m r → ((j : ℕ) → j < setBits → (bit m j ≡ 1) ↔ P (suc j))
     → ((j : ℕ) → P (suc j) → j < setBits) → Largest P r
-top-largest P {m} {r} t is low = record { bounds = under; attained = there r t }
+largest-by-top P {m} {r} t is low = record { bounds = under; attained = there r t }
   where
     under : (n : ℕ) → P n → n ≤ r
     under zero h = omega arith
@@ -47,8 +47,8 @@ top-largest P {m} {r} t is low = record { bounds = under; attained = there r t }
     there zero u h = absurd (omega arith)
     there (suc j) u h = is j (omega (arith, u .within)) .0 (u .attained j refl)
 
-lowest-smallest : (P : ℕ → Type 0) {m k r : ℕ} → Lowest m k r → ((j : ℕ) → j < k → (bit m j ≡ 1) ↔ P j) → Smallest P k r
-lowest-smallest P {r = r} l is =
+smallest-by-lowest : (P : ℕ → Type 0) {m k r : ℕ} → Lowest m k r → ((j : ℕ) → j < k → (bit m j ≡ 1) ↔ P j) → Smallest P k r
+smallest-by-lowest P {r = r} l is =
     record {
       within = l .within;
       bounds = λ i h p. elim (decLe r i) [ yes d ↦ d | no d ↦ absurd (omega (arith, l .below i (omega arith), is i h .1 p)) ];
@@ -155,14 +155,14 @@ module _ (w : List ℕ) (s : Span) (fits : Fits w s) where
       → Lowest (item sets p) (s .frame) v → v ≡ dead x p
   dead-read a p v h l =
       let i : p < size x = omega (arith, size-of) in
-      smallest-unique (lowest-smallest _ l (λ j k. a .met p j i (omega (arith, fits .frame)))) (dead-is x closed-of p i)
+      smallest-unique (smallest-by-lowest _ l (λ j k. a .met p j i (omega (arith, fits .frame)))) (dead-is x closed-of p i)
 
   pub need-read : {column sets : List ℕ} → Answered Touched x column sets → (p v : ℕ) → p < s .size
       → Top (item sets p) v → v ≡ need x p
   need-read a p v h t =
       let i : p < size x = omega (arith, size-of) in
       largest-unique
-      (top-largest (λ m. (o : ℕ) × (m ≡ suc o) × Met (leads x) (isEnsure x) (touches x o) p) t
+      (largest-by-top (λ m. (o : ℕ) × (m ≡ suc o) × Met (leads x) (isEnsure x) (touches x o) p) t
       (λ j k. (λ e. (j, refl, a .met p j i k .0 e), λ m. let e : j ≡ m .0 = omega (arith, m .1) in rw e (a .met p (m .0) i (rw (← e) k) .1 (m .2))))
       (λ j m. omega (arith, m .1, fits .frame, frame-of (m .0) (m .2 .0) (walk-inside x closed-of (m .2 .1) i) (m .2 .2))))
       (need-is x closed-of frame-of p i)
@@ -190,7 +190,7 @@ module _ (w : List ℕ) (s : Span) (fits : Fits w s) where
       let at : (e : ℕ) → T (isEnsure x e) → (e < s .size) × (item column e ≡ kept t g e) =
       λ e n. let l : e < s .size = omega (arith, size-of, ensure-inside x e n) in (l, k .at-ensures e l n) in
       largest-unique
-      (top-largest (λ m. (e : ℕ) × Walk (leads x) (isEnsure x) p e × T (isEnsure x e) × (m ≡ kept t g e)) top
+      (largest-by-top (λ m. (e : ℕ) × Walk (leads x) (isEnsure x) p e × T (isEnsure x e) × (m ≡ kept t g e)) top
       (λ j l. (
         λ e.
             let m = a .met p j i l .0 e in
@@ -273,7 +273,7 @@ module _ (w : List ℕ) (s : Span) (fits : Fits w s) where
         let walk = reached-walk x closed-of some-point p .0 (reach p h) in
         let is = rw (← r .first) at ((rw (r .same) at (high-is t f e)) closed-of some-point p walk) in
         largest-unique
-        (top-largest (λ n. (h : ℕ) × Brought p h × (n ≤ h)) top
+        (largest-by-top (λ n. (h : ℕ) × Brought p h × (n ≤ h)) top
         (λ j l. (λ b. carried-above l (solved .carried p j h l b), λ m. solved .held p j h l (above-carried l (m .1) (m .2))))
         (λ j m. omega (arith, value-low i (m .1), m .2)))
         (record { bounds = λ n m. omega (arith, is .0 (m .0) (m .1), m .2); attained = λ l. (highFrom t f e p, is .1, omega arith) })

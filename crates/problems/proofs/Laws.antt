@@ -1,14 +1,12 @@
--- Laws of words as tests of their bits, of the sets of a point, and of a buffer that a loop fills.
+-- Laws of sets as tests of their bits, of the effect of a point, and of a buffer that a loop fills.
 use Prim.Native.Nat.{ℕ, zero, suc, _+_, _≤_, _<_, max}
 use native.Mathlib.Omega.{arith}
-use native.Mathlib.Decide.{ℕ-discrete}
 use mathlib.Core.Path.{_≡_, refl, ap, sym, _∙_}
 use mathlib.Core.Bool.{Bool, true, false, not, _&&_, _||_}
 use mathlib.Core.List.{List}
 use mathlib.Core.Logic.{_↔_}
 use lib.Dec.{T, T-not, not-T, eqb, eqb·suc-zero, eqb·suc-suc}
-use lib.ListN.{length, set, length-set}
-use lib.Seq.{drop-set-lt}
+use lib.ListN.{length, set}
 use Rattle.model.specs.declared.Point.{Point}
 use Rattle.model.specs.Basic.{if_then_else_}
 use Rattle.model.specs.Walk.{loaded, stored, called, ensured, isReturn, is, present}
@@ -17,9 +15,9 @@ use Rattle.bits.proofs.Laws.{bit-le, bit-union, marked, marks-none, marks-all, 
 use Rattle.tables.specs.declared.Span.{Span}
 use Rattle.tables.specs.Tables.{item}
 use Rattle.tables.specs.Valid.{Kept}
-use Rattle.tables.proofs.Laws.{here, elsewhere}
-use Rattle.tables.proofs.Valid.{kept-same, kept-later}
+use Rattle.tables.proofs.Valid.{kept-same, kept-later, kept-on}
 use Rattle.flow.specs.Flow.{Given}
+use Rattle.flow.proofs.Laws.{set-each, kept-set}
 use Rattle.problems.specs.Problems.{effectWith, Does, Filled}
 
 -- k blocks kept
@@ -43,6 +41,13 @@ all-if {b} e = rw (← e) (at b)
     at : (b : Bool) → Marks (λ j. b) (if b then allBits else 0)
     at true = marks-all
     at false = marks-none
+
+-- a bit that is not in a set
+pub unmarked : {t : ℕ → Bool} {m : ℕ} → Marks t m → (j : ℕ) → j < setBits → (bit m j ≡ 0) ↔ T (not (t j))
+unmarked {t} {m} k j h = (
+  λ e. not-T (t j) (λ b. omega (arith, marked k j h .1 b)),
+  λ e. let n : bit m j ≡ 1 → ⊥ = λ b. T-not (t j) e (marked k j h .0 b) in omega (arith, bit-le m j),
+)
 
 -- the bits of two sets
 or-bits : (a b : ℕ) → a ≤ 1 → b ≤ 1 → eqb (max a b) 1 ≡ (eqb a 1 || eqb b 1)
@@ -75,22 +80,12 @@ pub filled-more : (P : ℕ → ℕ → Type 0) (l : List ℕ) {l₀ : List ℕ} 
     → Filled P (p + 1) l₀ (set l p v)
 filled-more P l p v h i f =
     record {
-      each = λ q k.
-          elim (ℕ-discrete q p) [
-            | yes e ↦ rw (e, here l p v h) i
-            | no e ↦ rw (elsewhere l p q v e) (f .each q (omega arith))
-          ];
-      kept = record { size = simp length-set (f .kept .size); past = drop-set-lt (p + 1) l p v (omega arith) ∙ kept-later 1 (f .kept) .past };
+      each = set-each (λ q u. q < p + 1 → P q u) l h (λ _. i) (λ q e k. f .each q (omega arith));
+      kept = kept-on (kept-later 1 (f .kept)) (kept-set l p v (omega arith));
     }
 
 pub filled-as : {P Q : ℕ → ℕ → Type 0} {n : ℕ} {l l′ : List ℕ} → ((p v : ℕ) → p < n → P p v → Q p v) → Filled P n l l′ → Filled Q n l l′
 filled-as {l′ = l′} f a = record { each = λ p h. f p (item l′ p) h (a .each p h); kept = a .kept }
-
-pub unmarked : {t : ℕ → Bool} {m : ℕ} → Marks t m → (j : ℕ) → j < setBits → (bit m j ≡ 0) ↔ T (not (t j))
-unmarked {t} {m} k j h = (
-  λ e. not-T (t j) (λ b. omega (arith, marked k j h .1 b)),
-  λ e. let n : bit m j ≡ 1 → ⊥ = λ b. T-not (t j) e (marked k j h .0 b) in omega (arith, bit-le m j),
-)
 
 -- what a kernel is given once the gens and kills are filled
 pub given-filled : {w : List ℕ} {s : Span} {m n : ℕ} {gens gens′ kills kills′ : List ℕ} → Given w s gens kills
