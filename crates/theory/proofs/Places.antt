@@ -16,7 +16,7 @@ use Rattle.model.specs.Text.{linesFrom, linesOf}
 use Rattle.model.specs.Task.{Func, Task, Judged, refused, task, Progress, start, between, inside, Step, stop, goes, readLine, readEnd, readFrom, readText, onward, inAll, size, count, func, point, funcLine, pointLine, offsetFits}
 use Rattle.model.specs.Walk.{called, loaded}
 use Rattle.model.specs.Figures.{reached}
-use Rattle.model.specs.Limits.{mostBytes}
+use Rattle.model.specs.Limits.{mostStack, mostFuncs, mostPoints, mostInAll, mostBytes}
 use Rattle.model.specs.Rows.{refuse}
 use Rattle.model.specs.Refusal.{judged, withRows, orTask, calleeFits, paired, targetsFit, endFits, storedBefore, isCalled, linkRow, reachRow, loadRow, callRow, firstPoint, linkRows, reachRows, callRows, taskRows}
 use Rattle.theory.proofs.Lists.{by-test, mem-upTo, mem-countFrom}
@@ -58,7 +58,7 @@ SmallStep n (goes s) = Unit {0}
 
 line-small : (n : ℕ) (s : Progress) (l : Line) → SmallStep n (readLine n s l)
 unfolding readLine SmallStep
-line-small n start (line.Stack k) = by-test (SmallStep n) (leb 1 k && leb k 64) (λ t. tt) (λ t. omega arith)
+line-small n start (line.Stack k) = by-test (SmallStep n) (leb 1 k && leb k mostStack) (λ t. tt) (λ t. omega arith)
 line-small n start (line.Func k) = omega arith
 line-small n start (line.At x) = omega arith
 line-small n start line.Close = omega arith
@@ -69,7 +69,7 @@ line-small n (between t) (line.Func k) =
     (SmallStep n)
     (ltb (t .stack) k)
     (λ h. omega arith)
-    (λ h. by-test (SmallStep n) (leb 64 (count t)) (λ i. omega arith) (λ i. tt))
+    (λ h. by-test (SmallStep n) (leb mostFuncs (count t)) (λ i. omega arith) (λ i. tt))
 line-small n (between t) (line.At x) = omega arith
 line-small n (between t) line.Close = omega arith
 line-small n (between t) line.Malformed = omega arith
@@ -82,7 +82,7 @@ line-small n (inside t x) (line.At p) =
     (λ h. omega arith)
     (λ h. by-test
     (SmallStep n)
-    (leb 256 (size x) || leb 1024 (inAll (t .funcs) + size x))
+    (leb mostPoints (size x) || leb mostInAll (inAll (t .funcs) + size x))
     (λ i. omega arith)
     (λ i. tt))
 line-small n (inside t x) line.Close = by-test (SmallStep n) (leb 1 (size x)) (λ i. tt) (λ i. omega arith)

@@ -13,6 +13,7 @@ use Rattle.model.specs.declared.Point.{Point}
 use Rattle.model.specs.declared.Point.the-variants.{Return}
 use Rattle.model.specs.declared.Line.{Line}
 use Rattle.model.specs.declared.Line.the-variants as line
+use Rattle.model.specs.Limits.{mostStack, mostFuncs, mostPoints, mostInAll}
 use Rattle.model.specs.Basic.{sumOf}
 use Rattle.model.specs.Text.{linesOf}
 use Rattle.model.specs.Task.{Func, Task, Judged, refused, task, Progress, start, between, inside, Step, stop, goes, size, count, inAll, empty, func, point, offsetFits, withPoint, withFunc, readLine, readEnd, onward, readFrom, readText}
@@ -22,22 +23,22 @@ use Rattle.theory.proofs.Lists.{by-test, and-holds}
 -- a function that has been opened, with the points read so far
 pub record Opened (s : ℕ) (x : Func) : Type 0 where
   pub frame : x .frame ≤ s
-  pub small : size x ≤ 256
+  pub small : size x ≤ mostPoints
   pub offsets : (p : ℕ) → p < size x → T (offsetFits (x .frame) (point x p))
 
 -- a task with the functions closed so far
 pub record Begun (t : Task) : Type 0 where
   pub low : 1 ≤ t .stack
-  pub high : t .stack ≤ 64
-  pub few : count t ≤ 64
-  pub all : inAll (t .funcs) ≤ 1024
+  pub high : t .stack ≤ mostStack
+  pub few : count t ≤ mostFuncs
+  pub all : inAll (t .funcs) ≤ mostInAll
   pub closed : (f : ℕ) → f < count t → Opened (t .stack) (func t f) × (1 ≤ size (func t f))
 
 -- what a progress within the limits is
 abbrev pub Kept : Progress → Type 0
 Kept start = Unit {0}
 Kept (between t) = Begun t
-Kept (inside t x) = Begun t × Opened (t .stack) x × (count t < 64) × (inAll (t .funcs) + size x ≤ 1024)
+Kept (inside t x) = Begun t × Opened (t .stack) x × (count t < mostFuncs) × (inAll (t .funcs) + size x ≤ mostInAll)
 
 -- the kind P of the progress after a step, of the task of a judgement
 abbrev Goes : (Progress → Type 0) → Step → Type 0
@@ -72,7 +73,7 @@ sum-snoc g [] x = omega arith
 sum-snoc g (a ∷ l) x = omega (arith, sum-snoc g l x)
 
 -- the task with one function more
-more-func : (t : Task) (x : Func) → Begun t → Opened (t .stack) x → count t < 64 → inAll (t .funcs) + size x ≤ 1024 → 1 ≤ size x
+more-func : (t : Task) (x : Func) → Begun t → Opened (t .stack) x → count t < mostFuncs → inAll (t .funcs) + size x ≤ mostInAll → 1 ≤ size x
     → Begun (withFunc t x)
 more-func t x b o c a n = record {
   low = b .low;
@@ -83,7 +84,7 @@ more-func t x b o c a n = record {
 }
 
 -- the function with one point more
-more-point : (s : ℕ) (x : Func) (p : Point) → Opened s x → size x < 256 → T (offsetFits (x .frame) p) → Opened s (withPoint x p)
+more-point : (s : ℕ) (x : Func) (p : Point) → Opened s x → size x < mostPoints → T (offsetFits (x .frame) p) → Opened s (withPoint x p)
 more-point s x p o c h = record {
   frame = o .frame;
   small = omega (arith, length-append (x .points) (p ∷ []));
@@ -94,9 +95,9 @@ more-point s x p o c h = record {
 line-goes : (n : ℕ) (s : Progress) (l : Line) → Kept s → Goes Kept (readLine n s l)
 unfolding readLine
 line-goes n start (line.Stack s) k =
-    by-test (Goes Kept) (leb 1 s && leb s 64) (λ h. let r = and-holds (leb 1 s) (leb s 64) .0 h in record {
+    by-test (Goes Kept) (leb 1 s && leb s mostStack) (λ h. let r = and-holds (leb 1 s) (leb s mostStack) .0 h in record {
       low = leb→le 1 s (r .0);
-      high = leb→le s 64 (r .1);
+      high = leb→le s mostStack (r .1);
       few = omega arith;
       all = unfold sumOf in omega arith;
       closed = λ f j. absurd (omega arith);
@@ -108,10 +109,10 @@ line-goes n start line.Malformed k = tt
 line-goes n (between t) (line.Stack s) k = tt
 line-goes n (between t) (line.Func m) k =
     by-test (Goes Kept) (ltb (t .stack) m) (λ h. tt) (λ h.
-    by-test (Goes Kept) (leb 64 (count t)) (λ j. tt) (λ j. (
+    by-test (Goes Kept) (leb mostFuncs (count t)) (λ j. tt) (λ j. (
       k,
       record { frame = nltb→le (t .stack) m h; small = omega arith; offsets = λ p l. absurd (omega arith) },
-      nleb→lt 64 (count t) j,
+      nleb→lt mostFuncs (count t) j,
       omega (arith, k .all),
     )))
 line-goes n (between t) (line.At x) k = tt
@@ -121,11 +122,11 @@ line-goes n (inside t x) (line.Stack s) k = tt
 line-goes n (inside t x) (line.Func m) k = tt
 line-goes n (inside t x) (line.At p) k =
     by-test (Goes Kept) (not (offsetFits (x .frame) p)) (λ h. tt) (λ h.
-    by-test (Goes Kept) (leb 256 (size x) || leb 1024 (inAll (t .funcs) + size x)) (λ j. tt) (λ j.
-    let r = neither (leb 256 (size x)) (leb 1024 (inAll (t .funcs) + size x)) j in
-    let a = nleb→lt 1024 (inAll (t .funcs) + size x) (r .1) in (
+    by-test (Goes Kept) (leb mostPoints (size x) || leb mostInAll (inAll (t .funcs) + size x)) (λ j. tt) (λ j.
+    let r = neither (leb mostPoints (size x)) (leb mostInAll (inAll (t .funcs) + size x)) j in
+    let a = nleb→lt mostInAll (inAll (t .funcs) + size x) (r .1) in (
       k .0,
-      more-point (t .stack) x p (k .1) (nleb→lt 256 (size x) (r .0)) (not-not (offsetFits (x .frame) p) h),
+      more-point (t .stack) x p (k .1) (nleb→lt mostPoints (size x) (r .0)) (not-not (offsetFits (x .frame) p) h),
       k .2,
       omega (arith, length-append (x .points) (p ∷ [])),
     )))
