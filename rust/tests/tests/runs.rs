@@ -51,6 +51,20 @@ fn run_case(case: &RunCase) -> Ran {
     run(&case.text, &case.lent.events, &lent(&case.lent), WORK_MIN)
 }
 
+/// Requires that a refused event leaves all as the events before it do.
+fn assert_like_without_refused(case: &RunCase, result: RunResult) {
+    if result.ending.is_err() {
+        let before = &case.lent.events[..2 * result.done as usize];
+        let wanted = RunResult {
+            ending: Ok(()),
+            ..result
+        };
+        let ran = run(&case.text, before, &lent(&case.lent), WORK_MIN);
+        assert_eq!(ran.result, wanted, "{case}");
+        assert_eq!(ran.lent, run_case(case).lent, "{case}");
+    }
+}
+
 fn preempts(events: &[u32]) -> bool {
     events.chunks_exact(2).any(|event| event[0] == 1)
 }
@@ -63,6 +77,7 @@ fn runs_agree_with_the_plain_stack() {
         for case in generate::runs(seed, LISTS) {
             let work = WORK_MIN + seed as usize % 3;
             let got = run_like_plain(&case, &case.text, &case.lent, work);
+            assert_like_without_refused(&case, got);
             *codes.entry(code_and_place(got.ending).0).or_insert(0u32) += 1;
             preempted += u32::from(preempts(&case.lent.events));
             tight += u32::from(got.moved == got.allowed && got.moved > 0);
