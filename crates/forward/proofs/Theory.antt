@@ -110,7 +110,11 @@ module _ (next : ℕ → List ℕ) (n entry : ℕ) (gens kills : List ℕ) where
         let e = effect l (i p r h j) a in
         let f = effect (e .on .list) (i p q h g) b in (
           visiting-merged g f (visiting-merged j e w),
-          λ c d. ⊎-elim (λ o. rw o (arrived-here f)) (λ o. let z = List·Memᴰ·eq-of-singleton o in rw z (arrived-on f r m (arrived-here e))) (List·Memᴰ·cases-cons d),
+          λ c d.
+              ⊎-elim
+              (λ o. rw o (arrived-here f))
+              (λ o. let z = List·Memᴰ·eq-of-singleton o in rw z (arrived-on f r m (arrived-here e)))
+              (List·Memᴰ·cases-cons d),
         )
 
   -- the last point of the worklist is visited: it is seen as before, and what leaves it comes to the points that are next

@@ -9,15 +9,24 @@ propagate-spec =
     tie.close
     (tie.spec
     (λ c. search needs)
-    (λ c κs. search listed-last)
+    (λ c κs. listed-last (c .before .before .before .before .before .before .before .pre .list))
     (λ c. search needs)
-    (λ c κs. search ready-one)
+    (λ c κs. ready-one (c .before .before .before .before .before .before .before .before .before .pre) (c .before .before .before .before .next .given .1))
     (λ c. search needs)
-    (λ c κs. search ready-first)
-    (λ c κs. search ready-second)
+    (λ c κs. ready-first (c .before .before .before .before .before .before .before .before .before .pre) (c .before .before .before .before .next2 .given .1))
+    (λ c κs.
+    let m = c .before .before .before .before .before .before .before .before .before in
+    let n = m .before .before .before .before .before in
+    ready-second (n .before .before .before .before .before .pre) (n .next2 .given .1) (m .merge .ensures))
     (λ c. search needs) (λ c. search needs)
-    (λ c. search propagated-none)
+    (λ c. (propagated-none (c .before .before .before .enum-told .given .1), c .last-of .ensures))
     (λ c. search needs) (λ c. search needs) (λ c. search needs)
-    (λ c. search propagated-one)
+    (λ c.
+    let m = c .before .before .before .before .before .before in
+    (propagated-one (m .before .before .before .before .before .next .given .1) (m .merge-last .ensures .0), m .merge-last .ensures .1))
     (λ c. search needs) (λ c. search needs) (λ c. search needs)
-    (λ c. search propagated-two))
+    (λ c.
+    let l = c .before .before .before .before .before .before in
+    let m = l .before .before .before .before .before .before .before .before .before .before in
+    let e = m .before .before .before .before .before .next2 .given .1 in
+    (propagated-two e (m .merge .ensures) (l .merge-last2 .ensures .0), l .merge-last2 .ensures .1)))
