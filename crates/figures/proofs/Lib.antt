@@ -1,0 +1,9 @@
+pub mod Writes
+pub mod Callers
+pub mod Limits
+pub mod Values
+pub mod Callees
+pub mod Passes
+pub mod Displaces
+pub mod Whole
+pub mod Read

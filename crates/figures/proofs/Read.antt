@@ -1,0 +1,116 @@
+-- The figures as they are read back.
+use Prim.Native.Nat.{ℕ, _+_, _-_, _*_, _≤_, _<_}
+use native.Mathlib.Omega.{arith}
+use mathlib.Core.List.{List}
+use mathlib.Core.Path.{_≡_, refl, ap, sym, subst, _∙_}
+use Rattle.model.specs.Limits.{mostStack, mostFuncs}
+use Rattle.model.specs.Task.{Func, Task, func}
+use Rattle.model.specs.Figures as model
+use Rattle.model.specs.Sheet.{inBlocks, costed, sheetOf}
+use Rattle.theory.proofs.Rules.{need-frame}
+use Rattle.tables.specs.declared.Header.{Header}
+use Rattle.tables.specs.declared.Span.{Span}
+use Rattle.tables.specs.Tables.{item, spanAt, taskOf}
+use Rattle.tables.specs.Valid.{Lies}
+use Rattle.tables.proofs.Laws.{frame-is}
+use Rattle.tables.proofs.Valid.{lies-in}
+use Rattle.figures.specs.Columns.{highColumn, deadColumn, needColumn, nextColumn, fillColumn, longestColumn, shortestColumn, entryColumn}
+use Rattle.figures.specs.Columns.{chainColumn, Points}
+use Rattle.figures.specs.Figured.{Figured, figuredOf, funcFigures}
+use Rattle.figures.proofs.Limits.{frame-low, high-low, next-low, chain-low, entry-low}
+
+module _ {w : List ℕ} {h : Header} {f : ℕ} {s : Span} (k : Figured w h) (l : f < h .funcs) (e : s ≡ spanAt w f) where
+  pub lies-there : Lies w s
+  lies-there = subst (λ (s : Span). Lies w s) (sym e) (lies-in (k .settled .holds) f l)
+
+  column-there : {figure : ℕ → ℕ → ℕ} {a : ℕ} → Points figure a (h .funcs) w → (p : ℕ) → p < s .size → item w (a + s .base + p) ≡ figure f p
+  column-there {figure} {a} x p i =
+      ap (λ (s : Span). item w (a + s .base + p)) e ∙ x .each f p l (omega (arith, ap (λ (s : Span). s .size) e))
+
+  module _ (p : ℕ) (i : p < s .size) where
+    -- the numbers that a sum is made of are small
+    pub small-high : item w (highColumn + s .base + p) ≤ mostStack
+    small-high = omega (arith, column-there (k .high) p i, high-low (k .settled .formed .shaped) f p)
+
+    pub small-need : item w (needColumn + s .base + p) ≤ mostStack
+    small-need =
+        omega (
+          arith,
+          column-there (k .need) p i,
+          need-frame (func (taskOf w h) f) p,
+          frame-low (k .settled .formed .shaped) f,
+          k .settled .formed .shaped .stack-high,
+        )
+
+    pub small-next : item w (nextColumn + s .base + p) ≤ mostStack
+    small-next = omega (arith, column-there (k .next) p i, next-low (k .settled .formed .shaped) f p)
+
+    pub small-chain : item w (chainColumn + f) ≤ mostStack * mostFuncs
+    small-chain = omega (arith, k .chain .each f (omega arith) l, chain-low (k .settled .formed .shaped) f, k .settled .holds .few)
+
+    pub figures-are : {high dead need next fill save reload later : ℕ} → high ≡ item w (highColumn + s .base + p) → dead ≡ item w (deadColumn + s .base + p)
+        → need ≡ item w (needColumn + s .base + p) → next ≡ item w (nextColumn + s .base + p) → fill ≡ item w (fillColumn + s .base + p)
+        → save ≡ high - dead → reload ≡ need - dead → later ≡ next - need
+        → figuredOf (record {
+          high = high;
+          dead = dead;
+          need = need;
+          save = save;
+          reload = reload;
+          later = later;
+          chain = item w (chainColumn + f);
+          cost = save + reload + later + item w (chainColumn + f);
+          fill = fill;
+        })
+        ≡ sheetOf (taskOf w h) .at f p
+    unfolding costed
+    figures-are a b c d x y z q =
+        let high-is = a ∙ column-there (k .high) p i in
+        let dead-is = b ∙ column-there (k .dead) p i in
+        let need-is = c ∙ column-there (k .need) p i in
+        let next-is = d ∙ column-there (k .next) p i in
+        let fill-is = x ∙ column-there (k .fill) p i in
+        let chain-is = k .chain .each f (omega arith) l in
+        let save-is = y ∙ (λ j. high-is j - dead-is j) in
+        let reload-is = z ∙ (λ j. need-is j - dead-is j) in
+        let later-is = q ∙ (λ j. next-is j - need-is j) in
+        λ j. record {
+          high = high-is j;
+          dead = dead-is j;
+          need = need-is j;
+          save = save-is j;
+          reload = reload-is j;
+          later = later-is j;
+          chain = chain-is j;
+          cost = save-is j + reload-is j + later-is j + chain-is j;
+          fill = fill-is j;
+        }
+
+module _ {w : List ℕ} {h : Header} {f : ℕ} {s : Span} (k : Figured w h) (l : f < h .funcs) (e : s ≡ spanAt w f) where
+  frame-there : s .frame ≡ func (taskOf w h) f .frame
+  frame-there = ap (λ (s : Span). s .frame) e ∙ sym (frame-is w h f l)
+
+  pub small-frame : s .frame ≤ mostStack
+  small-frame = omega (arith, frame-there, frame-low (k .settled .formed .shaped) f, k .settled .formed .shaped .stack-high)
+
+  pub small-entry : item w (entryColumn + f) ≤ mostStack
+  small-entry = omega (arith, k .entry .each f (omega arith) l, entry-low (k .settled .formed .shaped) f)
+
+  pub func-figures-are : {spill : ℕ} → spill ≡ item w (entryColumn + f) + s .frame - h .stack
+      → record {
+        frame = s .frame;
+        shortest = item w (shortestColumn + f);
+        longest = item w (longestColumn + f);
+        spill = spill;
+        chain = item w
+            (chainColumn + f);
+      }
+      ≡ funcFigures (taskOf w h) f
+  unfolding funcFigures model.spill
+  func-figures-are x =
+      let entry-is = k .entry .each f (omega arith) l in
+      let spill-is = x ∙ (λ j. entry-is j + frame-there j - h .stack) in
+      let shortest-is = k .shortest .each f (omega arith) l in
+      let longest-is = k .longest .each f (omega arith) l in
+      let chain-is = k .chain .each f (omega arith) l in
+      λ j. record { frame = frame-there j; shortest = shortest-is j; longest = longest-is j; spill = spill-is j; chain = chain-is j }

@@ -1,0 +1,60 @@
+-- A task in the tables with all its figures in the columns, and the figures as they are read back.
+use Prim.Native.Nat.{ℕ, _≤_}
+use mathlib.Core.List.{List}
+use lib.ListN.{length}
+use Rattle.model.specs.Limits.{workLength}
+use Rattle.model.specs.Task.{Task, func}
+use Rattle.model.specs.Figures as model
+use Rattle.model.specs.Sheet as sheet
+use Rattle.tables.specs.declared.Header.{Header}
+use Rattle.tables.specs.Tables.{taskOf}
+use Rattle.tables.specs.Valid.{Settled}
+use Rattle.figures.specs.declared.PointFigures.{PointFigures}
+use Rattle.figures.specs.declared.FuncFigures.{FuncFigures}
+use Rattle.figures.specs.Columns.{highColumn, deadColumn, needColumn, nextColumn, fillColumn, longestColumn, shortestColumn, entryColumn}
+use Rattle.figures.specs.Columns.{chainColumn, Points, Funcs}
+
+-- the working space holds an accepted task and has room for all columns: what the figures are worked out from
+pub record Ready (w : List ℕ) (h : Header) : Type 0 where
+  pub settled : Settled w h
+  pub room : workLength ≤ length w
+
+-- every column has the figure of each function and of each point: what a service reads figures from
+pub record Figured (w : List ℕ) (h : Header) : Type 0 where
+  pub settled : Settled w h
+  pub room : workLength ≤ length w
+  pub longest : Funcs (model.longest (taskOf w h)) longestColumn 0 (h .funcs) w
+  pub shortest : Funcs (model.shortest (taskOf w h)) shortestColumn 0 (h .funcs) w
+  pub entry : Funcs (model.entry (taskOf w h)) entryColumn 0 (h .funcs) w
+  pub chain : Funcs (model.chain sheet.inBlocks (taskOf w h)) chainColumn 0 (h .funcs) w
+  pub high : Points (model.high (taskOf w h)) highColumn (h .funcs) w
+  pub dead : Points (λ f. model.dead (func (taskOf w h) f)) deadColumn (h .funcs) w
+  pub need : Points (λ f. model.need (func (taskOf w h) f)) needColumn (h .funcs) w
+  pub next : Points (model.keptNext (taskOf w h)) nextColumn (h .funcs) w
+  pub fill : Points (model.fill (taskOf w h)) fillColumn (h .funcs) w
+
+-- the figures of a point as the definitions have them
+abbrev pub figuredOf : PointFigures → sheet.Figured
+figuredOf r =
+    record {
+      high = r .high;
+      dead = r .dead;
+      need = r .need;
+      save = r .save;
+      reload = r .reload;
+      later = r .later;
+      chain = r .chain;
+      cost = r .cost;
+      fill = r .fill;
+    }
+
+-- the figures of function f of a task
+unfoldable pub funcFigures : Task → ℕ → FuncFigures
+funcFigures t f =
+    record {
+      frame = func t f .frame;
+      shortest = model.shortest t f;
+      longest = model.longest t f;
+      spill = sheet.sheetOf t .spill f;
+      chain = sheet.sheetOf t .chain f;
+    }
