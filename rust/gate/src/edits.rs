@@ -58,6 +58,9 @@ const FACT: &[&str] = &[
     "the two types differ only where",
     "the two types first differ where",
     "the two types are `` (expected)",
+    "the two values differ only where",
+    "the two values first differ where",
+    "`` ≟ `` does not hold",
     "the two sides differ only where",
     "the two sides first differ where",
     "the two sides are",
@@ -142,14 +145,19 @@ fn judge_error(error: &str) -> Result<(), &'static str> {
     if error.starts_with('[') {
         return Err("a form that the compiler refuses");
     }
-    if let Some((_, why)) = NO_FACT.iter().find(|(text, _)| head.contains(text)) {
-        return Err(why);
+    // What stands first says what the error is about; an advice that follows it may speak of names.
+    let fact = FACT.iter().filter_map(|text| head.find(text)).min();
+    let first = |(text, why): &(&str, &'static str)| Some((head.find(text)?, *why));
+    if let Some((place, why)) = NO_FACT.iter().filter_map(first).min() {
+        if fact.is_none_or(|fact| place < fact) {
+            return Err(why);
+        }
     }
     // A proof file gives a proof for each need; one too few leaves a function that still asks.
     if error.contains(".Lts.Closed ") && error.contains("but this has type `tie.Need-") {
         return Err("a need that the proof file does not give");
     }
-    if FACT.iter().any(|text| head.contains(text)) {
+    if fact.is_some() {
         return Ok(());
     }
     Err("an error of a form that rust/gate/src/edits.rs does not list")
