@@ -144,7 +144,9 @@ module _ {w : List ℕ} {s : Span} (k : Fits w s) where
         record {
           reached = λ p h.
               same-test (seen state p) (figure.reached x p)
-              (λ t. reached-in p .1 (z .reached p h .0 (eqb→eq (item state p) 1 t)))
+              (λ t.
+              let n : item state p ≡ 0 → ⊥ = λ e. T-not (eqb (item state p) 0) t (rw e tt) in
+              reached-in p .1 (z .reached p h .0 (omega (arith, z .marked p h))))
               (λ t. rw (z .reached p h .1 (reached-in p .0 t)) tt);
           stored = λ p h.
               rw (← point-in p h)

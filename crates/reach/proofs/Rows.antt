@@ -24,7 +24,7 @@ use Rattle.tables.specs.declared.Span.{Span}
 use Rattle.tables.specs.Tables.{baseAt, sizeAt, spanAt, funcOf, taskOf, openingLine, lineIn}
 use Rattle.tables.specs.Valid.{Holds}
 use Rattle.tables.proofs.Laws.{func-is, size-is, line-is, count-is}
-use Rattle.reach.specs.Reach.{loadsStored, Clean, CleanBefore, Answered, seen, initialised, firstFailing}
+use Rattle.reach.specs.Reach.{loadsStored, Clean, CleanBefore, Answered, seen, initialised, failingAt, firstFailing}
 use Rattle.reach.specs.Reach.{reachIn, loadIn, isRefused, firstVerdict, verdictFrom}
 
 -- rows that agree have the same first refusal
@@ -38,13 +38,16 @@ first-same g h i (suc n) e =
 
 -- a search through the points of function f for the first that fails a test: those from p on decide
 unfoldable pub Searching : Row → ℕ → Span → (ℕ → Bool) → ℕ → Type 0
-Searching row f s test p =
-    Rest (firstFailing row f s test) (λ q. unless (test q) (refuse row (lineIn f (s .base) q))) p (s .size)
+Searching row f s test p = Rest (firstFailing row f s test) (failingAt row f s test) p (s .size)
 
 module _ (row : Row) (f : ℕ) (s : Span) (test : ℕ → Bool) where
   pub searching-none : Searching row f s test 0
   unfolding Searching firstFailing
-  searching-none = ap (λ (n : ℕ). firstOf (λ q. unless (test q) (refuse row (lineIn f (s .base) q))) (upTo n)) (sym (sub-zero (s .size)))
+  searching-none = ap (λ (n : ℕ). firstOf (failingAt row f s test) (upTo n)) (sym (sub-zero (s .size)))
+
+  pub failing-none : ((p : ℕ) → p < s .size → test p ≡ true) → firstFailing row f s test ≡ none
+  unfolding firstFailing
+  failing-none e = below-none _ (s .size) .1 (λ p i. rw (e p i))
 
   module _ (p : ℕ) (i : Searching row f s test p) where
     pub searching-on : test p ≡ true → p < s .size → Searching row f s test (p + 1)
@@ -84,11 +87,11 @@ module _ {w : List ℕ} {h : Header} (k : Holds w h) (f : ℕ) (l : f < h .funcs
   -- a test that holds at every point refuses none
   none-in : (row : Row) (of : Func → ℕ → Bool) → ((p : ℕ) → p < sizeAt w f → T (of (funcOf w f) p))
       → firstOf (λ p. unless (of (func (taskOf w h) f) p) (refuse row (pointLine (taskOf w h) f p))) (upTo (size (func (taskOf w h) f))) ≡ none
-  unfolding firstFailing
   none-in row of e =
-      sym (in-task row of (λ p. true) (λ p i. holds (of (funcOf w f) p) (e p i))) ∙ below-none _ (sizeAt w f) .1 (λ p i. refl)
+      sym (in-task row of (of (funcOf w f)) (λ p i. refl))
+      ∙ failing-none row f (spanAt w f) (of (funcOf w f)) (λ p i. holds (of (funcOf w f) p) (e p i))
     where
-      holds : (b : Bool) → T b → true ≡ b
+      holds : (b : Bool) → T b → b ≡ true
       holds true t = refl
       holds false t = absurd t
 

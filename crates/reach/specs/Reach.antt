@@ -46,7 +46,7 @@ has m (some o) = eqb (bit m o) 1
 
 -- point p is marked as reached; its set does not have the offset that it loads
 abbrev pub seen : List ℕ → ℕ → Bool
-seen state p = eqb (item state p) 1
+seen state p = not (eqb (item state p) 0)
 
 abbrev pub initialised : List ℕ → Span → List ℕ → ℕ → Bool
 initialised w s sets p = not (has (item sets p) (loaded (pointAt w (s .base + p))))
@@ -56,9 +56,12 @@ pub record Answered (w : List ℕ) (s : Span) (sets state : List ℕ) : Type 0 w
   pub reached : (p : ℕ) → p < s .size → seen state p ≡ figure.reached (funcIn w s) p
   pub stored : (p : ℕ) → p < s .size → initialised w s sets p ≡ loadsStored (funcIn w s) p
 
--- this row at the first point of function f that fails a test
+-- this row at point p of function f where a test fails, and at the first such point
+abbrev pub failingAt : Row → ℕ → Span → (ℕ → Bool) → ℕ → Option Refusal
+failingAt row f s test p = unless (test p) (refuse row (lineIn f (s .base) p))
+
 unfoldable pub firstFailing : Row → ℕ → Span → (ℕ → Bool) → Option Refusal
-firstFailing row f s test = firstOf (λ p. unless (test p) (refuse row (lineIn f (s .base) p))) (upTo (s .size))
+firstFailing row f s test = firstOf (failingAt row f s test) (upTo (s .size))
 
 -- 11 and 13 of function f
 unfoldable pub reachIn : Task → ℕ → Option Refusal
