@@ -1,13 +1,15 @@
 -- Laws of the rows 7 to 10: the points of a function in the tables, the row of a point, and the searches at their start.
-use Prim.Native.Nat.{ℕ, suc, _+_, _≤_, _<_}
+use Prim.Native.Nat.{ℕ, suc, _+_, _-_, _≤_, _<_}
 use native.Mathlib.Nat.{sub-zero}
+use native.Mathlib.Omega.{arith}
+use native.Mathlib.Decide.{decLt}
 use native.Mathlib.Numerals.{add-one}
 use mathlib.Core.Path.{_≡_, refl, ap, sym, _∙_}
 use mathlib.Core.Bool.{Bool, true, false, not, _&&_, _||_, or-false, or-true, and-true}
 use mathlib.Core.List.{List}
 use lib.ListN.{getD, List·getD-eq-default}
 use lib.Dec.{ltb}
-use borrow.Author.Tests.{not-false, lt-ltb}
+use borrow.Author.Tests.{not-false, lt-ltb, le-ltb}
 use Rattle.model.specs.declared.Point.{Point}
 use Rattle.model.specs.declared.Point.the-variants.{Load, Store, Call, Ensure, Goto, Either, Return}
 use Rattle.model.specs.declared.Verdict.{Verdict}
@@ -91,20 +93,27 @@ module _ {w : List ℕ} {h : Header} (k : Holds w h) (f : ℕ) (l : f < h .funcs
     line =
         ap (λ (x : Span). lineIn f (x .base) p) e ∙ ap (λ (n : ℕ). n + 1 + p) (sym (line-is h (k .stacked) f l))
 
+    next : ltb p (s .size - 1) ≡ ltb (p + 1) (s .size)
+    next =
+        elim (decLt (p + 1) (s .size)) [
+          | yes j ↦ lt-ltb p (s .size - 1) (omega arith) ∙ sym (lt-ltb (p + 1) (s .size) j)
+          | no j ↦ le-ltb p (s .size - 1) (omega arith) ∙ sym (le-ltb (p + 1) (s .size) (omega arith))
+        ]
+
     -- the row of point p, from what the code finds: the point x, and its line n
     pub row-is : {x : Point} → x ≡ pointAt w (s .base + p) → {n : ℕ} → n ≡ lineIn f (s .base) p
-        → kindRow (h .funcs) f (funcIn w s) p (ltb (p + 1) (s .size)) n x ≡ rowVerdict (linkRow (taskOf w h) f p)
+        → kindRow (h .funcs) f (funcIn w s) p (ltb p (s .size - 1)) n x ≡ rowVerdict (linkRow (taskOf w h) f p)
     row-is a b =
-        (λ j. kindRow (sym (count-is w h) j) f (same j) p (ltb (p + 1) (points j)) ((b ∙ line) j) ((a ∙ there) j))
+        (λ j. kindRow (sym (count-is w h) j) f (same j) p ((next ∙ ap (ltb (p + 1)) points) j) ((b ∙ line) j) ((a ∙ there) j))
         ∙ kind-row (taskOf w h) f p
 
     -- before the last point a load or a store passes
-    pub row-access : {b : Bool} → b ≡ isAccess (pointAt w (s .base + p)) → not b ≡ false → p + 1 < s .size → Accepted ≡ rowVerdict (linkRow (taskOf w h) f p)
+    pub row-access : {b : Bool} → b ≡ isAccess (pointAt w (s .base + p)) → not b ≡ false → p < s .size - 1 → Accepted ≡ rowVerdict (linkRow (taskOf w h) f p)
     row-access {b} a d j = go (pointAt w (s .base + p)) (sym a ∙ not-false b d) ∙ row-is refl refl
       where
-        go : (x : Point) → isAccess x ≡ true → Accepted ≡ kindRow (h .funcs) f (funcIn w s) p (ltb (p + 1) (s .size)) (lineIn f (s .base) p) x
-        go (Load o) c = rw (lt-ltb (p + 1) (s .size) j)
-        go (Store o) c = rw (lt-ltb (p + 1) (s .size) j)
+        go : (x : Point) → isAccess x ≡ true → Accepted ≡ kindRow (h .funcs) f (funcIn w s) p (ltb p (s .size - 1)) (lineIn f (s .base) p) x
+        go (Load o) c = rw (lt-ltb p (s .size - 1) j)
+        go (Store o) c = rw (lt-ltb p (s .size - 1) j)
         go (Call g) c = cc
         go (Ensure k) c = cc
         go (Goto q) c = cc

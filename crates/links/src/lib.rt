@@ -2,7 +2,7 @@
 ghost use mathlib.Core.Path.{_≡_};
 ghost use mathlib.Core.Bool.{_&&_};
 ghost use mathlib.Core.Option.{some};
-ghost use Prim.Native.Nat.{_+_, _<_};
+ghost use Prim.Native.Nat.{_-_, _<_};
 ghost use lib.Dec.{ltb};
 ghost use Rattle.model.specs.Rows.{rowVerdict};
 ghost use Rattle.model.specs.Task.{point};
@@ -88,6 +88,14 @@ fn target_fits(work: &[u32], s: Span, target: u32) -> bool
     (q < s.size) & !is_ensure(point_in(work, s, q))
 }
 
+// Both targets of an either. The second is looked at only where the first fits.
+fn both_fit(work: &[u32], s: Span, first: u32, second: u32) -> bool
+    requires { ⌜ Lies (now work) s ⌝ }
+    ensures { λ r. ⌜ r ≡ (targetFits (funcIn (now (work .entry)) s) first && targetFits (funcIn (now (work .entry)) s) second) ⌝ }
+{
+    target_fits(work, s, first) && target_fits(work, s, second)
+}
+
 // Refuses by this row unless the test holds. What is tried after it decides then.
 fn refuse_unless(test: bool, row: Row, line: u32, after: Verdict) -> Verdict
     ensures { λ r. ⌜ r ≡ refuseUnless test row line after ⌝ }
@@ -102,9 +110,9 @@ fn refuse_unless(test: bool, row: Row, line: u32, after: Verdict) -> Verdict
 // 8: an ensure comes directly after a call. 10: the last point does not lead past the end.
 fn kind_row(work: &[u32], funcs: usize, f: usize, s: Span, p: usize, line: u32, x: Point) -> Verdict
     requires { ⌜ Lies (now work) s × (p < s .size) ⌝ }
-    ensures { λ r. ⌜ r ≡ kindRow funcs f (funcIn (now (work .entry)) s) p (ltb (p + 1) (s .size)) line x ⌝ }
+    ensures { λ r. ⌜ r ≡ kindRow funcs f (funcIn (now (work .entry)) s) p (ltb p (s .size - 1)) line x ⌝ }
 {
-    let last = refuse_unless(p + 1 < s.size, Row::LastPoint, line, Verdict::Accepted);
+    let last = refuse_unless(p < s.size - 1, Row::LastPoint, line, Verdict::Accepted);
     match x {
         Point::Load(_) => last,
         Point::Store(_) => last,
@@ -125,7 +133,7 @@ fn kind_row(work: &[u32], funcs: usize, f: usize, s: Span, p: usize, line: u32, 
             Verdict::Accepted,
         ),
         Point::Either(q, r) => refuse_unless(
-            target_fits(work, s, q) & target_fits(work, s, r),
+            both_fit(work, s, q, r),
             Row::Target,
             line,
             Verdict::Accepted,

@@ -1,6 +1,5 @@
 -- Each arm is one kind of point.
 use mathlib.Core.Path.{ap, _∙_}
-use mathlib.Core.Bool.{_&&_}
 use borrow.Author.Needs.{needs}
 use Rattle.model.specs.declared.Point.{Point}
 use Rattle.model.specs.declared.Row.the-variants.{Callee, Pairing, Target}
@@ -34,7 +33,6 @@ kind-row-spec =
     (λ c. search needs)
     (λ c κs. search needs)
     (λ c κs. search needs)
-    (λ c κs. search needs)
     (λ c. search needs)
     (λ c. rw (c .enum-told .given .1) (c .before .before .refuse-unless .ensures))
     (λ c. rw (c .enum-told2 .given .1) (c .before .before .refuse-unless .ensures))
@@ -61,12 +59,8 @@ kind-row-spec =
     let line = x .before .before .before .before .before .args .line in
     rw (x .x3 .given .1) (c .refuse-unless5 .ensures ∙ (λ j. refuseUnless (t .target-fits .ensures j) Target line Accepted)))
     (λ c.
-    let r = c .before in
-    let q = r .before in
-    let x = q .before .before in
+    let t = c .before in
+    let x = t .before .before in
     let line = x .before .before .before .before .before .args .line in
-    rw
-    (x .x4 .given .1)
-    (c .refuse-unless6 .ensures
-    ∙ (λ j. refuseUnless (q .target-fits2 .ensures j && r .target-fits3 .ensures j) Target line Accepted)))
+    rw (x .x4 .given .1) (c .refuse-unless6 .ensures ∙ (λ j. refuseUnless (t .both-fit .ensures j) Target line Accepted)))
     (λ c. rw (c .enum-told3 .given .1)))
