@@ -76,17 +76,16 @@ other-passes Return m h = record { clean = λ j t. absurd t; keeps = λ j i t b.
 pub test-had : (m : ℕ) (x : Point) {y : Point} {b v : Bool} → y ≡ x → b ≡ has m (loaded y) → b ≡ v → not (has m (loaded x)) ≡ not v
 test-had m x e d t = ap not (sym (ap (λ (z : Point). has m (loaded z)) e) ∙ (sym d ∙ t))
 
--- a set that does not have what a point loads
-not-had : (m : ℕ) (o : Option ℕ) → has m o ≡ false → (j : ℕ) → T (is j o) → bit m j ≡ 0
-not-had m none e j t = absurd t
-not-had m (some o) e j t = let i = eqb→eq j o t in omega (arith, ap (bit m) i, bit-le m o, eqb-false (bit m o) 1 e)
+-- what a load hands on, and what a point hands on that loads nothing
+pub load-passes : {x : Point} {o b : ℕ} (m : ℕ) → x ≡ Load o → b ≡ bit m o → (b ≡ 1 → ⊥) → Passes x m m
+load-passes {o = o} {b} m e d h =
+    rw e (record { clean = λ j t. let i = eqb→eq j o t in omega (arith, ap (bit m) i, bit-le m o, d, h); keeps = λ j l t k. k })
 
--- what a load or a store hands on
-pub access-passes : {x : Point} {b : Bool} {m k next : ℕ} → b ≡ has m (loaded x) → b ≡ false → Marks (λ j. is j (stored x)) k → k < 2 ^ setBits
+pub unloaded-passes : {x : Point} {m k next : ℕ} → loaded x ≡ none → Marks (λ j. is j (stored x)) k → k < 2 ^ setBits
     → next ≡ difference m k → Passes x m next
-access-passes {x} {m = m} {k} d e s l i =
+unloaded-passes {x} {m} {k} e s l i =
     record {
-      clean = not-had m (loaded x) (sym d ∙ e);
+      clean = λ j t. absurd (rw e at t);
       keeps = λ j h t b.
           let out : bit k j ≡ 1 → ⊥ = λ y. T-not (is j (stored x)) t (marked s j h .0 y) in
           omega (arith, ap (λ (v : ℕ). bit v j) i, bit-difference m k j l h, bit-le k j);

@@ -91,8 +91,11 @@ fn access(x: Point, m: u64) -> Step
     requires { ⌜ T (offsetFits mostStack x) ⌝ }
     ensures { λ r. ⌜ Accessed x m r ⌝ }
 {
-    if point::has_load(m, x) {
-        return Step::Fails;
+    if let Point::Load(o) = x {
+        if bits::bit_of(m, o) == 1 {
+            return Step::Fails;
+        }
+        return Step::Falls(m);
     }
     Step::Falls(bits::difference_of(m, point::kill_of(x)))
 }
