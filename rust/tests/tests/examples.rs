@@ -213,3 +213,39 @@ fn a_store_in_one_branch_leaves_the_offset_live() {
     let events = [0, 3, 1, 8, 0, 1, 0, 0];
     run_like_plain(&text, 3, 1, &events);
 }
+
+/// A shipped example: the task text and its sheet.
+fn shipped(name: &str) -> (String, String) {
+    let folder = concat!(env!("CARGO_MANIFEST_DIR"), "/../../examples");
+    let read = |ending| std::fs::read_to_string(format!("{folder}/{name}.{ending}")).expect("a shipped file");
+    (read("task"), read("sheet"))
+}
+
+#[test]
+fn shipped_sheets() {
+    for name in ["sample", "press", "loop", "chain", "forever"] {
+        let (task, sheet) = shipped(name);
+        let reported = report(task.as_bytes(), sheet.len(), WORK_MIN);
+        assert_eq!(reported.result.verdict, Ok(()), "{name}");
+        assert_eq!(reported.output, sheet.as_bytes(), "{name}");
+    }
+}
+
+/// What examples/README.md says of the press: a sheet that charges the running frame alone is 9 blocks short.
+#[test]
+fn press_charges_the_callers() {
+    let (task, _) = shipped("press");
+    let figures = point_figures(&task);
+    // Functions 0, 1 and 2 have 12, 6 and 7 points.
+    let dearest = &figures[12 + 6 + 7 + 1];
+    assert_eq!(dearest.save + dearest.reload + dearest.later, 14);
+    assert_eq!(dearest.cost, 23);
+    // To point 1 of function 3 through the branch of function 1; from there to the point behind the ensure of function 0.
+    let before = steps(7, 0);
+    let after = steps(8, 0);
+    let undisturbed = run_like_plain(&task, 12, 17, &[&before[..], &after].concat());
+    let preempted = run_like_plain(&task, 12, 17, &[&before[..], &[1, 5], &after].concat());
+    assert_eq!((undisturbed.moved, preempted.moved), (2, 25));
+    let chained = figures.iter().filter(|point| point.chain > 0).count();
+    assert_eq!(chained, 18);
+}
