@@ -1,8 +1,9 @@
 /*
  * Felknost: the preemption sheet of a task on a core with a stack cache.
  *
- * felknost_check judges a task text, given as its bytes. It needs no working space from the caller, touches nothing but its own
- * stack, and returns for every byte string. Threads may call it at the same time. Link with libfelknost.a and nothing else.
+ * felknost_check judges a task text, given as its bytes; felknost_report writes its preemption sheet. Both return for every byte string and every
+ * length of the buffers, and touch nothing but the buffers that they are lent and their own stack. Threads may call them at the same time, each
+ * with buffers of its own. Link with libfelknost.a and a C library for memset.
  */
 #ifndef FELKNOST_H
 #define FELKNOST_H
@@ -43,6 +44,24 @@ uint32_t felknost_check(const uint8_t *text, size_t length);
  */
 #define FELKNOST_CHECK_STACK 24576
 #define FELKNOST_THREAD_STACK 32768
+
+/*
+ * Writes the preemption sheet of a task text to the front of output. result gets three numbers: CODE, PLACE and how many bytes were written. CODE and
+ * PLACE are 0 where the text is accepted; else they are as above, and two rows are new:
+ *
+ *  14  the output is too small; PLACE is the number of bytes wanted. It is tried after all others
+ *  15  the working space is too small; PLACE is FELKNOST_WORK. It is tried before all others
+ *
+ * Where the report is refused, nothing is written to output. Bytes of output behind the report are left as they were. The first FELKNOST_WORK numbers
+ * of work are 0 afterwards, and those behind them are left as they were; with 15 work is not touched. What the buffers held before does not
+ * matter. No two buffers may overlap. A buffer may be NULL where its length is 0.
+ *
+ * The return value is 1. It is 0 where result has fewer than three numbers; then nothing is touched.
+ */
+#define FELKNOST_WORK 16384
+
+uint32_t felknost_report(const uint8_t *text, size_t text_length, uint8_t *output, size_t output_length, uint32_t *work, size_t work_length,
+                         uint64_t *result, size_t result_length);
 
 #define FELKNOST_CODE(answer) ((uint32_t)(answer) >> 16)
 #define FELKNOST_PLACE(answer) ((uint32_t)(answer) & 0xffffu)

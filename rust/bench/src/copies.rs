@@ -1,9 +1,14 @@
 //! A new archive against an old one. `compare` links the code of each at four places, of which the fastest counts.
 
+use std::hint::black_box;
 use std::process::ExitCode;
 
+use crate::check::ROUNDS;
 use crate::texts::texts;
-use crate::{grouped, micros, times, Check};
+use crate::timing::{grouped, micros, Call};
+
+/// A check that gives the code.
+type Check = fn(&[u8]) -> u64;
 
 /// The slowest that a row may get, in parts of what it was.
 const SLOWEST: f64 = 1.03;
@@ -11,13 +16,13 @@ const SLOWEST: f64 = 1.03;
 macro_rules! copies {
     ($($name:ident)*) => {
         [$({
-            fn check(text: &[u8]) -> u32 {
+            fn check(text: &[u8]) -> u64 {
                 extern "C" {
                     fn $name(text: *const u8, length: usize) -> u32;
                 }
                 // SAFETY: as for `felknost::check`.
                 let answer = unsafe { $name(text.as_ptr(), text.len()) };
-                answer >> 16
+                u64::from(answer >> 16)
             }
             check as Check
         }),*]
@@ -31,7 +36,8 @@ const CHECKS: [Check; 8] = copies! {
 
 /// Seconds of the old and of the new archive.
 fn old_and_new(text: &[u8]) -> (f64, f64) {
-    let times = times(text, CHECKS);
+    let mut calls = CHECKS.map(|check| move || check(black_box(text)));
+    let times = ROUNDS.times(calls.each_mut().map(|call| call as Call));
     let best = |times: &[f64]| times.iter().copied().fold(f64::MAX, f64::min);
     (best(&times[..4]), best(&times[4..]))
 }

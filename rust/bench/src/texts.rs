@@ -1,6 +1,23 @@
-//! The texts of the table, by the names of its rows.
+//! The texts of the tables, by the names of their rows.
 
-/// The rows of the table in docs/BENCHMARKS.md.
+/// How many points a text has.
+pub fn points(text: &[u8]) -> usize {
+    text.windows(3).filter(|part| part == b"  (").count()
+}
+
+/// The rows of report's table: those of check, and fewer functions of 16 points, so that growth with the functions shows.
+pub fn report_texts() -> Vec<(&'static str, Vec<u8>)> {
+    let mut rows = texts();
+    let whole = rows
+        .iter()
+        .position(|(name, _)| *name == "64 functions of 16 points");
+    let whole = whole.expect("the row of 64 functions");
+    rows.insert(whole, ("32 functions of 16 points", functions(32)));
+    rows.insert(whole, ("16 functions of 16 points", functions(16)));
+    rows
+}
+
+/// The rows of check's table.
 pub fn texts() -> Vec<(&'static str, Vec<u8>)> {
     vec![
         ("empty text", Vec::new()),
@@ -17,7 +34,7 @@ pub fn texts() -> Vec<(&'static str, Vec<u8>)> {
             led_back(0),
         ),
         ("four, the last of them so", led_back(3)),
-        ("64 functions of 16 points", functions()),
+        ("64 functions of 16 points", functions(64)),
         (
             "256 points, 64 offsets, a branch at every other point",
             branches(false),
@@ -99,13 +116,13 @@ fn chain(count: usize, opening: impl Fn(usize) -> Vec<String>) -> Vec<u8> {
     text
 }
 
-/// 64 functions of 16 points.
-fn functions() -> Vec<u8> {
+/// So many functions of 16 points, each called by the one before.
+fn functions(count: usize) -> Vec<u8> {
     let mut text = Vec::new();
     put(&mut text, "(stack 64)");
-    for function in 0..64 {
+    for function in 0..count {
         put(&mut text, "(func 4");
-        if function < 63 {
+        if function + 1 < count {
             put(&mut text, &format!("  (call {})", function + 1));
             put(&mut text, "  (ensure 4)");
         } else {

@@ -12,13 +12,11 @@
 #![warn(missing_docs)]
 
 mod refusal;
-#[cfg(feature = "report")]
 mod report;
 #[cfg(feature = "run")]
 mod run;
 
 pub use refusal::{Refusal, Row};
-#[cfg(feature = "report")]
 pub use report::report;
 #[cfg(feature = "run")]
 pub use run::{run, RunResult};

@@ -2,9 +2,7 @@
 
 use second::{code_and_place, RunResult, Verdict, WriteResult, WORK_MIN};
 
-use crate::guarded::noise;
-#[cfg(any(feature = "report", feature = "run"))]
-use crate::guarded::{is_noise_from, Guarded};
+use crate::guarded::{is_noise_from, noise, Guarded};
 
 /// Requires that a service refuses a text where check does, and likewise, and else by none of check's rows.
 fn assert_checked(text: &[u8], work: usize, verdict: Verdict) {
@@ -43,7 +41,6 @@ pub fn report(text: &[u8], output: usize, work: usize) -> Reported {
     let result = second::report(text, work, &mut output);
     assert_checked(text, work, result.verdict);
     let reported = Reported { result, output };
-    #[cfg(feature = "report")]
     report_in_archive(text, work, &reported);
     reported
 }
@@ -103,7 +100,6 @@ pub fn run(text: &[u8], events: &[u32], lent: &Lent, work: usize) -> Ran {
 }
 
 /// Requires that a working space of noise was left as the rules say: the first 16,384 numbers 0, unless it is too short, and the rest as it was.
-#[cfg(any(feature = "report", feature = "run"))]
 fn assert_cleared(work: &Guarded<u32>) {
     let held = work.held("the working space");
     let cleared = if held.len() < WORK_MIN { 0 } else { WORK_MIN };
@@ -113,14 +109,12 @@ fn assert_cleared(work: &Guarded<u32>) {
 }
 
 /// The numbers of a result, and noise behind them.
-#[cfg(any(feature = "report", feature = "run"))]
 fn with_noise(numbers: &[u64], length: usize) -> Vec<u64> {
     let mut whole = noise(length);
     whole[..numbers.len()].copy_from_slice(numbers);
     whole
 }
 
-#[cfg(feature = "report")]
 fn report_in_archive(text: &[u8], work: usize, wanted: &Reported) {
     let mut output = Guarded::noisy(wanted.output.len());
     let mut space = Guarded::noisy(work);
@@ -169,7 +163,6 @@ fn run_in_archive(text: &[u8], events: &[u32], lent: &Lent, work: usize, wanted:
 }
 
 /// `felknost_report` of the archive as a C program calls it.
-#[cfg(feature = "report")]
 pub fn raw_report(text: &[u8], output: &mut [u8], work: &mut [u32], result: &mut [u64]) -> u32 {
     extern "C" {
         fn felknost_report(

@@ -217,7 +217,9 @@ fn a_store_in_one_branch_leaves_the_offset_live() {
 /// A shipped example: the task text and its sheet.
 fn shipped(name: &str) -> (String, String) {
     let folder = concat!(env!("CARGO_MANIFEST_DIR"), "/../../examples");
-    let read = |ending| std::fs::read_to_string(format!("{folder}/{name}.{ending}")).expect("a shipped file");
+    let read = |ending| {
+        std::fs::read_to_string(format!("{folder}/{name}.{ending}")).expect("a shipped file")
+    };
     (read("task"), read("sheet"))
 }
 

@@ -68,7 +68,6 @@ fn every_output_length() {
 }
 
 /// What only the archive can show.
-#[cfg(feature = "report")]
 mod in_archive {
     use super::*;
     use felknost::{Refusal, Row};

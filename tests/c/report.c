@@ -1,0 +1,194 @@
+/*
+ * Tests of felknost_report, built as C and as C++: the bytes of a report, outputs of every length around the one wanted, refusals, buffers between
+ * pages that may not be touched and with contents that are not zero, a result that is too short, and threads. The last line counts them.
+ */
+#ifndef _GNU_SOURCE
+#define _GNU_SOURCE 1
+#endif
+#include "felknost.h"
+#include "room.h"
+
+#include <pthread.h>
+#include <stdio.h>
+#include <stdlib.h>
+#include <string.h>
+
+static int passed, failed;
+
+static void count(const char *name, int good)
+{
+    if (good) {
+        passed++;
+        return;
+    }
+    failed++;
+    printf("%s: FAILED\n", name);
+}
+
+#define TASK                                                                                  \
+    "(stack 5)\n(func 2\n  (store 1)\n  (call 1)\n  (ensure 2)\n  (load 1)\n  (return)\n)\n" \
+    "(func 4\n  (store 0)\n  (load 0)\n  (return)\n)\n"
+
+#define SHEET                                                                                                       \
+    "(report\n  (func 0 2 6 6 0 0)\n  (at 0 2 2 2 0 0 0 0 0 0)\n  (at 1 2 1 0 1 0 1 0 2 0)\n"                       \
+    "  (at 2 1 1 0 0 0 1 0 1 1)\n  (at 3 2 1 2 1 1 0 0 2 0)\n  (at 4 2 2 0 0 0 0 0 0 0)\n  (func 1 4 4 4 1 1)\n" \
+    "  (at 0 5 4 1 1 0 0 1 2 0)\n  (at 1 5 0 1 5 1 0 1 7 0)\n  (at 2 5 4 0 1 0 0 1 2 0)\n)\n"
+
+#define WANTED (sizeof SHEET - 1)
+#define FILLER 0xa5
+
+/* ---- one call, with every buffer at one end of its pages: the front, where what lies before traps, or the end, where what lies behind does */
+
+struct buffer {
+    struct room room;
+    uint8_t *at;
+    size_t bytes;
+};
+
+static struct buffer texts, outputs, works, results;
+
+static void lend(struct buffer *buffer, size_t bytes, int at_end, int byte)
+{
+    memset(buffer->room.start, byte, buffer->room.size);
+    buffer->at = buffer->room.start + (at_end ? buffer->room.size - bytes : 0);
+    buffer->bytes = bytes;
+}
+
+/* All bytes of the buffer's pages from this one of the buffer on, and those before the buffer, are as they were lent. */
+static int kept_from(const struct buffer *buffer, size_t from)
+{
+    const uint8_t *byte = buffer->room.start;
+    for (; byte < buffer->room.start + buffer->room.size; byte++)
+        if ((byte < buffer->at || byte >= buffer->at + from) && *byte != FILLER)
+            return 0;
+    return 1;
+}
+
+static uint64_t numbers[3];
+
+static int called(const char *text, size_t length, size_t output, size_t work, size_t result, int at_end)
+{
+    lend(&texts, length, at_end, 0);
+    memcpy(texts.at, text, length);
+    lend(&outputs, output, at_end, FILLER);
+    lend(&works, work * sizeof(uint32_t), at_end, FILLER);
+    lend(&results, result * sizeof(uint64_t), at_end, FILLER);
+    room_close(&texts.room);
+    uint32_t answer = felknost_report(texts.at, length, outputs.at, output, (uint32_t *)(void *)works.at, work, (uint64_t *)(void *)results.at, result);
+    room_open(&texts.room);
+    if (result >= 3)
+        memcpy(numbers, results.at, sizeof numbers);
+    return (int)answer;
+}
+
+/* A working space of this many numbers is 0 in its first FELKNOST_WORK and untouched behind, or wholly untouched where it is shorter. */
+static int cleared(size_t work)
+{
+    size_t zeros = work < FELKNOST_WORK ? 0 : FELKNOST_WORK * sizeof(uint32_t);
+    size_t i;
+    for (i = 0; i < zeros; i++)
+        if (works.at[i] != 0)
+            return 0;
+    return kept_from(&works, zeros);
+}
+
+static void expect(const char *name, const char *text, size_t length, size_t output, size_t work, uint64_t code, uint64_t place, const char *bytes, size_t written)
+{
+    int at_end;
+    for (at_end = 0; at_end < 2; at_end++) {
+        room_case = name;
+        int answer = called(text, length, output, work, 5, at_end);
+        int same = numbers[0] == code && numbers[1] == place && numbers[2] == written;
+        count(name, answer == 1 && same && memcmp(outputs.at, bytes, written) == 0 && kept_from(&outputs, written) && cleared(work) && kept_from(&results, sizeof numbers));
+    }
+}
+
+/* ---- cases */
+
+static void lengths(void)
+{
+    size_t output;
+    for (output = 0; output <= WANTED + 8; output++) {
+        int whole = output >= WANTED;
+        expect("an output length", TASK, sizeof TASK - 1, output, FELKNOST_WORK, whole ? 0 : 14, whole ? 0 : WANTED, SHEET, whole ? WANTED : 0);
+    }
+}
+
+static void refusals(void)
+{
+    expect("no text", "", 0, 400, FELKNOST_WORK, 2, 1, "", 0);
+    expect("a form", "(stack 5)\n(func 2\n (return)\n)\n", 30, 400, FELKNOST_WORK + 9, 2, 3, "", 0);
+    expect("a stack", "(stack 65)\n", 11, 400, FELKNOST_WORK, 3, 1, "", 0);
+    expect("a refused text and no output", "(stack 65)\n", 11, 0, FELKNOST_WORK, 3, 1, "", 0);
+    expect("a working space too small", TASK, sizeof TASK - 1, 400, FELKNOST_WORK - 1, 15, FELKNOST_WORK, "", 0);
+    expect("no working space", TASK, sizeof TASK - 1, 400, 0, 15, FELKNOST_WORK, "", 0);
+    expect("15 before the text", "(stack 65)\n", 11, 400, 3, 15, FELKNOST_WORK, "", 0);
+    expect("more working space", TASK, sizeof TASK - 1, 400, FELKNOST_WORK + 100, 0, 0, SHEET, WANTED);
+}
+
+static void short_results(void)
+{
+    size_t result;
+    int at_end;
+    for (result = 0; result < 3; result++)
+        for (at_end = 0; at_end < 2; at_end++) {
+            room_case = "a result too short";
+            int answer = called(TASK, sizeof TASK - 1, 400, FELKNOST_WORK, result, at_end);
+            count(room_case, answer == 0 && kept_from(&outputs, 0) && kept_from(&works, 0) && kept_from(&results, 0));
+        }
+    uint64_t three[3] = {9, 9, 9};
+    count("nothing is lent but the result", felknost_report(NULL, 0, NULL, 0, NULL, 0, three, 3) == 1 && three[0] == 15 && three[1] == FELKNOST_WORK && three[2] == 0);
+    count("nothing is lent", felknost_report(NULL, 0, NULL, 0, NULL, 0, NULL, 0) == 0);
+}
+
+/* ---- threads, each with buffers of its own */
+
+#define THREADS 8
+#define ROUNDS 2000
+
+static void *reports(void *good)
+{
+    static const char task[] = TASK;
+    uint32_t *work = (uint32_t *)malloc(FELKNOST_WORK * sizeof *work);
+    uint8_t output[WANTED + 3];
+    uint64_t result[3];
+    int round;
+    for (round = 0; work != NULL && round < ROUNDS; round++) {
+        memset(work, FILLER, FELKNOST_WORK * sizeof *work);
+        memset(output, FILLER, sizeof output);
+        if (felknost_report((const uint8_t *)task, sizeof task - 1, output, sizeof output, work, FELKNOST_WORK, result, 3) != 1 ||
+            result[2] != WANTED || memcmp(output, SHEET, WANTED) != 0 || output[WANTED] != FILLER)
+            break;
+    }
+    free(work);
+    *(int *)good = round == ROUNDS;
+    return NULL;
+}
+
+static void threads(void)
+{
+    pthread_t thread[THREADS];
+    int good[THREADS], i;
+    for (i = 0; i < THREADS; i++)
+        if (pthread_create(&thread[i], NULL, reports, &good[i]) != 0)
+            abort();
+    for (i = 0; i < THREADS; i++) {
+        pthread_join(thread[i], NULL);
+        count("a thread", good[i]);
+    }
+}
+
+int main(void)
+{
+    room_report_traps();
+    texts.room = room_of(PAGE);
+    outputs.room = room_of(PAGE);
+    works.room = room_of(20 * PAGE);
+    results.room = room_of(PAGE);
+    lengths();
+    refusals();
+    short_results();
+    threads();
+    printf("report: %d passed, %d failed\n", passed, failed);
+    return failed != 0;
+}
