@@ -89,7 +89,8 @@ static void short_results(void)
             count(room_case, answer == 0 && kept_from(&outputs, 0) && kept_from(&works, 0) && kept_from(&results, 0));
         }
     uint64_t three[3] = {9, 9, 9};
-    count("nothing is lent but the result", felknost_report(NULL, 0, NULL, 0, NULL, 0, three, 3) == 1 && three[0] == 15 && three[1] == FELKNOST_WORK && three[2] == 0);
+    int answer = (int)felknost_report(NULL, 0, NULL, 0, NULL, 0, three, 3);
+    count("nothing is lent but the result", answer == 1 && three[0] == 15 && three[1] == FELKNOST_WORK && three[2] == 0);
     count("nothing is lent", felknost_report(NULL, 0, NULL, 0, NULL, 0, NULL, 0) == 0);
 }
 

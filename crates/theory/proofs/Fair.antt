@@ -12,7 +12,8 @@ use Rattle.model.specs.Task.{Task, count, func, point}
 use Rattle.model.specs.Core.{Core, save, reserve, withCache, resume, filledWith}
 use Rattle.model.specs.Sheet.{Sheet}
 use Rattle.model.specs.Refusal.{eventRows}
-use Rattle.model.specs.Plain.{Event, Act, takes, preempted, act, Frame, Plain, entered, running, stepped, afterEvent, loadedFrom, answerOf, orPlain, plainFrom, plain, firstFrames}
+use Rattle.model.specs.Plain.{Event, Act, takes, preempted, act, Frame, Plain, entered, running, stepped, afterEvent, loadedFrom, answerOf, orPlain}
+use Rattle.model.specs.Plain.{plainFrom, plain, firstFrames}
 use Rattle.model.specs.Run.{State, Turn, stepTurn, preemptTurn, turn, Ran, orRan, ranFrom, ran, stepBound, eventBound, orBound, allowedFrom, allowed}
 use Rattle.model.specs.WellFormed.{WellFormed}
 use Rattle.theory.specs.Sound.{Ground, Sound}

@@ -16,7 +16,8 @@ use Rattle.model.specs.declared.Line.the-variants as line
 use Rattle.model.specs.Limits.{mostStack, mostFuncs, mostPoints, mostInAll}
 use Rattle.model.specs.Basic.{sumOf}
 use Rattle.model.specs.Text.{linesOf}
-use Rattle.model.specs.Task.{Func, Task, Judged, refused, task, Progress, start, between, inside, Step, stop, goes, size, count, inAll, empty, func, point, offsetFits, withPoint, withFunc, readLine, readEnd, onward, readFrom, readText}
+use Rattle.model.specs.Task.{Func, Task, Judged, refused, task, Progress, start, between, inside, Step, stop, goes, size, count, inAll, empty, func}
+use Rattle.model.specs.Task.{point, offsetFits, withPoint, withFunc, readLine, readEnd, onward, readFrom, readText}
 use Rattle.model.specs.WellFormed.{Shaped}
 use Rattle.theory.proofs.Lists.{by-test, and-holds}
 
