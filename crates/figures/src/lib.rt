@@ -44,6 +44,8 @@ impl Columns {
     pub const ENTRY: usize = 8512;
 
     pub const CHAIN: usize = 8576;
+    // The numbers that the tables and all columns take.
+    pub const END: usize = 8640;
 }
 
 // All figures of a point.
@@ -548,12 +550,12 @@ pub fn figure_task(work: &mut [u32], h: Header)
     ensures { λ r. ⌜ Figured (now (work .exit)) h × (taskOf (now (work .exit)) h ≡ taskOf (now (work .entry)) h)
         × Kept columnsEnd (now (work .entry)) (now (work .exit)) ⌝ }
 {
-    let mut values = [0u32; 256];
-    let mut gens = [0u64; 256];
-    let mut kills = [0u64; 256];
-    let mut sets = [0u64; 256];
-    let mut state = [0u8; 256];
-    let mut out = [0u32; 256];
+    let mut values = [0u32; Limits::POINTS];
+    let mut gens = [0u64; Limits::POINTS];
+    let mut kills = [0u64; Limits::POINTS];
+    let mut sets = [0u64; Limits::POINTS];
+    let mut state = [0u8; Limits::POINTS];
+    let mut out = [0u32; Limits::POINTS];
     figure_with(
         work,
         h,
