@@ -2,7 +2,14 @@
 use Prim.Native.Nat.{ℕ, zero, suc, _+_, _-_, _*_, _≤_, _<_}
 use mathlib.Core.List.{List, [], _∷_}
 use mathlib.Core.Path.{_≡_, refl, ap, sym, _∙_}
+use mathlib.Core.Bool.{false}
 use native.Mathlib.Omega.{arith}
+use types.Run.{OneOf, miss}
+use denote.Enum.Declared.{tagOf}
+use Rattle.model.proofs.Point as P
+use Rattle.model.specs.declared.Point.{Point}
+use Rattle.model.specs.declared.Point.the-variants.{Load, Store, Call, Ensure, Goto, Either, Return}
+use Rattle.model.specs.Refusal.{isEither}
 use lib.ListN.{length, set, length-set}
 use lib.Seq.{drop-set-lt}
 use Rattle.model.specs.Limits.{mostFuncs}
@@ -16,7 +23,7 @@ use Rattle.machine.specs.declared.Machine.{Machine}
 use Rattle.machine.specs.Moves.{coreOf}
 use Rattle.turns.specs.declared.State.{State}
 use Rattle.turns.specs.declared.Turned.{Turned}
-use Rattle.turns.specs.Frames.{framesAt, framesEnd, putCaller, placesIn, framesFrom, turnOf, plainTurn}
+use Rattle.turns.specs.Frames.{framesAt, framesEnd, putCaller, placesIn, framesFrom, framesOf, turnOf, plainTurn}
 use Rattle.turns.specs.Turns.{Stays, Does}
 
 -- the running frame and its callers, where there is one
@@ -94,5 +101,39 @@ module _ (w : List ℕ) (n f p : ℕ) where
     };
   }
 
+-- the last of n callers runs
+pub callers-none : (w : List ℕ) (n : ℕ) → n ≡ 0 → [] ≡ placesIn w n
+unfolding placesIn
+callers-none w n e = rw e refl
+
+pub caller-runs : (w : List ℕ) (n f p : ℕ) → (n ≡ 0 → ⊥) → f ≡ item w (framesAt + 2 * (n - 1)) → p ≡ item w (framesAt + 2 * (n - 1) + 1)
+    → framesFrom w n f p ≡ placesIn w n
+unfolding placesIn
+caller-runs w zero f p h a b = absurd (h refl)
+caller-runs w (suc n) f p h a b =
+    let e : suc n - 1 ≡ n = omega arith in
+    let g = a ∙ ap (λ (m : ℕ). item w (framesAt + 2 * m)) e in
+    let i = b ∙ ap (λ (m : ℕ). item w (framesAt + 2 * m + 1)) e in
+    λ j. record { fn = g j; at = i j } ∷ placesIn w n
+
+-- a step that leaves the running frame
+pub leave-does : (x : State) (w cache memory : List ℕ) (n : ℕ) (c : Core) → framesOf w x ≡ placesIn w n → coreOf (x .machine) cache memory ≡ c
+    → Does (record { state = x; answer = 0; out = 0; back = 0; bound = 0 }) w cache memory
+    (record { state = record { frames = placesIn w n; core = c }; answer = 0; out = 0; back = 0 }) 0
+leave-does x w cache memory n c e k =
+    record { turn = λ i. record { state = record { frames = e i; core = k i }; answer = 0; out = 0; back = 0 }; bound = refl }
+
 pub stays-same : (w : List ℕ) → Stays w w
 stays-same w = record { below = λ i l. refl; kept = kept-same framesEnd w }
+
+-- ---- rows
+
+-- a point that is no either
+pub not-either : (y : Point) → OneOf (0 ∷ 1 ∷ 2 ∷ 3 ∷ 4 ∷ 6 ∷ []) (tagOf P.the-type y) → false ≡ isEither y
+not-either (Load o) h = refl
+not-either (Store o) h = refl
+not-either (Call g) h = refl
+not-either (Ensure k) h = refl
+not-either (Goto q) h = refl
+not-either (Either q r) h = absurd (miss (0 ∷ 1 ∷ 2 ∷ 3 ∷ 4 ∷ 6 ∷ []) 5 tt h)
+not-either Return h = refl
