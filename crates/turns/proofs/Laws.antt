@@ -89,7 +89,7 @@ module _ (w : List ℕ) (n f p : ℕ) where
   places-below zero h = refl
   places-below (suc m) h =
       let apart : (j : ℕ) → j < framesAt + 2 * n → item (putCaller w n f p) j ≡ item w j
-          = λ j l. elsewhere (set w (framesAt + 2 * n) f) (framesAt + 2 * n + 1) j p (λ e. omega arith) ∙ elsewhere w (framesAt + 2 * n) j f (λ e. omega arith) in
+      = λ j l. elsewhere (set w (framesAt + 2 * n) f) (framesAt + 2 * n + 1) j p (λ e. omega arith) ∙ elsewhere w (framesAt + 2 * n) j f (λ e. omega arith) in
       let a = apart (framesAt + 2 * m) (omega arith) in
       let b = apart (framesAt + 2 * m + 1) (omega arith) in
       let r = places-below m (omega arith) in
@@ -141,6 +141,11 @@ pub leave-does : (x : State) (w cache memory : List ℕ) (n : ℕ) (c : Core) �
 leave-does x w cache memory n c e k =
     record { turn = λ i. record { state = record { frames = e i; core = k i }; answer = 0; out = 0; back = 0 }; bound = refl }
 
+-- a step at a point that is known
+pub steps-at : (t : Task) (x : State) (y z : Point) (v : ℕ) (w cache memory : List ℕ) {r : Turned} {w′ cache′ memory′ : List ℕ} → y ≡ z
+    → Steps t x z v w cache memory r w′ cache′ memory′ → Steps t x y v w cache memory r w′ cache′ memory′
+steps-at t x y z v w cache memory e d = rw e d
+
 pub stays-same : (w : List ℕ) → Stays w w
 stays-same w = record { below = λ i l. refl; kept = kept-same framesEnd w }
 
@@ -153,9 +158,9 @@ call-does x r w w′ cache memory g o n c h l u e d f p k a i j b =
     let m : r .state .depth - 1 ≡ suc (x .depth - 1) = omega arith in
     let q : x .p + 1 ≡ suc (x .p) = omega arith in
     let below =
-        (λ z. placesIn (e z) (m z))
-        ∙ caller-put w (x .depth - 1) (x .f) (x .p + 1) (omega arith)
-        ∙ ap (λ (z : ℕ). record { fn = x .f; at = z } ∷ placesIn w (x .depth - 1)) q in
+    (λ z. placesIn (e z) (m z))
+    ∙ caller-put w (x .depth - 1) (x .f) (x .p + 1) (omega arith)
+    ∙ ap (λ (z : ℕ). record { fn = x .f; at = z } ∷ placesIn w (x .depth - 1)) q in
     record { turn = turn-on r w′ cache memory _ _ _ _ _ _ _ (omega arith) f p below k a i j; bound = b }
 
 -- ---- the figures that bound an event

@@ -17,11 +17,12 @@ returns : tie.Need-returns
 returns c =
     let s = c .before .before .before .before .before .before .before .before .before .before .before .before .before .before .before .before .before .before .before .before in
     let p = s .pre in
-    let u = c .before .before .before .before .before .before .before .before .before .before .put-caller .ensures in
-    (λ v.
-    enters-does _ (s .args .x) _ _ _ _ _ _ _ _ _ _ v (p .some) (p .few) (omega (arith, p .figured .room)) (c .before .before .before .before .before .before .before .before .before .before .before .before .before .before .func-figures .ensures)
-    (c .before .before .before .before .before .before .before .before .before .before .before .before .before .before .before .wide .ensures) (c .wide2 .ensures) u (c .before .before .before .before .before .reserve .ensures),
-    caller-stays _ (s .args .x .depth - 1) _ _ (omega (arith, p .some, p .few)) _ u)
+    let u = c .before .before .before .before .before .before .before .before .before .before .put-caller .ensures in (
+      λ v.
+          enters-does _ (s .args .x) _ _ _ _ _ _ _ _ _ _ v (p .some) (p .few) (omega (arith, p .figured .room)) (c .before .before .before .before .before .before .before .before .before .before .before .before .before .before .func-figures .ensures)
+          (c .before .before .before .before .before .before .before .before .before .before .before .before .before .before .before .wide .ensures) (c .wide2 .ensures) u (c .before .before .before .before .before .reserve .ensures),
+      caller-stays _ (s .args .x .depth - 1) _ _ (omega (arith, p .some, p .few)) _ u,
+    )
 
 pub call-step-spec : {M : Type 1} → statement M
 call-step-spec =
