@@ -1,16 +1,13 @@
 -- What an event keeps: the task, its figures, and a state that a run can be in. A loop over events cites these laws.
 use Prim.Native.Nat.{ℕ, zero, suc, _+_, _-_, _≤_, _<_}
 use mathlib.Core.List.{List, [], _∷_}
-use mathlib.Core.Option.{Option, none, some}
+use mathlib.Core.Option.{none}
 use mathlib.Core.Path.{_≡_, refl, ap, sym, subst, _∙_}
 use native.Mathlib.Omega.{arith}
 use lib.ListN.{length}
 use Rattle.model.specs.Limits.{mostStack, mostFuncs, mostInAll}
 use Rattle.model.specs.declared.Point.{Point}
 use Rattle.model.specs.declared.Point.the-variants.{Load, Store, Call, Ensure, Goto, Either, Return}
-use Rattle.model.specs.declared.Refusal.{Refusal}
-use Rattle.model.specs.declared.Verdict.the-variants as verdict
-use Rattle.model.specs.Rows.{rowVerdict}
 use Rattle.model.specs.Refusal.{eventRows}
 use Rattle.model.specs.Task.{Task, size, count, func, point}
 use Rattle.model.specs.Walk.{called}
@@ -210,17 +207,8 @@ begins {w} {h} {x} cache memory k a i j =
       frames = refl;
     }
 
--- ---- an event that no row refuses
+-- ---- an event that no row refuses has a frame that runs
 
-pub accepted-none : (o : Option Refusal) → verdict.Accepted ≡ rowVerdict o → o ≡ none
-accepted-none none e = refl
-accepted-none (some r) e = let z : _≡_ {A = ℕ} 0 1 = cc in absurd (omega arith)
-
-pub refused-some : (o : Option Refusal) (r : Refusal) → verdict.Refused r ≡ rowVerdict o → o ≡ some r
-refused-some none r e = let z : _≡_ {A = ℕ} 0 1 = cc in absurd (omega arith)
-refused-some (some q) r e = let i : r ≡ q = cc in ap some (sym i)
-
--- has a frame that runs
 pub accepted-runs : (t : Task) (w : List ℕ) (d f p i k v : ℕ) → eventRows i k v (runningPlace t (framesFrom w d f p)) ≡ none → 0 < d
 unfolding eventRows
 accepted-runs t w zero f p i k v e = let z : _≡_ {A = ℕ} 0 1 = cc in absurd (omega arith)
