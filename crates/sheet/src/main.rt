@@ -16,8 +16,8 @@ struct Buffers;
 impl Buffers {
     // One byte more than a text may have, so that a longer text is refused as such.
     const TEXT: usize = Limits::BYTES + 1;
-    // More than any report has.
-    const OUTPUT: usize = 65536;
+    // More than any report has: report_length of the crate report bounds it.
+    const OUTPUT: usize = 131072;
 }
 
 // What was read: so many bytes, or a failure.
