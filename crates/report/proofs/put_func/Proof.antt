@@ -23,7 +23,8 @@ returns : tie.Need-returns
 returns c =
     let a = c .before .before .before .before .before .before .before .before .before .before .before .before .before .before .pre in
     let k = there (a .0) (a .1) (c .before .before .before .before .before .before .before .before .before .before .before .span-at .ensures) in
-    let head = rw (c .before .before .before .before .before .before .before .before .func-numbers .ensures .0) at (c .before .before .before .before .before .before .put-row .ensures) in
+    let own = c .before .before .before .before .before .before .before .before .func-numbers .ensures .0 in
+    let head = rw own at (c .before .before .before .before .before .before .put-row .ensures) in
     func-wrote k (omega arith) head (c .before .before .put-points .ensures)
 
 pub put-func-spec : {M : Type 1} → statement M

@@ -25,9 +25,10 @@ loop-holds c =
 
 put-func-requires : tie.Need-put-func-requires Inv-loop μ-loop
 put-func-requires c κs =
-    let a = c .before .before .before .before .before .args in
-    let l = c .before .before .loop in
-    (c .before .before .before .before .before .pre .0, omega arith, omega (arith, next-room (funcText (taskOf (a .work .now) (a .h))) (l .f) (a .h .funcs) (omega arith)))
+    let start = c .before .before .before .before .before in
+    let a = start .args in
+    let g = funcText (taskOf (a .work .now) (a .h)) in
+    (start .pre .0, omega arith, omega (arith, next-room g (c .before .before .loop .f) (a .h .funcs) (omega arith)))
 
 add-f : tie.Need-add-f Inv-loop μ-loop
 add-f c = omega (arith, c .before .before .before .before .before .before .before .before .pre .0 .settled .holds .few)

@@ -26,9 +26,10 @@ loop-holds c =
 
 put-point-requires : tie.Need-put-point-requires Inv-loop μ-loop
 put-point-requires c κs =
-    let a = c .before .before .before .before .before .args in
-    let l = c .before .before .loop in
-    (c .before .before .before .before .before .pre .0, omega arith, omega (arith, next-room (pointText (taskOf (a .work .now) (a .h)) (a .f)) (l .p) (a .s .size) (omega arith)))
+    let start = c .before .before .before .before .before in
+    let a = start .args in
+    let g = pointText (taskOf (a .work .now) (a .h)) (a .f) in
+    (start .pre .0, omega arith, omega (arith, next-room g (c .before .before .loop .p) (a .s .size) (omega arith)))
 
 add-p : tie.Need-add-p Inv-loop μ-loop
 add-p c = omega (arith, size-low (c .before .before .before .before .before .before .before .before .pre .0))
@@ -40,7 +41,8 @@ loop-again : tie.Need-loop-again Inv-loop μ-loop
 loop-again c =
     let a = c .before .before .before .before .before .before .before .before .args in
     let l = c .before .before .before .before .before .loop in
-    (omega arith, omega arith, next-wrote (pointText (taskOf (a .work .now) (a .h)) (a .f)) (l .p) (omega arith) (l .inv .2) (c .before .before .put-point .ensures))
+    let g = pointText (taskOf (a .work .now) (a .h)) (a .f) in
+    (omega arith, omega arith, next-wrote g (l .p) (omega arith) (l .inv .2) (c .before .before .put-point .ensures))
 
 same-length : tie.Need-same-length Inv-loop μ-loop
 same-length c = omega arith
