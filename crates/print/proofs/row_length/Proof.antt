@@ -55,7 +55,8 @@ loop-less c = omega arith
 
 loop-again : tie.Need-loop-again Inv-loop μ-loop
 loop-again c =
-    (omega arith, omega (arith, length-next (c .before .before .before .before .before .before .args .numbers .now) (c .before .before .before .loop .k) (omega arith)))
+    let numbers = c .before .before .before .before .before .before .args .numbers .now in
+    (omega arith, omega (arith, length-next numbers (c .before .before .before .loop .k) (omega arith)))
 
 returns : tie.Need-returns Inv-loop μ-loop
 returns c =
