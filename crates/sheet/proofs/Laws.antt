@@ -1,4 +1,4 @@
--- The line of a refusal and its length, and what report returns and leaves as the answer to a text.
+-- The length of the line of a refusal, and what report returns and leaves as the answer to a text.
 use Prim.Native.Nat.{ℕ, zero, suc, _+_, _^_, _≤_, _<_}
 use mathlib.Core.Path.{_≡_, refl, ap, sym, _∙_}
 use mathlib.Core.List.{List, [], _∷_, _++_}
@@ -13,29 +13,23 @@ use Rattle.model.specs.declared.Refusal.{Refusal}
 use Rattle.model.specs.declared.Verdict.the-variants.{Accepted, Refused}
 use Rattle.model.specs.declared.WriteResult.{WriteResult}
 use Rattle.model.specs.Limits.{workLength}
-use Rattle.model.specs.Rows.{codeOf}
-use Rattle.model.specs.Text.{bytes}
 use Rattle.model.specs.Task.{Judged, refused, task}
-use Rattle.model.specs.Sheet.{reportText}
+use Rattle.model.specs.Sheet.{row, reportText}
 use Rattle.model.specs.Refusal.{judged, withRows, judge, workRow, outputRows}
 use Rattle.model.specs.Services.{over, cleared, writtenAs, writtenOf, reportOf}
-use Rattle.codes.proofs.Laws.{code-small}
 use Rattle.print.specs.Print.{Wrote}
 use Rattle.print.proofs.Laws.{row-most, pasted-start}
 use Rattle.sheet.specs.Answer.{refusalLine, answered, answerOf, Answers, mostLine}
 
--- the line of a refusal
+-- a row of a word of eight bytes and two numbers of 32 bits
 
 numbers-small : (a b : ℕ) → a < 2 ^ 32 → b < 2 ^ 32 → (i : ℕ) → getD (a ∷ b ∷ []) i 0 < 2 ^ 32
 numbers-small a b h k zero = h
 numbers-small a b h k (suc zero) = k
 numbers-small a b h k (suc (suc i)) = omega arith
 
-pub line-most : (r : Refusal) → r .place < 2 ^ 32 → length (refusalLine r) ≤ mostLine
-unfolding refusalLine
-line-most r h =
-    let c = codeOf (r .row) in
-    row-most (bytes "(refused") (c ∷ r .place ∷ []) (numbers-small c (r .place) (omega (arith, code-small (r .row))) h)
+pub row-fits : (w : List ℕ) (a b n : ℕ) → length w ≤ 8 → a < 2 ^ 32 → b < 2 ^ 32 → mostLine ≤ n → 0 + length (row w (a ∷ b ∷ [])) ≤ n
+row-fits w a b n l h k m = omega (arith, row-most w (a ∷ b ∷ []) (numbers-small a b h k))
 
 -- bytes written over the front of a buffer that is long enough leave its length
 pub length-over : (l out : List ℕ) → length l ≤ length out → length (over l out) ≡ length out

@@ -2,7 +2,7 @@
 use native.Mathlib.Omega.{arith}
 use borrow.Author.Needs.{needs}
 use Rattle.sheet.specs.Answer.{refusalLine}
-use Rattle.sheet.proofs.Laws.{line-most}
+use Rattle.sheet.proofs.Laws.{row-fits}
 use Rattle.sheet.proofs.put_refusal.Statement.{statement}
 use Rattle.sheet.proofs.put_refusal.Tie as tie
 
@@ -14,8 +14,8 @@ put-refusal-spec =
     (λ c. search needs)
     (λ c κs. search needs)
     (λ c. search needs)
-    (λ c κs. rw (c .before .code-of .ensures) (omega (arith, line-most (c .before .before .before .before .before .args .r) (omega arith))))
+    (λ c κs. row-fits _ _ _ _ (omega arith) (omega arith) (omega arith) (omega arith))
     (λ c. search needs)
     (λ c.
-    let w = rw (c .before .before .before .before .code-of .ensures) at (c .before .before .put-row .ensures) in
-    (w, omega (arith, w .end, line-most (c .before .before .before .before .before .before .before .before .args .r) (omega arith)))))
+    let p = c .before .before .put-row .ensures in
+    (rw (c .before .before .before .before .code-of .ensures) at p, rw (p .end) (row-fits _ _ _ _ (omega arith) (omega arith) (omega arith) (omega arith)))))
