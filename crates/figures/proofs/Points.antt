@@ -13,7 +13,7 @@ use Rattle.model.specs.Task.{Func, Task, size, func}
 use Rattle.model.specs.Walk.{called}
 use Rattle.model.specs.Figures as model
 use Rattle.model.specs.Figures.{longest, shortest, fillAfter, fill, kept}
-use Rattle.theory.proofs.Links.{callee-later, ensure-after-call}
+use Rattle.theory.proofs.Links.{ensure-after-call}
 use Rattle.tables.specs.declared.Header.{Header}
 use Rattle.tables.specs.declared.Span.{Span}
 use Rattle.tables.specs.Tables.{item, pointAt, baseAt, sizeAt, spanAt, funcIn, taskOf}
@@ -24,27 +24,22 @@ use Rattle.problems.specs.Problems.{Filled, KeptIn, CutIn}
 use Rattle.problems.proofs.Laws.{filled-as}
 use Rattle.columns.specs.Columns.{longestColumn, shortestColumn, fillColumn, entryColumn, Funcs}
 use Rattle.columns.specs.Values.{numbered, ensureAt, filledAt, keptAt, cutAt, chainedAt}
+use Rattle.columns.specs.Displaced.{Ready}
 use Rattle.columns.proofs.Values.{kept-frame, cut-stack}
+use Rattle.columns.proofs.Displaces.{callee-in}
 use Rattle.figures.specs.declared.Figure.{Figure}
 use Rattle.figures.specs.declared.Figure.the-variants.{High, Dead, Need, Next, Fill}
-use Rattle.figures.specs.Figured.{Ready}
 use Rattle.figures.specs.Steps.{Figures, Turn, Due}
 use Rattle.figures.proofs.Limits.{entry-low}
 use Rattle.figures.proofs.Gathers.{entry-of}
 
 module _ {w : List ℕ} {h : Header} {f : ℕ} (r : Ready w h) (k : f < h .funcs) where
-  -- what a point calls is a later function
-  pub callee-in : (p g : ℕ) → p < sizeAt w f → called (pointAt w (baseAt w f + p)) ≡ some g → (f < g) × (g < h .funcs)
-  callee-in p g l e =
-      let c = callee-later (r .settled .formed .linked) f p g (rw (count-is w h) k) (rw (size-is w h f k) l) (rw (point-is w h f k p l) e) in
-      (c .0, rw (count-is w h) at (c .1))
-
   left-is : (p q : ℕ) → q < sizeAt w f → Funcs (longest (taskOf w h)) longestColumn 0 (h .funcs) w → (o : Option ℕ)
       → called (pointAt w (baseAt w f + q)) ≡ o → (frame : ℕ)
       → (if ltb (numbered o) mostFuncs then frame - (h .stack - item w (longestColumn + numbered o)) else 0) ≡ fillAfter (taskOf w h) frame o
   left-is p q l d none e frame = refl
   left-is p q l d (some g) e frame =
-      let c = callee-in q g l e in
+      let c = callee-in r k q g l e in
       rw (lt-ltb g mostFuncs (omega (arith, c .1, r .settled .holds .few)), d .each g (omega arith) (c .1))
 
   pub fill-is : Funcs (longest (taskOf w h)) longestColumn 0 (h .funcs) w → (p : ℕ) → p < sizeAt w f → filledAt w h (spanAt w f) p ≡ fill (taskOf w h) f p
@@ -62,7 +57,7 @@ module _ {w : List ℕ} {h : Header} {f : ℕ} (r : Ready w h) (k : f < h .funcs
       → called (pointAt w (baseAt w f + p)) ≡ some g → cutAt w h (spanAt w f) p ≡ h .stack - shortest (taskOf w h) g
   unfolding cutAt
   cut-is d p g l e =
-      let c = callee-in p g l e in
+      let c = callee-in r k p g l e in
       rw (e, lt-ltb g mostFuncs (omega (arith, c .1, r .settled .holds .few)), d .each g (omega arith) (c .1))
 
   pub chained-is : ((p : ℕ) → p < sizeAt w f → item w (fillColumn + baseAt w f + p) ≡ fill (taskOf w h) f p) → (own p g : ℕ) → p < sizeAt w f

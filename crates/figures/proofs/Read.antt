@@ -17,7 +17,8 @@ use Rattle.tables.proofs.Valid.{lies-in}
 use Rattle.columns.specs.Columns.{highColumn, deadColumn, needColumn, nextColumn, fillColumn, longestColumn, shortestColumn, entryColumn}
 use Rattle.columns.specs.Columns.{chainColumn, Points}
 use Rattle.figures.specs.Figured.{Figured, figuredOf, funcFigures}
-use Rattle.figures.proofs.Limits.{frame-low, high-low, next-low, chain-low, entry-low}
+use Rattle.columns.proofs.Limits.{frame-low}
+use Rattle.figures.proofs.Limits.{high-low, next-low, chain-low, entry-low}
 
 module _ {w : List ℕ} {h : Header} {f : ℕ} {s : Span} (k : Figured w h) (l : f < h .funcs) (e : s ≡ spanAt w f) where
   pub lies-there : Lies w s

@@ -20,10 +20,11 @@ use Rattle.columns.specs.Values.{mostChain, chainedAt, Put, raisedBy, Raised}
 use Rattle.columns.proofs.Writes.{changed-on, changed-wider, changed-agree, points-kept, funcs-kept, stacked-order, changed-past}
 use Rattle.figures.specs.declared.Figure.{Figure}
 use Rattle.figures.specs.declared.Figure.the-variants.{High, Dead, Need, Next, Fill}
-use Rattle.figures.specs.Figured.{Ready, Figured}
-use Rattle.figures.specs.Steps.{figureOf, placeOf, columnOf, pointColumns, Figures, Displaced, Displacing, Stands, Worked, Turn}
+use Rattle.columns.specs.Displaced.{Ready, Displaced, Displacing}
+use Rattle.figures.specs.Figured.{Figured}
+use Rattle.figures.specs.Steps.{figureOf, placeOf, columnOf, pointColumns, Figures, Stands, Worked, Turn}
 use Rattle.figures.proofs.Limits.{chain-low}
-use Rattle.figures.proofs.Within.{within-ready, within-task}
+use Rattle.columns.proofs.Within.{within-ready, within-task}
 use Rattle.figures.proofs.Gathers.{gathered-none, gathered-kept, gathered-more, chain-of, entry-of}
 use Rattle.figures.proofs.Points.{chained-is}
 

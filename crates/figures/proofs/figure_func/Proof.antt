@@ -7,24 +7,37 @@ use Rattle.figures.proofs.figure_func.Statement.{statement}
 use Rattle.figures.proofs.figure_func.Tie as tie
 
 write-figure-requires-3 : tie.Need-write-figure-requires-3
-write-figure-requires-3 c κs = (c .before .before .before .before .before .before .before .before .before .write-figure2 .ensures .0, c .before .before .before .before .before .before .before .before .before .before .before .before .before .before .before .before .before .before .before .before .before .before .before .before .before .before .before .before .pre .1)
+write-figure-requires-3 c κs =
+    let c10 = c .before .before .before .before .before .before .before .before .before .before in
+    let c20 = c10 .before .before .before .before .before .before .before .before .before .before in
+    let k = c .before .before .before .before .before .before .before .before .before .write-figure2 .ensures in
+    (k .0, c20 .before .before .before .before .before .before .before .before .pre .1)
 
 write-figure-requires-4 : tie.Need-write-figure-requires-4
 write-figure-requires-4 c κs =
-    let b = c .before .before .before .before .before .before .before .before .before .before .before .before .before .before .before .before .before .before .before in
-    (c .before .before .before .before .before .before .before .before .before .write-figure3 .ensures .0, b .before .before .before .before .before .before .before .before .before .before .before .before .before .before .before .before .before .before .before .pre .1)
+    let c10 = c .before .before .before .before .before .before .before .before .before .before in
+    let c20 = c10 .before .before .before .before .before .before .before .before .before .before in
+    let c30 = c20 .before .before .before .before .before .before .before .before .before .before in
+    let k = c .before .before .before .before .before .before .before .before .before .write-figure3 .ensures in
+    (k .0, c30 .before .before .before .before .before .before .before .before .pre .1)
 
 write-figure-requires-5 : tie.Need-write-figure-requires-5
 write-figure-requires-5 c κs =
-    let b = c .before .before .before .before .before .before .before .before .before .before .before .before .before .before .before .before .before .before .before in
-    let d = b .before .before .before .before .before .before .before .before .before .before .before .before .before .before .before .before .before .before .before in
-    (c .before .before .before .before .before .before .before .before .before .write-figure4 .ensures .0, d .before .before .before .before .before .before .before .before .before .before .pre .1)
+    let c10 = c .before .before .before .before .before .before .before .before .before .before in
+    let c20 = c10 .before .before .before .before .before .before .before .before .before .before in
+    let c30 = c20 .before .before .before .before .before .before .before .before .before .before in
+    let c40 = c30 .before .before .before .before .before .before .before .before .before .before in
+    let k = c .before .before .before .before .before .before .before .before .before .write-figure4 .ensures in
+    (k .0, c40 .before .before .before .before .before .before .before .before .pre .1)
 
 raise-callees-requires : tie.Need-raise-callees-requires
 raise-callees-requires c κs =
-    let b = c .before .before .before .before .before .before .before .before .before .before .before .before .before .before .before in
-    let d = b .before .before .before .before .before .before .before .before .before .before .before .before .before .before .before .before .before .before .before .before in
-    (c .before .before .before .before .before .write-figure5 .ensures .0, d .before .before .before .before .before .before .before .before .before .before .before .before .before .before .before .before .before .before .before .pre .1)
+    let c10 = c .before .before .before .before .before .before .before .before .before .before in
+    let c20 = c10 .before .before .before .before .before .before .before .before .before .before in
+    let c30 = c20 .before .before .before .before .before .before .before .before .before .before in
+    let c40 = c30 .before .before .before .before .before .before .before .before .before .before in
+    let c50 = c40 .before .before .before .before .before .before .before .before .before .before in
+    (c .before .before .before .before .before .write-figure5 .ensures .0, c50 .before .before .before .before .pre .1)
 
 returns : tie.Need-returns
 returns c =

@@ -5,6 +5,16 @@ use Rattle.figures.proofs.Points.{turn-fits, of-dead, of-need, of-fill,
 use Rattle.figures.proofs.figure_points.Statement.{statement}
 use Rattle.figures.proofs.figure_points.Tie as tie
 
+high-figures-requires : tie.Need-high-figures-requires
+high-figures-requires c κs =
+    let e = c .before .before .before .before .before .before .enum-told .given .1 in
+    due-as e (c .before .before .before .before .before .before .before .before .before .pre)
+
+next-figures-requires : tie.Need-next-figures-requires
+next-figures-requires c κs =
+    let e = c .before .before .before .before .before .enum-told4 .given .1 in
+    due-as e (c .before .before .before .before .before .before .before .before .pre)
+
 dead-points-requires : tie.Need-dead-points-requires
 dead-points-requires c κs =
     let i = turn-fits (c .before .before .before .before .before .before .before .pre) in (
@@ -28,23 +38,27 @@ value-points-requires c κs =
     (i .lies, omega (arith, a .worked .ready .room), i .frame, tt, omega (arith, i .small))
 
 returns-2 : tie.Need-returns-2
-returns-2 c = rw (c .before .before .before .before .before .enum-told2 .given .1) (of-dead (c .before .before .before .before .before .before .before .before .pre) (c .dead-points .ensures .0))
+returns-2 c =
+    let e = c .before .before .before .before .before .enum-told2 .given .1 in
+    rw e (of-dead (c .before .before .before .before .before .before .before .before .pre) (c .dead-points .ensures .0))
 
 returns-3 : tie.Need-returns-3
-returns-3 c = rw (c .before .before .before .before .before .enum-told3 .given .1) (of-need (c .before .before .before .before .before .before .before .before .pre) (c .need-points .ensures .0))
+returns-3 c =
+    let e = c .before .before .before .before .before .enum-told3 .given .1 in
+    rw e (of-need (c .before .before .before .before .before .before .before .before .pre) (c .need-points .ensures .0))
 
 pub figure-points-spec : {M : Type 1} → statement M
 figure-points-spec =
     tie.close
     (tie.spec
     (λ c. search needs)
-    (λ c κs. due-as (c .before .before .before .before .before .before .enum-told .given .1) (c .before .before .before .before .before .before .before .before .before .pre))
+    high-figures-requires
     (λ c. search needs)
     dead-points-requires
     (λ c. search needs)
     need-points-requires
     (λ c. search needs)
-    (λ c κs. due-as (c .before .before .before .before .before .enum-told4 .given .1) (c .before .before .before .before .before .before .before .before .pre))
+    next-figures-requires
     (λ c. search needs)
     value-points-requires
     (λ c. rw (c .before .before .before .before .before .before .before .enum-told .given .1) (c .high-figures .ensures))

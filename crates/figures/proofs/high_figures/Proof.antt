@@ -13,11 +13,12 @@ value-points-requires c κs =
 
 high-points-requires : tie.Need-high-points-requires
 high-points-requires c κs =
-    let a = c .before .before .before .before .before .before .before .before .before .before .before .before .before .pre in
+    let c10 = c .before .before .before .before .before .before .before .before .before .before in
+    let a = c10 .before .before .before .pre in
     let i = turn-fits a in
     let stack = a .worked .ready .settled .formed .shaped .stack-high in (
       record { fits = i; gens-long = omega (arith, i .small); kills-long = omega (arith, i .small) },
-      cut-blocks _ _ _ stack (c .before .before .before .before .before .before .before .before .before .before .value-points .ensures),
+      cut-blocks _ _ _ stack (c10 .value-points .ensures),
       omega (arith, c .before .before .before .before .before .before .before .smaller .ensures, stack),
       turn-reached a,
       omega (arith, i .small),
@@ -26,7 +27,11 @@ high-points-requires c κs =
     )
 
 returns : tie.Need-returns
-returns c = of-high (c .before .before .before .before .before .before .before .before .before .before .before .before .before .before .pre) (c .before .before .before .before .before .before .before .before .before .before .before .value-points .ensures) (c .before .before .before .before .before .before .before .before .smaller .ensures) (c .high-points .ensures .0)
+returns c =
+    let c10 = c .before .before .before .before .before .before .before .before .before .before in
+    let k = c10 .before .value-points .ensures in
+    let e = c .before .before .before .before .before .before .before .before .smaller .ensures in
+    of-high (c10 .before .before .before .before .pre) k e (c .high-points .ensures .0)
 
 pub high-figures-spec : {M : Type 1} → statement M
 high-figures-spec =

@@ -20,7 +20,9 @@ next-points-requires c κs =
     )
 
 returns : tie.Need-returns
-returns c = of-next (c .before .before .before .before .before .before .before .before .before .before .pre) (omega arith) (c .before .before .before .before .before .before .before .value-points .ensures) (c .next-points .ensures .0)
+returns c =
+    let c10 = c .before .before .before .before .before .before .before .before .before .before in
+    of-next (c10 .pre) (omega arith) (c .before .before .before .before .before .before .before .value-points .ensures) (c .next-points .ensures .0)
 
 pub next-figures-spec : {M : Type 1} → statement M
 next-figures-spec =

@@ -20,14 +20,16 @@ value-points-requires-2 c κs =
 
 raise-requires : tie.Need-raise-requires
 raise-requires c κs =
-    let a = c .before .before .before .before .before .before .before .before .before .before .before .before .before .pre in
-    let i = turn-fits (turn-of (a .0) (a .1) (c .before .before .before .before .before .before .before .before .before .before .span-at .ensures)) in
+    let c10 = c .before .before .before .before .before .before .before .before .before .before in
+    let a = c10 .before .before .before .pre in
+    let i = turn-fits (turn-of (a .0) (a .1) (c10 .span-at .ensures)) in
     (i .lies, omega (arith, a .0 .ready .room), omega arith, omega arith, omega (arith, i .small))
 
 raise-requires-2 : tie.Need-raise-requires-2
 raise-requires-2 c κs =
-    let a = c .before .before .before .before .before .before .before .before .before .before .before .before .before .before .before .before .before .before .before .pre in
-    let i = turn-fits (turn-of (a .0) (a .1) (c .before .before .before .before .before .before .before .before .before .before .before .before .before .before .before .before .span-at .ensures)) in
+    let c10 = c .before .before .before .before .before .before .before .before .before .before in
+    let a = c10 .before .before .before .before .before .before .before .before .before .pre in
+    let i = turn-fits (turn-of (a .0) (a .1) (c10 .before .before .before .before .before .before .span-at .ensures)) in
     let z = c .before .before .before .before .before .raise .ensures .changed .size in (
       record { room = omega (arith, z, i .lies .room); within = i .lies .within },
       omega (arith, z, a .0 .ready .room),
@@ -38,9 +40,13 @@ raise-requires-2 c κs =
 
 returns : tie.Need-returns
 returns c =
-    let a = c .before .before .before .before .before .before .before .before .before .before .before .before .before .before .before .before .before .before .before .before .before .before .pre in
-    worked-raised (turn-of (a .0) (a .1) (c .before .before .before .before .before .before .before .before .before .before .before .before .before .before .before .before .before .before .before .span-at .ensures)) (c .before .before .before .before .before .before .before .before .raise .ensures) (c .before .before .raise2 .ensures) (c .before .before .before .before .before .before .before .before .before .before .before .before .before .before .before .value-points .ensures)
-    (c .before .before .before .before .before .before .before .before .before .before .before .before .value-points2 .ensures)
+    let c10 = c .before .before .before .before .before .before .before .before .before .before in
+    let c20 = c10 .before .before .before .before .before .before .before .before .before .before in
+    let a = c20 .before .before .pre in
+    let e = c10 .before .before .before .before .before .before .before .before .before .span-at .ensures in
+    let r = c .before .before .before .before .before .before .before .before .raise .ensures in
+    let k = c10 .before .before .before .before .before .value-points .ensures in
+    worked-raised (turn-of (a .0) (a .1) e) r (c .before .before .raise2 .ensures) k (c10 .before .before .value-points2 .ensures)
 
 pub raise-callees-spec : {M : Type 1} → statement M
 raise-callees-spec =
