@@ -26,6 +26,7 @@ use Rattle.columns.specs.Columns.{columnsEnd, highColumn, longestColumn,
 use Rattle.columns.specs.Values.{CallFits, Bounded}
 use Rattle.columns.proofs.Writes.{changed-none, changed-set}
 use Rattle.columns.specs.Displaced.{Ready, Displaced, Displacing}
+use Rattle.columns.proofs.Limits.{smallest-low, shortest-low}
 use Rattle.columns.proofs.Within.{within-ready, within-task}
 
 module _ {w : List ℕ} {h : Header} {f : ℕ} (r : Ready w h) (k : f < h .funcs) where
@@ -95,11 +96,23 @@ module _ {w : List ℕ} {h : Header} {f : ℕ} (d : Displacing w h (f + 1)) (l :
           ∙ sym (subst (λ (x : Func). model.longest (taskOf w h) f ≡ x .frame + largest (model.longest (taskOf w h)) (model.callees x)) this-func
           (longest-is (taskOf w h) (calls-later (d .ready .settled .formed)) f in-count))
 
+      least-is : b .least ≡ smallest (model.shortest (taskOf w h)) (model.callees (funcIn w s))
+      least-is =
+          k .least ∙ smallest-cong (model.callees (funcIn w s)) (λ g m. let i = callee-past g m in d .away .shortest .each g (omega arith) (i .1))
+
+      pub least-low : b .least ≤ mostStack * mostFuncs
+      least-low =
+          omega (
+            arith,
+            least-is,
+            smallest-low (model.shortest (taskOf w h)) (model.callees (funcIn w s)) (mostStack * mostFuncs) (shortest-low
+                (d .ready .settled .formed .shaped)),
+          )
+
       pub shortest-here : {free : Bool} {m : ℕ} → free ≡ model.callFree (funcIn w s) → m ≡ (if free then 0 else b .least)
           → s .frame + m ≡ model.shortest (taskOf w h) f
       shortest-here {free} {m} i j =
-          ap (λ (m : ℕ). s .frame + m) (j ∙ ap (λ (n : ℕ). if free then 0 else n) (k .least ∙ smallest-cong (model.callees (funcIn w s))
-          (λ g m. let i = callee-past g m in d .away .shortest .each g (omega arith) (i .1))))
+          ap (λ (m : ℕ). s .frame + m) (j ∙ ap (λ (n : ℕ). if free then 0 else n) least-is)
           ∙ (by-free free _ (s .frame)
           ∙ (ap (λ (t : Bool). if t then s .frame else s .frame + smallest (model.shortest (taskOf w h)) (model.callees (funcIn w s))) i
           ∙ sym (subst (λ (x : Func). model.shortest (taskOf w h) f ≡ (if model.callFree x then x .frame else x .frame + smallest (model.shortest

@@ -12,7 +12,7 @@ use Rattle.model.specs.Figures.{callees, callFree, longestTo, longest, shortest
 use Rattle.model.specs.WellFormed.{Shaped}
 use Rattle.theory.proofs.Lists.{by-test, by-largest}
 
-smallest-low : {A : Type 0} (f : A → ℕ) (l : List A) (n : ℕ) → ((a : A) → f a ≤ n) → smallest f l ≤ n
+pub smallest-low : {A : Type 0} (f : A → ℕ) (l : List A) (n : ℕ) → ((a : A) → f a ≤ n) → smallest f l ≤ n
 unfolding smallest
 smallest-low f [] n e = omega arith
 smallest-low f (a ∷ []) n e = e a

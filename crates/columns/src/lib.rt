@@ -1,5 +1,5 @@
 // The columns of figures behind the tables: where each begins, the numbers that the points of a function are given from the tables and the columns,
-// and the writes into one column.
+// the writes into one column, and D and d of every function.
 ghost use mathlib.Core.Path.{_≡_};
 ghost use Prim.Native.Nat.{ℕ, _+_, _-_, _<_, _≤_, min, max};
 ghost use lib.ListN.{length};
@@ -292,11 +292,11 @@ pub fn callee_bounds(work: &[u32], s: Span) -> Bounds
     Bounds { most, least }
 }
 
-// The number, but nothing where there is none of it.
-fn unless(no: bool, n: u32) -> u32
-    ensures { λ r. ⌜ r ≡ (if no then 0 else n) ⌝ }
+// 0 where the test holds, and else n.
+fn unless(test: bool, n: u32) -> u32
+    ensures { λ r. ⌜ (r ≡ (if test then 0 else n)) × (r ≤ n) ⌝ }
 {
-    if no {
+    if test {
         return 0;
     }
     n

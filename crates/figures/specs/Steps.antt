@@ -67,10 +67,14 @@ pub record Worked (w : List ℕ) (h : Header) (f k : ℕ) : Type 0 where
   pub ready : Ready w h
   pub stands : Stands (taskOf w h) (h .funcs) f k w
 
--- the turn of function f, which is s, when it has the figures whose place is k or more
-pub record Turn (w : List ℕ) (h : Header) (f k : ℕ) (s : Span) : Type 0 where
+-- function f is being worked on
+pub record Begun (w : List ℕ) (h : Header) (f k : ℕ) : Type 0 where
   pub worked : Worked w h f k
   pub below : f < h .funcs
+
+-- and is s
+pub record Turn (w : List ℕ) (h : Header) (f k : ℕ) (s : Span) : Type 0 where
+  pub begun : Begun w h f k
   pub same : s ≡ spanAt w f
 
 -- this figure is the next

@@ -2,8 +2,8 @@
 use native.Mathlib.Omega.{arith}
 use lib.ListN.{length-set}
 use borrow.Author.Needs.{needs}
-use Rattle.columns.proofs.Limits.{longest-low, shortest-low}
-use Rattle.columns.proofs.Displaces.{displacing-few, displacing-fits, displacing-calls, longest-here, shortest-here, displaced-more}
+use Rattle.columns.proofs.Limits.{longest-low}
+use Rattle.columns.proofs.Displaces.{displacing-few, displacing-fits, displacing-calls, least-low, longest-here, shortest-here, displaced-more}
 use Rattle.columns.proofs.displace.Statement.{statement}
 use Rattle.columns.proofs.displace.Tie as tie
 
@@ -33,11 +33,15 @@ add-work-3 : tie.Need-add-work-3
 add-work-3 c =
     let c10 = c .before .before .before .before .before .before .before .before .before .before in
     let a = c10 .before .before .before .before .pre in
+    let e = c10 .before .span-at .ensures in
     let k = c .before .before .before .before .before .before .before .before .before .callee-bounds .ensures in
     omega (
       arith,
-      shortest-here (a .0) (a .1) (c10 .before .span-at .ensures) k (c .before .before .before .before .call-free .ensures .0) (c .before .unless .ensures),
-      shortest-low (a .0 .ready .settled .formed .shaped) (c10 .before .before .before .before .args .f),
+      c .before .unless .ensures .1,
+      least-low (a .0) (a .1) e k,
+      longest-here (a .0) (a .1) e k,
+      longest-low (a .0 .ready .settled .formed .shaped) (c10 .before .before .before .before .args .f),
+      displacing-fits (a .0) (a .1) e .frame,
     )
 
 add-work-2 : tie.Need-add-work-2
@@ -83,23 +87,11 @@ returns c =
     let e = c10 .before .span-at .ensures in
     let k = c .before .before .before .before .before .before .before .before .before .callee-bounds .ensures in
     displaced-more (a .0) (a .1) _ _ (longest-here (a .0) (a .1) e k)
-    (shortest-here (a .0) (a .1) e k (c .before .before .before .before .call-free .ensures .0) (c .before .unless .ensures))
+    (shortest-here (a .0) (a .1) e k (c .before .before .before .before .call-free .ensures .0) (c .before .unless .ensures .0))
 
 pub displace-spec : {M : Type 1} → statement M
 displace-spec =
     tie.close
     (tie.spec
-    (λ c κs. search needs)
-    callee-bounds-requires
-    call-free-requires
-    add-work
-    add-work-2
-    mul-work
-    slice-write-work
-    (λ c κs. search needs)
-    add-work-3
-    add-work-4
-    mul-work-2
-    slice-write-work-2
-    (λ c. search needs)
-    returns)
+    (λ c κs. search needs) callee-bounds-requires call-free-requires add-work add-work-2 mul-work slice-write-work (λ c κs. search needs) add-work-3
+    add-work-4 mul-work-2 slice-write-work-2 (λ c. search needs) returns)

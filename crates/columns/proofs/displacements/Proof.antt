@@ -38,12 +38,5 @@ pub displacements-spec : {M : Type 1} → statement M
 displacements-spec =
     tie.close
     (tie.spec
-    Inv-loop
-    μ-loop
-    (λ c. (omega arith, displacing-none (c .before .pre), changed-none _ _ _))
-    (λ c. omega arith)
-    displace-requires
-    (λ c. omega arith)
-    loop-again
-    (λ c. c .before .loop .inv .2 .size)
-    returns)
+    Inv-loop μ-loop (λ c. (omega arith, displacing-none (c .before .pre), changed-none _ _ _)) (λ c. omega arith) displace-requires (λ c. omega arith)
+    loop-again (λ c. c .before .loop .inv .2 .size) returns)

@@ -18,7 +18,7 @@ abbrev μ-loop : tie.MeasureT-loop
 figure-func-requires : tie.Need-figure-func-requires Inv-loop μ-loop
 figure-func-requires c κs =
     let l = c .before .before .before .before .before .before .before .before .loop in
-    (l .inv .1, omega (arith, c .before .before .before .before .before .before .before .loop-test .taken))
+    record { worked = l .inv .1; below = omega (arith, c .before .before .before .before .before .before .before .loop-test .taken) }
 
 add-f : tie.Need-add-f Inv-loop μ-loop
 add-f c =
@@ -47,12 +47,5 @@ pub figure-funcs-spec : {M : Type 1} → statement M
 figure-funcs-spec =
     tie.close
     (tie.spec
-    Inv-loop
-    μ-loop
-    (λ c. (omega arith, c .before .pre, changed-none _ _ _))
-    figure-func-requires
-    add-f
-    loop-less
-    loop-again
-    (λ c. c .before .loop .inv .2 .size)
-    returns)
+    Inv-loop μ-loop (λ c. (omega arith, c .before .pre, changed-none _ _ _)) figure-func-requires add-f loop-less loop-again
+    (λ c. c .before .loop .inv .2 .size) returns)

@@ -27,9 +27,4 @@ pub figure-with-spec : {M : Type 1} → statement M
 figure-with-spec =
     tie.close
     (tie.spec
-    (λ c κs. search needs)
-    (λ c κs. search needs)
-    (λ c κs. search needs)
-    figure-funcs-requires
-    (λ c. search needs)
-    returns)
+    (λ c κs. search needs) (λ c κs. search needs) (λ c κs. search needs) figure-funcs-requires (λ c. search needs) returns)
