@@ -17,7 +17,7 @@ use Rattle.tables.specs.Tables.{item, pointAt, baseAt, sizeAt, funcOf, taskOf}
 use Rattle.tables.proofs.Laws.{func-is, count-is, length-points, point-there}
 use Rattle.columns.specs.Columns.{entryColumn, chainColumn, Funcs}
 use Rattle.columns.specs.Values.{raisedBy}
-use Rattle.figures.specs.Figured.{Ready}
+use Rattle.columns.specs.Displaced.{Ready}
 use Rattle.figures.specs.Steps.{Gathered, chainFigure, soFar}
 use Rattle.figures.proofs.Callers.{so-far-none, so-far-more, so-far-all}
 

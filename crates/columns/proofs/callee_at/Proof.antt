@@ -12,9 +12,7 @@ returns c =
     c .callee-of .ensures ∙ ap (λ (x : Point). numbered (called x)) (c .before .point-at .ensures)
 
 pub callee-at-spec : {M : Type 1} → statement M
-callee-at-spec = tie.close
+callee-at-spec =
+    tie.close
     (tie.spec
-    (λ c. search needs)
-    (λ c κs. search needs)
-    (λ c κs. search needs)
-    returns)
+    (λ c. search needs) (λ c κs. search needs) (λ c κs. search needs) returns)

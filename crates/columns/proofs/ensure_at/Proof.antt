@@ -11,9 +11,7 @@ returns c =
     c .is-ensure .ensures ∙ ap (λ (x : Point). present (ensured x)) (c .before .point-at .ensures)
 
 pub ensure-at-spec : {M : Type 1} → statement M
-ensure-at-spec = tie.close
+ensure-at-spec =
+    tie.close
     (tie.spec
-    (λ c. search needs)
-    (λ c κs. search needs)
-    (λ c κs. search needs)
-    returns)
+    (λ c. search needs) (λ c κs. search needs) (λ c κs. search needs) returns)
