@@ -173,7 +173,7 @@ module _ {w : List ℕ} {h : Header} {x : State} {cache memory : List ℕ} {s : 
         figured = k .runs .figured;
         some = some;
         few = depth-few (k .runs) some;
-        fn-in = omega (arith, k .inside .fn-in, k .runs .figured .settled .holds .few);
+        fn-in = k .inside .fn-in;
         small = inside-small (k .inside);
         callee = omega (arith, l .1, count-is w h);
         good = runs-good (k .runs) some;

@@ -171,15 +171,15 @@ unfolding funcFigures
 callee-is t r f g e j = (ap (λ (z : FuncFigures). z .frame) e ∙ ap (λ z. func t z .frame) j, ap (λ (z : FuncFigures). z .spill) e ∙ ap (sheetOf t .spill) j)
 
 -- the running frame of a call goes on behind the callee, which is entered
-pub enters-does : (t : Task) (x : State) (q : FuncFigures) (e : Moved) (w w′ cache memory memory′ : List ℕ) (i f g v : ℕ) → 0 < x .depth → x .depth ≤ mostFuncs
-    → framesEnd ≤ length w → q ≡ funcFigures t i → i ≡ g → f ≡ g → w′ ≡ putCaller w (x .depth - 1) (x .f) (x .p + 1)
+pub enters-does : (t : Task) (x : State) (q : FuncFigures) (e : Moved) (w w′ cache memory memory′ : List ℕ) (f g v : ℕ) → 0 < x .depth → x .depth ≤ mostFuncs
+    → framesEnd ≤ length w → q ≡ funcFigures t f → f ≡ g → w′ ≡ putCaller w (x .depth - 1) (x .f) (x .p + 1)
     → machine.Does e cache memory′ (reserve (q .frame) (coreOf (x .machine) cache memory))
     → Steps t x (Call g) v w cache memory
     (record { state = record { depth = x .depth + 1; f = f; p = 0; machine = e .machine }; answer = 0; out = e .blocks; back = 0; bound = q .spill })
     w′ cache memory′
-enters-does t x q e w w′ cache memory memory′ i f g v h l u b j k a d =
+enters-does t x q e w w′ cache memory memory′ f g v h l u b k a d =
     let c = coreOf (x .machine) cache memory in
-    let n = callee-is t q i g b j in
+    let n = callee-is t q f g b k in
     call-does x _ w w′ cache memory′ g _ _ _ h l u a refl k refl
     (d .core ∙ ap (λ (z : ℕ). reserve z c .core) (n .0)) refl (d .blocks ∙ ap (λ (z : ℕ). reserve z c .blocks) (n .0)) refl (n .1)
 
