@@ -53,7 +53,9 @@ module _ (w : List ℕ) (h : Header) (x : State) (cache memory : List ℕ) (some
   turn-of a =
       ap (λ (fs : List Place). turnAt t (sheetOf t) fs (coreOf (x .machine) cache memory) a) (frames-some w (x .depth) (x .f) (x .p) some)
 
-  pub step-turns : {r : Turned} {w′ cache′ memory′ : List ℕ} (y : Point) (k v : ℕ) → point (func t (x .f)) (x .p) ≡ y → k ≡ 0 → Steps t x y v w cache memory r w′ cache′ memory′ → Stays w w′
+  pub step-turns : {r : Turned} {w′ cache′ memory′ : List ℕ} (y : Point) (k v : ℕ) → point (func t (x .f)) (x .p) ≡ y → k ≡ 0
+      → Steps t x y v w cache memory r w′ cache′ memory′
+      → Stays w w′
       → Turns w h x cache memory (actOf k v) r w′ cache′ memory′
   unfolding eventBound
   step-turns y k v i e d s =
@@ -70,7 +72,9 @@ module _ (w : List ℕ) (h : Header) (x : State) (cache memory : List ℕ) (some
         stays = s;
       })
 
-  pub preempt-turns : {r : Turned} {cache′ memory′ : List ℕ} (k v : ℕ) → (k ≡ 0 → ⊥) → Preempts t x v w cache memory r cache′ memory′ → Turns w h x cache memory (actOf k v) r w cache′ memory′
+  pub preempt-turns : {r : Turned} {cache′ memory′ : List ℕ} (k v : ℕ) → (k ≡ 0 → ⊥)
+      → Preempts t x v w cache memory r cache′ memory′
+      → Turns w h x cache memory (actOf k v) r w cache′ memory′
   unfolding eventBound
   preempt-turns k v n d =
       rw (act-preempt k v n)

@@ -156,15 +156,15 @@ module _ {w : List ℕ} {h : Header} {x : State} {cache memory : List ℕ} (k : 
   -- after an event that no row refuses a run can go on
   pub goes-on : Goes k a r w′ cache′ memory′
   goes-on =
-      let f = fair-event t (sheetOf t) (k .figured .settled .formed) (k .sound) (k .frames) (coreOf (x .machine) cache memory) a (k .running .standing) (k .running) in
+      let m = k .figured .settled .formed in
+      let o = coreOf (x .machine) cache memory in
+      let f = fair-event t (sheetOf t) m (k .sound) (k .frames) o a (k .running .standing) (k .running) in
+      let n = few-event t (sheetOf t) m (k .frames) o a (k .running .standing) (k .running .window) in
+      let e = task-stays (k .figured .settled .holds) (u .stays) in
       let fs = afterEvent t (k .frames) a in
       let c = coreOf (r .state .machine) cache′ memory′ in
-      let e = task-stays (k .figured .settled .holds) (u .stays) in
-      let here : Running t (sheetOf t) (k .sound .ground) fs c
-      = subst (λ (z : Core). Running t (sheetOf t) (k .sound .ground) fs z) (sym (ap (λ (z : run.Turn). z .state .core) turn-plain)) (f .runs) in
+      let here = subst (Running t (sheetOf t) (k .sound .ground) fs) (sym (ap (λ (z : run.Turn). z .state .core) turn-plain)) (f .runs) in
       let there = subst (λ (z : Task). (i : Sound z (sheetOf z)) × Running z (sheetOf z) (i .ground) fs c) (sym e) (k .sound, here) in
-      let n = few-event t (sheetOf t) (k .figured .settled .formed) (k .frames) (coreOf (x .machine) cache memory) a (k .running .standing) (k .running .window) in
-      let small = k .figured .settled .formed .shaped .stack-high in
       record {
         runs = record {
           figured = figured-same (k .figured) (u .stays);
@@ -176,8 +176,8 @@ module _ {w : List ℕ} {h : Header} {x : State} {cache memory : List ℕ} (k : 
         frames = refl;
         task = e;
         bound = u .bound (k .frames) (k .same);
-        out-few = omega (arith, ap (λ (z : run.Turn). z .out) turn-plain, n .out, small);
-        back-few = omega (arith, ap (λ (z : run.Turn). z .back) turn-plain, n .back, small);
+        out-few = omega (arith, ap (λ (z : run.Turn). z .out) turn-plain, n .out, m .shaped .stack-high);
+        back-few = omega (arith, ap (λ (z : run.Turn). z .back) turn-plain, n .back, m .shaped .stack-high);
       }
 
 -- ---- the first state
