@@ -10,7 +10,7 @@ use lib.ListN.{length}
 use Rattle.model.specs.declared.Point.{Point}
 use Rattle.model.specs.declared.Point.the-variants.{Load, Store, Call, Ensure}
 use Rattle.model.specs.Limits.{mostFuncs, mostPoints, mostInAll}
-use Rattle.model.specs.Task.{Task, size, count, func, point}
+use Rattle.model.specs.Task.{Task, size, func, point}
 use Rattle.model.specs.Walk.{called, touches}
 use Rattle.model.specs.Sheet.{sheetOf}
 use Rattle.model.specs.Plain.{Frame}
@@ -29,7 +29,7 @@ use Rattle.tables.proofs.Laws.{size-is, frame-is, point-is, count-is, stacked-w
 use Rattle.machine.specs.Moves.{coreOf, mostAddress, Good}
 use Rattle.machine.proofs.Kept.{window-good, window-frame}
 use Rattle.turns.specs.declared.State.{State}
-use Rattle.turns.specs.Frames.{framesEnd, placesIn, framesFrom, framesOf}
+use Rattle.turns.specs.Frames.{placesIn, framesFrom}
 use Rattle.turns.specs.Turns.{Runs, Placed, Reaches, Inside, Enters, Leaves, Stands}
 use Rattle.turns.proofs.Laws.{inside-small}
 

@@ -1,5 +1,5 @@
 -- What an event keeps: the task, its figures, and a state that a run can be in. A loop over events cites these laws.
-use Prim.Native.Nat.{ℕ, zero, suc, _+_, _-_, _≤_, _<_}
+use Prim.Native.Nat.{ℕ, zero, suc, _+_, _≤_, _<_}
 use mathlib.Core.List.{List, [], _∷_}
 use mathlib.Core.Option.{none}
 use mathlib.Core.Path.{_≡_, refl, ap, sym, subst, _∙_}
@@ -9,7 +9,7 @@ use Rattle.model.specs.Limits.{mostStack, mostFuncs, mostInAll}
 use Rattle.model.specs.declared.Point.{Point}
 use Rattle.model.specs.declared.Point.the-variants.{Load, Store, Call, Ensure, Goto, Either, Return}
 use Rattle.model.specs.Refusal.{eventRows}
-use Rattle.model.specs.Task.{Task, size, count, func, point}
+use Rattle.model.specs.Task.{Task, size, func, point}
 use Rattle.model.specs.Walk.{called}
 use Rattle.model.specs.Core.{Core, idle}
 use Rattle.model.specs.Figures as model
@@ -27,9 +27,9 @@ use Rattle.theory.proofs.Lawful.{sound}
 use Rattle.theory.proofs.Prices.{price-blocks}
 use Rattle.tables.specs.declared.Header.{Header}
 use Rattle.tables.specs.Layout.{firstTable, secondTable, frameTable, baseTable, sizeTable}
-use Rattle.tables.specs.Tables.{item, pointOf, pointAt, frameAt, baseAt, sizeAt, taskOf}
-use Rattle.tables.specs.Valid.{Holds, Settled}
-use Rattle.tables.proofs.Laws.{size-is, count-is, stacked-within}
+use Rattle.tables.specs.Tables.{item, pointOf, baseAt, sizeAt, taskOf}
+use Rattle.tables.specs.Valid.{Holds}
+use Rattle.tables.proofs.Laws.{stacked-within}
 use Rattle.tables.proofs.Writes.{Agree}
 use Rattle.tables.proofs.Valid.{task-same, settled-same}
 use Rattle.figures.specs.Columns.{columnsEnd, Points, Funcs}

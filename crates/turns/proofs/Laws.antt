@@ -17,7 +17,6 @@ use Rattle.model.specs.Task.{Task, count, func}
 use Rattle.model.specs.Core.{Core, reserve, idle, ensure, preempt, filledWith, saveMoves, resumeMoves}
 use Rattle.model.specs.Figures.{longest}
 use Rattle.model.specs.Sheet.{Figured, sheetOf}
-use Rattle.model.specs.Run as run
 use Rattle.model.specs.Run.{Place, onwards}
 use Rattle.theory.proofs.Window.{frame-room}
 use Rattle.tables.specs.declared.Header.{Header}

@@ -17,8 +17,8 @@ returns c =
     let p = s .pre in
     let u = w .put-caller .ensures in (
       λ v.
-          enters-does _ (s .args .x) (f .func-figures .result) _ _ _ _ _ _ _ _ v (p .some) (p .few) (omega (arith, p .figured .room)) (f .func-figures .ensures)
-          (n .wide .ensures) u (e .reserve .ensures),
+          enters-does _ (s .args .x) (f .func-figures .result) _ _ _ _ _ _ _ _ v (p .some) (p .few) (omega (arith, p .figured .room))
+          (f .func-figures .ensures) (n .wide .ensures) u (e .reserve .ensures),
       caller-stays _ (s .args .x .depth - 1) _ _ (omega (arith, p .some, p .few)) _ u,
     )
 
