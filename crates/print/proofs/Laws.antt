@@ -22,13 +22,6 @@ pub pasted-start : (w out : List ℕ) → pasted 0 w out ≡ over w out
 unfolding pasted over
 pasted-start w out = ap (λ (n : ℕ). w ++ drop n out) (zero-add (length w))
 
-pub length-pasted : (at : ℕ) (w out : List ℕ) → at + length w ≤ length out → length (pasted at w out) ≡ length out
-unfolding pasted
-length-pasted at w out h =
-    let e = length-append (take at out) (w ++ drop (at + length w) out) in
-    let f = length-append w (drop (at + length w) out) in
-    omega (arith, length-take-le at out (omega arith), length-drop (at + length w) out)
-
 -- what stands before the end of the bytes written, and after it
 length-head : (at : ℕ) (w out : List ℕ) → at ≤ length out → length (take at out ++ w) ≡ at + length w
 length-head at w out h = omega (arith, length-append (take at out) w, length-take-le at out h)
@@ -60,7 +53,7 @@ pasted-more at w v out h =
     ∙ rw (e, append-assoc w v (drop (end + length v) out)) (append-assoc (take at out) w (v ++ drop (end + length v) out))
 
 -- the same from what two writers say: w ends at e and leaves o, v leaves o′
-pub pasted-on : (at e : ℕ) (w v out o o′ : List ℕ) → at ≤ length out → e ≡ at + length w → o ≡ pasted at w out → o′ ≡ pasted e v o
+pasted-on : (at e : ℕ) (w v out o o′ : List ℕ) → at ≤ length out → e ≡ at + length w → o ≡ pasted at w out → o′ ≡ pasted e v o
     → o′ ≡ pasted at (w ++ v) out
 pasted-on at e w v out o o′ h k p q = q ∙ rw (k, p) (pasted-more at w v out h)
 
@@ -74,12 +67,6 @@ wrote-on {at} {e} {r} {w} {v} {out} {o} {o′} h a b =
 pub wrote-nothing : (at : ℕ) (out : List ℕ) → Wrote at [] out at out
 unfolding pasted
 wrote-nothing at out = record { end = omega arith; buffer = rw (add-zero at) (sym (take-append-drop at out)) }
-
--- the same of a buffer whose first bytes are written over
-pub pasted-next : (at : ℕ) (l w out : List ℕ) → at ≡ length l → pasted at w (over l out) ≡ over (l ++ w) out
-pasted-next at l w out e =
-    let z : at ≡ 0 + length l = omega arith in
-    rw (z, ← pasted-start l out, ← pasted-start (l ++ w) out) (pasted-more 0 l w out zero-le)
 
 -- a copy of all bytes
 pub paste-all : (at : ℕ) (w out : List ℕ) (i : ℕ) → i ≡ length w → paste out at w i ≡ pasted at w out

@@ -99,7 +99,8 @@ pub fn put_row(out: &mut [u8], at: usize, word: &[u8], numbers: &[u32]) -> usize
 // How many bytes a row has: at most 11 for each number.
 pub fn row_length(word: &[u8], numbers: &[u32]) -> usize
     requires { ⌜ (length (now word) ≤ 16) × (length (now numbers) ≤ 16) ⌝ }
-    ensures { λ r. ⌜ (r ≡ length (row (now (word .entry)) (now (numbers .entry)))) × (r ≤ length (now (word .entry)) + 11 * length (now (numbers .entry)) + 2) ⌝ }
+    ensures { λ r. ⌜ (r ≡ length (row (now (word .entry)) (now (numbers .entry))))
+        × (r ≤ length (now (word .entry)) + 11 * length (now (numbers .entry)) + 2) ⌝ }
 {
     let mut n = word.len() + 2;
     let mut k: usize = 0;

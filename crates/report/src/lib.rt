@@ -3,19 +3,20 @@ ghost use mathlib.Core.Path.{_≡_};
 ghost use Prim.Native.Nat.{_+_, _*_, _<_, _≤_};
 ghost use lib.ListN.{length};
 ghost use Rattle.model.specs.Text.{bytes};
-ghost use Rattle.model.specs.Sheet.{row, funcRow, funcRows, sheetOf, reportText};
+ghost use Rattle.model.specs.Sheet.{row, reportText};
 ghost use Rattle.model.specs.Services.{over};
 ghost use Rattle.tables.specs.Tables.{sizeAt, taskOf};
 ghost use Rattle.print.specs.Print.{Wrote};
 ghost use Rattle.figures.specs.Figured.{Figured};
-ghost use Rattle.report.specs.Report.{InFunc, pointLine, pointLines, funcLines, mostPointLine, mostFuncLine, mostReport};
+ghost use Rattle.report.specs.Report.{InFunc, pointText, pointsText, headText, funcText, funcsText};
+ghost use Rattle.report.specs.Report.{mostPointText, mostHeadText, mostReport};
 use tables::Header;
 use tables::Span;
 
 // The numbers of the line of point p of function f, which is s.
 fn point_numbers(work: &[u32], h: Header, f: usize, s: Span, p: usize) -> [u32; 10]
     requires { ⌜ InFunc (now work) h f s × (p < s .size) ⌝ }
-    ensures { λ r. ⌜ (row (bytes "  (at") r ≡ pointLine (taskOf (now (work .entry)) h) f p) × (length r ≡ 10) ⌝ }
+    ensures { λ r. ⌜ (row (bytes "  (at") r ≡ pointText (taskOf (now (work .entry)) h) f p) × (length r ≡ 10) ⌝ }
 {
     let x = figures::point_figures(work, h, f, s, p);
     [
@@ -35,7 +36,7 @@ fn point_numbers(work: &[u32], h: Header, f: usize, s: Span, p: usize) -> [u32; 
 // How many bytes the line has.
 fn point_length(work: &[u32], h: Header, f: usize, s: Span, p: usize) -> usize
     requires { ⌜ InFunc (now work) h f s × (p < s .size) ⌝ }
-    ensures { λ r. ⌜ (r ≡ length (pointLine (taskOf (now (work .entry)) h) f p)) × (r ≤ mostPointLine) ⌝ }
+    ensures { λ r. ⌜ (r ≡ length (pointText (taskOf (now (work .entry)) h) f p)) × (r ≤ mostPointText) ⌝ }
 {
     print::row_length(b"  (at", &point_numbers(work, h, f, s, p))
 }
@@ -50,16 +51,16 @@ fn put_point(
     s: Span,
     p: usize,
 ) -> usize
-    requires { ⌜ InFunc (now work) h f s × (p < s .size) × (at + length (pointLine (taskOf (now work) h) f p) ≤ length (now out)) ⌝ }
-    ensures { λ r. ⌜ Wrote at (pointLine (taskOf (now (work .entry)) h) f p) (now (out .entry)) r (now (out .exit)) ⌝ }
+    requires { ⌜ InFunc (now work) h f s × (p < s .size) × (at + length (pointText (taskOf (now work) h) f p) ≤ length (now out)) ⌝ }
+    ensures { λ r. ⌜ Wrote at (pointText (taskOf (now (work .entry)) h) f p) (now (out .entry)) r (now (out .exit)) ⌝ }
 {
     print::put_row(out, at, b"  (at", &point_numbers(work, h, f, s, p))
 }
 
-// The numbers of the line of function f.
+// The numbers of the line that opens function f.
 fn func_numbers(work: &[u32], h: Header, f: usize) -> [u32; 6]
     requires { ⌜ Figured (now work) h × (f < h .funcs) ⌝ }
-    ensures { λ r. ⌜ (row (bytes "  (func") r ≡ funcRow (taskOf (now (work .entry)) h) (sheetOf (taskOf (now (work .entry)) h)) f) × (length r ≡ 6) ⌝ }
+    ensures { λ r. ⌜ (row (bytes "  (func") r ≡ headText (taskOf (now (work .entry)) h) f) × (length r ≡ 6) ⌝ }
 {
     let x = figures::func_figures(work, h, f);
     [f as u32, x.frame, x.shortest, x.longest, x.spill, x.chain]
@@ -68,7 +69,7 @@ fn func_numbers(work: &[u32], h: Header, f: usize) -> [u32; 6]
 // How many bytes the lines of the points of function f have, which is s.
 fn points_length(work: &[u32], h: Header, f: usize, s: Span) -> usize
     requires { ⌜ InFunc (now work) h f s ⌝ }
-    ensures { λ r. ⌜ (r ≡ length (pointLines (taskOf (now (work .entry)) h) f (s .size))) × (r ≤ mostPointLine * s .size) ⌝ }
+    ensures { λ r. ⌜ (r ≡ length (pointsText (taskOf (now (work .entry)) h) f (s .size))) × (r ≤ mostPointText * s .size) ⌝ }
 {
     let size = s.size;
     let mut n: usize = 0;
@@ -82,8 +83,8 @@ fn points_length(work: &[u32], h: Header, f: usize, s: Span) -> usize
 
 // Writes them from byte at on, and returns where they end.
 fn put_points(out: &mut [u8], at: usize, work: &[u32], h: Header, f: usize, s: Span) -> usize
-    requires { ⌜ InFunc (now work) h f s × (at + length (pointLines (taskOf (now work) h) f (s .size)) ≤ length (now out)) ⌝ }
-    ensures { λ r. ⌜ Wrote at (pointLines (taskOf (now (work .entry)) h) f (s .size)) (now (out .entry)) r (now (out .exit)) ⌝ }
+    requires { ⌜ InFunc (now work) h f s × (at + length (pointsText (taskOf (now work) h) f (s .size)) ≤ length (now out)) ⌝ }
+    ensures { λ r. ⌜ Wrote at (pointsText (taskOf (now (work .entry)) h) f (s .size)) (now (out .entry)) r (now (out .exit)) ⌝ }
 {
     let size = s.size;
     let mut end = at;
@@ -98,8 +99,8 @@ fn put_points(out: &mut [u8], at: usize, work: &[u32], h: Header, f: usize, s: S
 // How many bytes the lines of function f have.
 fn func_length(work: &[u32], h: Header, f: usize) -> usize
     requires { ⌜ Figured (now work) h × (f < h .funcs) ⌝ }
-    ensures { λ r. ⌜ (r ≡ length (funcRows (taskOf (now (work .entry)) h) (sheetOf (taskOf (now (work .entry)) h)) f))
-        × (r ≤ mostFuncLine + mostPointLine * sizeAt (now (work .entry)) f) ⌝ }
+    ensures { λ r. ⌜ (r ≡ length (funcText (taskOf (now (work .entry)) h) f))
+        × (r ≤ mostHeadText + mostPointText * sizeAt (now (work .entry)) f) ⌝ }
 {
     let s = tables::span_at(work, f);
     print::row_length(b"  (func", &func_numbers(work, h, f)) + points_length(work, h, f, s)
@@ -108,8 +109,8 @@ fn func_length(work: &[u32], h: Header, f: usize) -> usize
 // Writes them from byte at on, and returns where they end.
 fn put_func(out: &mut [u8], at: usize, work: &[u32], h: Header, f: usize) -> usize
     requires { ⌜ Figured (now work) h × (f < h .funcs)
-        × (at + length (funcRows (taskOf (now work) h) (sheetOf (taskOf (now work) h)) f) ≤ length (now out)) ⌝ }
-    ensures { λ r. ⌜ Wrote at (funcRows (taskOf (now (work .entry)) h) (sheetOf (taskOf (now (work .entry)) h)) f) (now (out .entry)) r (now (out .exit)) ⌝ }
+        × (at + length (funcText (taskOf (now work) h) f) ≤ length (now out)) ⌝ }
+    ensures { λ r. ⌜ Wrote at (funcText (taskOf (now (work .entry)) h) f) (now (out .entry)) r (now (out .exit)) ⌝ }
 {
     let s = tables::span_at(work, f);
     let end = print::put_row(out, at, b"  (func", &func_numbers(work, h, f));
@@ -133,8 +134,8 @@ pub fn report_length(work: &[u32], h: Header) -> usize
 
 // Writes the lines of all functions from byte at on, and returns where they end.
 fn put_funcs(out: &mut [u8], at: usize, work: &[u32], h: Header) -> usize
-    requires { ⌜ Figured (now work) h × (at + length (funcLines (taskOf (now work) h) (h .funcs)) ≤ length (now out)) ⌝ }
-    ensures { λ r. ⌜ Wrote at (funcLines (taskOf (now (work .entry)) h) (h .funcs)) (now (out .entry)) r (now (out .exit)) ⌝ }
+    requires { ⌜ Figured (now work) h × (at + length (funcsText (taskOf (now work) h) (h .funcs)) ≤ length (now out)) ⌝ }
+    ensures { λ r. ⌜ Wrote at (funcsText (taskOf (now (work .entry)) h) (h .funcs)) (now (out .entry)) r (now (out .exit)) ⌝ }
 {
     let funcs = h.funcs;
     let mut end = at;

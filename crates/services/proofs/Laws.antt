@@ -135,4 +135,6 @@ module _ {text w w′ w″ output output′ : List ℕ} {j : Judgement} {r : Wri
   report-output = rw report-is (b .written (cleared w))
 
   pub report-work : {l : List ℕ} → l ≡ cleared w″ → l ≡ reportOf text w output .work
-  report-work e = e ∙ (b .after ∙ a .after) ∙ rw report-is (sym (work-left (withRows (outputRows reportText (length output)) (judgedIn w′ j)) (cleared w) output))
+  report-work e =
+      let x = withRows (outputRows reportText (length output)) (judgedIn w′ j) in
+      e ∙ (b .after ∙ a .after) ∙ rw report-is (sym (work-left x (cleared w) output))

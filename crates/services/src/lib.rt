@@ -16,7 +16,7 @@ mod reporting;
 fn clear(work: &mut [u32])
     ensures { λ r. ⌜ now (work .exit) ≡ cleared (now (work .entry)) ⌝ }
 {
-    if work.len() < Limits::WORK {
+    if Limits::WORK > work.len() {
         return;
     }
     let mut i: usize = 0;

@@ -32,7 +32,8 @@ fn report_task(output: &mut [u8], work: &mut [u32], h: Header) -> WriteResult
 {
     figures::figure_task(work, h);
     let length = report::report_length(work, h);
-    if output.len() < length {
+    let room = output.len();
+    if room < length {
         return refused(Refusal {
             row: Row::OutputTooSmall,
             place: length as u32,

@@ -1,23 +1,23 @@
--- Its own line and those of its points are counted.
+-- Its first line and those of its points are counted.
 use native.Mathlib.Omega.{arith}
-use mathlib.Core.Path.{_≡_, ap, _∙_}
+use mathlib.Core.Path.{ap}
 use lib.ListN.{length}
-use Rattle.report.specs.Report.{InFunc}
 use Rattle.tables.specs.declared.Span.{Span}
-use Rattle.report.proofs.Laws.{size-low, func-size}
+use Rattle.report.proofs.Laws.{there, size-low, func-size}
 use borrow.Author.Needs.{needs}
 use Rattle.report.proofs.func_length.Statement.{statement}
 use Rattle.report.proofs.func_length.Tie as tie
 
-there : (c : tie.After-points-length) → InFunc (c .before .before .before .before .before .before .before .args .work .now) (c .before .before .before .before .before .before .before .args .h) (c .before .before .before .before .before .before .before .args .f) (c .before .before .before .before .before .span-at .result)
-there c = record { figured = c .before .before .before .before .before .before .before .pre .0; low = c .before .before .before .before .before .before .before .pre .1; span = c .before .before .before .before .before .span-at .ensures }
-
 add-result : tie.Need-add-result
-add-result c = omega (arith, size-low (there c))
+add-result c =
+    let a = c .before .before .before .before .before .before .before .pre in
+    let k = there (a .0) (a .1) (c .before .before .before .before .before .span-at .ensures) in
+    omega (arith, size-low k)
 
 returns : tie.Need-returns
 returns c =
-    let k = there c in (
+    let a = c .before .before .before .before .before .before .before .pre in
+    let k = there (a .0) (a .1) (c .before .before .before .before .before .span-at .ensures) in (
       omega (arith, func-size k, ap length (c .before .before .before .func-numbers .ensures .0)),
       omega (arith, ap (λ (s : Span). s .size) (k .span)),
     )

@@ -5,7 +5,7 @@ use mathlib.Core.Path.{_≡_, refl}
 use lib.ListN.{length}
 use Rattle.tables.specs.Tables.{taskOf}
 use Rattle.print.proofs.Laws.{none-length, next-length}
-use Rattle.report.specs.Report.{pointLine, pointLines, mostPointLine}
+use Rattle.report.specs.Report.{pointText, pointsText, mostPointText}
 use Rattle.report.proofs.Laws.{size-low}
 use borrow.Author.Needs.{needs}
 use Rattle.report.proofs.points_length.Statement.{statement}
@@ -13,7 +13,7 @@ use Rattle.report.proofs.points_length.Tie as tie
 
 abbrev Inv-loop : tie.InvT-loop
 Inv-loop work h f s size n₀ p₀ n p =
-    (p ≤ s .size) × (n ≡ length (pointLines (taskOf work h) f p)) × (n ≤ mostPointLine * p)
+    (p ≤ s .size) × (n ≡ length (pointsText (taskOf work h) f p)) × (n ≤ mostPointText * p)
 
 abbrev μ-loop : tie.MeasureT-loop
 μ-loop work h f s size n₀ p₀ n p = s .size - p
@@ -21,7 +21,7 @@ abbrev μ-loop : tie.MeasureT-loop
 loop-holds : tie.Need-loop-holds Inv-loop μ-loop
 loop-holds c =
     let a = c .before .args in
-    (omega arith, omega (arith, none-length (pointLine (taskOf (a .work .now) (a .h)) (a .f))), omega arith)
+    (omega arith, omega (arith, none-length (pointText (taskOf (a .work .now) (a .h)) (a .f))), omega arith)
 
 point-length-requires : tie.Need-point-length-requires Inv-loop μ-loop
 point-length-requires c κs = (c .before .before .before .pre, omega arith)
@@ -39,7 +39,7 @@ loop-again : tie.Need-loop-again Inv-loop μ-loop
 loop-again c =
     let a = c .before .before .before .before .args in
     let l = c .before .before .loop in
-    (omega arith, omega (arith, next-length (pointLine (taskOf (a .work .now) (a .h)) (a .f)) (l .p)), omega arith)
+    (omega arith, omega (arith, next-length (pointText (taskOf (a .work .now) (a .h)) (a .f)) (l .p)), omega arith)
 
 returns : tie.Need-returns Inv-loop μ-loop
 returns c =

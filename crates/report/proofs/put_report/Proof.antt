@@ -9,13 +9,22 @@ put-requires : tie.Need-put-requires
 put-requires c κs = let a = c .before .before .before .before .args in omega (arith, report-size (a .work .now) (a .h))
 
 put-funcs-requires : tie.Need-put-funcs-requires
-put-funcs-requires c κs = let a = c .before .before .before .before .before .before .before .before .args in (c .before .before .before .before .before .before .before .before .pre .0, omega (arith, report-size (a .work .now) (a .h)))
+put-funcs-requires c κs =
+    let start = c .before .before .before .before .before .before .before .before in
+    let a = start .args in
+    (start .pre .0, omega (arith, report-size (a .work .now) (a .h)))
 
 put-requires-2 : tie.Need-put-requires-2
-put-requires-2 c κs = let a = c .before .before .before .before .before .before .before .before .before .before .before .before .before .args in omega (arith, report-size (a .work .now) (a .h))
+put-requires-2 c κs =
+    let a = c .before .before .before .before .before .before .before .before .before .before .before .before .before .args in
+    omega (arith, report-size (a .work .now) (a .h))
 
 returns : tie.Need-returns
-returns c = let a = c .before .before .before .before .before .before .before .before .before .before .before .before .before .before .before .before .args in report-wrote (a .work .now) (a .h) (c .before .before .before .before .before .before .before .before .before .before .before .put .ensures) (c .before .before .before .before .before .before .before .put-funcs .ensures) (c .before .before .put2 .ensures)
+returns c =
+    let a = c .before .before .before .before .before .before .before .before .before .before .before .before .before .before .before .before .args in
+    let first = c .before .before .before .before .before .before .before .before .before .before .before .put .ensures in
+    let funcs = c .before .before .before .before .before .before .before .put-funcs .ensures in
+    report-wrote (a .work .now) (a .h) first funcs (c .before .before .put2 .ensures)
 
 pub put-report-spec : {M : Type 1} → statement M
 put-report-spec =

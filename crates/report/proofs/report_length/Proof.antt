@@ -3,10 +3,9 @@ use native.Mathlib.Omega.{arith}
 use Prim.Native.Nat.{_+_, _-_, _*_, _≤_}
 use mathlib.Core.Path.{_≡_, _∙_, sym}
 use lib.ListN.{length}
-use Rattle.model.specs.Sheet.{sheetOf, funcRows}
 use Rattle.tables.specs.Tables.{sizeAt, taskOf, sum}
 use Rattle.print.proofs.Laws.{none-length, next-length}
-use Rattle.report.specs.Report.{funcLines, mostPointLine, mostFuncLine}
+use Rattle.report.specs.Report.{funcText, funcsText, mostPointText, mostHeadText}
 use Rattle.report.proofs.Laws.{report-size, points-none, points-next, points-most}
 use borrow.Author.Needs.{needs}
 use Rattle.report.proofs.report_length.Statement.{statement}
@@ -15,8 +14,8 @@ use Rattle.report.proofs.report_length.Tie as tie
 abbrev Inv-loop : tie.InvT-loop
 Inv-loop work h funcs n₀ f₀ n f =
     (f ≤ h .funcs)
-    × (n ≡ 10 + length (funcLines (taskOf work h) f))
-    × (n ≤ 10 + mostFuncLine * f + mostPointLine * sum (sizeAt work) f)
+    × (n ≡ 10 + length (funcsText (taskOf work h) f))
+    × (n ≤ 10 + mostHeadText * f + mostPointText * sum (sizeAt work) f)
 
 abbrev μ-loop : tie.MeasureT-loop
 μ-loop work h funcs n₀ f₀ n f = h .funcs - f
@@ -27,7 +26,7 @@ add-n c = omega arith
 loop-holds : tie.Need-loop-holds Inv-loop μ-loop
 loop-holds c =
     let a = c .before .before .before .args in
-    (omega arith, omega (arith, none-length (funcRows (taskOf (a .work .now) (a .h)) (sheetOf (taskOf (a .work .now) (a .h))))), omega arith)
+    (omega arith, omega (arith, none-length (funcText (taskOf (a .work .now) (a .h)))), omega arith)
 
 func-length-requires : tie.Need-func-length-requires Inv-loop μ-loop
 func-length-requires c κs = (c .before .before .before .before .before .pre, omega arith)
@@ -49,7 +48,7 @@ loop-again : tie.Need-loop-again Inv-loop μ-loop
 loop-again c =
     let a = c .before .before .before .before .before .before .args in
     let f = c .before .before .loop .f in
-    (omega arith, omega (arith, next-length (funcRows (taskOf (a .work .now) (a .h)) (sheetOf (taskOf (a .work .now) (a .h)))) f), omega (arith, points-next (a .work .now) f))
+    (omega arith, omega (arith, next-length (funcText (taskOf (a .work .now) (a .h))) f), omega (arith, points-next (a .work .now) f))
 
 returns : tie.Need-returns Inv-loop μ-loop
 returns c =

@@ -11,7 +11,9 @@ returns : tie.Need-returns
 returns c = rw (c .before .before .judgement .given .1, c .refused .ensures) (none-reported _ _ _)
 
 returns-2 : tie.Need-returns-2
-returns-2 c = rw (c .before .before .before .before .before .before .before .before .judgement2 .given .1) (c .before .before .before .before .report-task .ensures)
+returns-2 c =
+    let e = c .before .before .before .before .before .before .before .before .judgement2 .given .1 in
+    rw e (c .before .before .before .before .report-task .ensures)
 
 pub report-judged-spec : {M : Type 1} → statement M
 report-judged-spec =
