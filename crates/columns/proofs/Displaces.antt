@@ -1,5 +1,5 @@
 -- D and d of a function from those of the functions that it calls.
-use Prim.Native.Nat.{ℕ, zero, suc, _+_, _-_, _*_, _≤_, _<_}
+use Prim.Native.Nat.{ℕ, _+_, _*_, _≤_, _<_}
 use native.Mathlib.Omega.{arith}
 use native.Mathlib.Decide.{ℕ-discrete}
 use mathlib.Core.Bool.{Bool, true, false}
@@ -17,12 +17,12 @@ use Rattle.theory.proofs.Links.{callee-later}
 use Rattle.theory.proofs.Sheet.{calls-later}
 use Rattle.tables.specs.declared.Header.{Header}
 use Rattle.tables.specs.declared.Span.{Span}
-use Rattle.tables.specs.Tables.{item, pointAt, baseAt, sizeAt, spanAt, funcIn, taskOf}
+use Rattle.tables.specs.Tables.{pointAt, baseAt, sizeAt, spanAt, funcIn, taskOf}
 use Rattle.tables.specs.Valid.{Lies, Fits}
 use Rattle.tables.proofs.Laws.{func-is, size-is, point-is, count-is, here, elsewhere}
 use Rattle.tables.proofs.Valid.{settled-fits}
 use Rattle.columns.specs.declared.Bounds.{Bounds}
-use Rattle.columns.specs.Columns.{columnsEnd, highColumn, longestColumn, shortestColumn, Funcs, Changed, Within}
+use Rattle.columns.specs.Columns.{columnsEnd, highColumn, longestColumn, shortestColumn, Funcs, Within}
 use Rattle.columns.specs.Values.{CallFits, Bounded}
 use Rattle.columns.proofs.Writes.{changed-none, changed-set}
 use Rattle.columns.specs.Displaced.{Ready, Displaced, Displacing}

@@ -266,7 +266,8 @@ pub fn raise(work: &mut [u32], s: Span, at: usize, values: &[u32])
         let v = values[p];
         p += 1;
         if g < Limits::FUNCS {
-            work[at + g] = larger(work[at + g], v);
+            let old = work[at + g];
+            work[at + g] = larger(old, v);
         }
     }
 }

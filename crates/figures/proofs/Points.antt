@@ -1,5 +1,5 @@
 -- One function of the task: the numbers that its points are given are its figures, and so are what the kernels answer.
-use Prim.Native.Nat.{ℕ, zero, suc, _+_, _-_, _≤_, _<_, min}
+use Prim.Native.Nat.{ℕ, suc, _+_, _-_, _≤_, _<_, min}
 use native.Mathlib.Omega.{arith}
 use native.Mathlib.Numerals.{add-one}
 use mathlib.Core.List.{List}
@@ -108,7 +108,8 @@ module _ {w : List ℕ} {h : Header} {f k : ℕ} {s : Span} (x : Turn w h f k s)
   pub turn-reached : (p : ℕ) → p < s .size → T (model.reached (funcIn w s) p)
   turn-reached p l =
       subst (λ (x : Func). T (model.reached x p)) same-func
-      (x .begun .worked .ready .settled .formed .reach f p (rw (count-is w h) (x .begun .below)) (omega (arith, ap size same-func, length-points w (s .base) (s .size))))
+      (x .begun .worked .ready .settled .formed .reach f p (rw (count-is w h) (x .begun .below))
+      (omega (arith, ap size same-func, length-points w (s .base) (s .size))))
 
   -- what the points are given and what the kernels answer, as figures of the task
   pub of-dead : {l l′ : List ℕ} → Filled (λ p v. v ≡ model.dead (funcIn w s) p) (s .size) l l′ → Figures Dead (taskOf w h) f (s .size) l l′

@@ -1,13 +1,13 @@
 -- The figures as they are read back.
-use Prim.Native.Nat.{ℕ, _+_, _-_, _*_, _≤_, _<_}
+use Prim.Native.Nat.{ℕ, _+_, _-_, _≤_, _<_}
 use native.Mathlib.Omega.{arith}
 use mathlib.Core.List.{List}
 use lib.ListN.{length}
-use mathlib.Core.Path.{_≡_, refl, ap, sym, subst, _∙_}
+use mathlib.Core.Path.{_≡_, ap, sym, subst, _∙_}
 use Rattle.model.specs.Limits.{mostStack}
-use Rattle.model.specs.Task.{Func, Task, func}
+use Rattle.model.specs.Task.{func}
 use Rattle.model.specs.Figures as model
-use Rattle.model.specs.Sheet.{inBlocks, costed, sheetOf}
+use Rattle.model.specs.Sheet.{costed, sheetOf}
 use Rattle.theory.proofs.Rules.{need-frame}
 use Rattle.tables.specs.declared.Header.{Header}
 use Rattle.tables.specs.declared.Span.{Span}
@@ -55,7 +55,8 @@ module _ {w : List ℕ} {h : Header} {f : ℕ} {s : Span} (k : Figured w h) (l :
     pub small-chain : item w (chainColumn + f) ≤ mostChain
     small-chain = omega (arith, k .chain .each f (omega arith) l, chain-low (k .settled .formed .shaped) f, k .settled .holds .few)
 
-    pub figures-are : {high dead need next fill save reload later cost : ℕ} → high ≡ item w (highColumn + s .base + p) → dead ≡ item w (deadColumn + s .base + p)
+    pub figures-are : {high dead need next fill save reload later cost : ℕ} → high ≡ item w (highColumn + s .base + p)
+        → dead ≡ item w (deadColumn + s .base + p)
         → need ≡ item w (needColumn + s .base + p) → next ≡ item w (nextColumn + s .base + p) → fill ≡ item w (fillColumn + s .base + p)
         → save ≡ high - dead → reload ≡ need - dead → later ≡ next - need → cost ≡ save + reload + later + item w (chainColumn + f)
         → figuredOf (record {

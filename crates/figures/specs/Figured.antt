@@ -13,6 +13,7 @@ use Rattle.figures.specs.declared.PointFigures.{PointFigures}
 use Rattle.figures.specs.declared.FuncFigures.{FuncFigures}
 use Rattle.columns.specs.Columns.{highColumn, deadColumn, needColumn, nextColumn, fillColumn, longestColumn, shortestColumn, entryColumn}
 use Rattle.columns.specs.Columns.{chainColumn, Points, Funcs}
+pub use Rattle.columns.specs.Displaced.{Ready}
 
 -- every column has the figure of each function and of each point: what a service reads figures from
 pub record Figured (w : List ℕ) (h : Header) : Type 0 where

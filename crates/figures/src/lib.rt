@@ -1,7 +1,7 @@
 // The figures of a task that judge accepted, for every function and point: worked out in columns behind the tables, and read back as one record.
 // What costs work to find has a column; what is a difference or a sum is computed where it is read.
 ghost use mathlib.Core.Path.{_≡_};
-ghost use Prim.Native.Nat.{ℕ, suc, _+_, _<_, _≤_};
+ghost use Prim.Native.Nat.{suc, _+_, _<_, _≤_};
 ghost use lib.ListN.{length};
 ghost use Rattle.model.specs.Limits.{workLength, mostStack};
 ghost use Rattle.model.specs.Sheet.{sheetOf};

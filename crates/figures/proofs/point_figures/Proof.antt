@@ -28,8 +28,10 @@ returns c =
     let need = c .before .before .before .before .before .before .before .figure-at3 .ensures in
     let next = c .before .before .before .before .before .before .figure-at4 .ensures in
     let fill = c .before .before .before .before .before .figure-at5 .ensures in
-    figures-are (a .0) (a .1) (a .2) (c10 .before .args .p) (a .3) high dead need next fill (c .before .before .before .above .ensures) (c .before .before .above2 .ensures)
-    (c .before .above3 .ensures) (c .cost-of .ensures)
+    let save = c .before .before .before .above .ensures in
+    let reload = c .before .before .above2 .ensures in
+    let later = c .before .above3 .ensures in
+    figures-are (a .0) (a .1) (a .2) (c10 .before .args .p) (a .3) high dead need next fill save reload later (c .cost-of .ensures)
 
 pub point-figures-spec : {M : Type 1} → statement M
 point-figures-spec =

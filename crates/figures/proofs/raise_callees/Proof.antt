@@ -8,26 +8,29 @@ use Rattle.figures.proofs.raise_callees.Tie as tie
 
 value-points-requires : tie.Need-value-points-requires
 value-points-requires c κs =
-    let a = turn-of (c .before .before .before .before .before .before .pre) (c .before .before .before .span-at .ensures) in
+    let b = c .before .before .before .before .before .before .pre in
+    let a = turn-of b (c .before .before .before .span-at .ensures) in
     let i = turn-fits a in
-    (i .lies, omega (arith, c .before .before .before .before .before .before .pre .worked .ready .room), i .frame, own-chain (c .before .before .before .before .before .before .pre), turn-room a (omega arith))
+    (i .lies, omega (arith, b .worked .ready .room), i .frame, own-chain b, turn-room a (omega arith))
 
 value-points-requires-2 : tie.Need-value-points-requires-2
 value-points-requires-2 c κs =
-    let a = turn-of (c .before .before .before .before .before .before .before .before .before .pre) (c .before .before .before .before .before .before .span-at .ensures) in
-    turn-values a (omega arith)
+    let b = c .before .before .before .before .before .before .before .before .before .pre in
+    turn-values (turn-of b (c .before .before .before .before .before .before .span-at .ensures)) (omega arith)
 
 raise-requires : tie.Need-raise-requires
 raise-requires c κs =
     let c10 = c .before .before .before .before .before .before .before .before .before .before in
-    let a = turn-of (c10 .before .before .before .pre) (c10 .span-at .ensures) in
-    (turn-fits a .lies, omega (arith, c10 .before .before .before .pre .worked .ready .room), omega arith, omega arith, turn-room a (omega arith))
+    let b = c10 .before .before .before .pre in
+    let a = turn-of b (c10 .span-at .ensures) in
+    (turn-fits a .lies, omega (arith, b .worked .ready .room), omega arith, omega arith, turn-room a (omega arith))
 
 raise-requires-2 : tie.Need-raise-requires-2
 raise-requires-2 c κs =
     let c10 = c .before .before .before .before .before .before .before .before .before .before in
-    let a = turn-of (c10 .before .before .before .before .before .before .before .before .before .pre) (c10 .before .before .before .before .before .before .span-at .ensures) in
-    let r = c10 .before .before .before .before .before .before .before .before .before .pre .worked .ready .room in
+    let b = c10 .before .before .before .before .before .before .before .before .before .pre in
+    let a = turn-of b (c10 .before .before .before .before .before .before .span-at .ensures) in
+    let r = b .worked .ready .room in
     let z = c .before .before .before .before .before .raise .ensures .changed .size in
     let i = turn-fits a .lies .within in
     (record { room = omega (arith, z, r); within = i }, omega (arith, z, r), omega arith, omega arith, turn-room a (omega arith))

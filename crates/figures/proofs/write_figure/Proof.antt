@@ -23,10 +23,12 @@ put-column-requires c κs =
 returns : tie.Need-returns
 returns c =
     let c10 = c .before .before .before .before .before .before .before .before .before .before in
-    let a = turn-of (c10 .before .before .before .before .before .before .before .before .pre) (c10 .before .before .before .before .before .span-at .ensures) in
+    let e = c10 .before .before .before .before .before .span-at .ensures in
+    let a = turn-of (c10 .before .before .before .before .before .before .before .before .pre) e in
     let n = c .before .before .before .before .before .column-of .ensures in
     let k = c .before .before .before .before .before .before .before .figure-points .ensures in
-    worked-put (c10 .before .before .before .before .before .before .before .before .args .which) a n k (c .before .before .put-column .ensures)
+    let put = c .before .before .put-column .ensures in
+    worked-put (c10 .before .before .before .before .before .before .before .before .args .which) a n k put
 
 pub write-figure-spec : {M : Type 1} → statement M
 write-figure-spec =
