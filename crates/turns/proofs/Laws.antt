@@ -2,16 +2,42 @@
 use Prim.Native.Nat.{ℕ, zero, suc, _+_, _-_, _*_, _≤_, _<_}
 use mathlib.Core.List.{List, [], _∷_}
 use mathlib.Core.Path.{_≡_, refl, ap, sym, _∙_}
+use mathlib.Core.Bool.{false}
 use native.Mathlib.Omega.{arith}
-use lib.ListN.{length, set}
-use Rattle.model.specs.Core.{Core}
+use types.Run.{OneOf, miss}
+use denote.Enum.Declared.{tagOf}
+use Rattle.model.proofs.Point as P
+use Rattle.model.specs.declared.Point.{Point}
+use Rattle.model.specs.declared.Point.the-variants.{Load, Store, Call, Ensure, Goto, Either, Return}
+use Rattle.model.specs.Refusal.{isEither}
+use lib.ListN.{length, set, length-set}
+use lib.Seq.{drop-set-lt}
+use Rattle.model.specs.Limits.{mostFuncs, mostPoints}
+use Rattle.model.specs.Task.{Task, count, func}
+use Rattle.model.specs.Core.{Core, reserve, idle, ensure, preempt, filledWith, saveMoves, resumeMoves}
+use Rattle.model.specs.Figures.{longest}
+use Rattle.model.specs.Sheet.{Figured, sheetOf}
 use Rattle.model.specs.Run as run
 use Rattle.model.specs.Run.{Place, onwards}
+use Rattle.theory.proofs.Window.{frame-room}
+use Rattle.tables.specs.declared.Header.{Header}
+use Rattle.tables.specs.declared.Span.{Span}
+use Rattle.tables.specs.Tables.{item, spanAt, taskOf}
+use Rattle.tables.proofs.Laws.{here, elsewhere, count-is, frame-is}
+use Rattle.tables.proofs.Valid.{kept-same, settled-fits}
+use Rattle.figures.specs.declared.FuncFigures.{FuncFigures}
+use Rattle.figures.specs.declared.PointFigures.{PointFigures}
+use Rattle.figures.specs.Figured.{funcFigures, figuredOf}
+use Rattle.figures.specs.Figured as figures
+use Rattle.machine.specs.declared.Moved.{Moved}
+use Rattle.machine.specs.declared.Preempted.{Preempted}
+use Rattle.machine.specs.Moves as machine
 use Rattle.machine.specs.declared.Machine.{Machine}
-use Rattle.machine.specs.Moves.{coreOf}
+use Rattle.machine.specs.Moves.{coreOf, Entered}
 use Rattle.turns.specs.declared.State.{State}
 use Rattle.turns.specs.declared.Turned.{Turned}
-use Rattle.turns.specs.Frames.{framesAt, callerAt, putCaller, placesIn, framesFrom, framesOf, stateOf, turnOf, plainTurn}
+use Rattle.turns.specs.Frames.{framesAt, framesEnd, putCaller, placesIn, framesFrom, framesOf, turnOf, plainTurn}
+use Rattle.turns.specs.Turns.{Stays, Does, Steps, Preempts, Inside, Started}
 
 -- the running frame and its callers, where there is one
 pub frames-some : (w : List ℕ) (d f p : ℕ) → 0 < d → framesFrom w d f p ≡ record { fn = f; at = p } ∷ placesIn w (d - 1)
@@ -19,11 +45,203 @@ frames-some w zero f p h = absurd (omega arith)
 frames-some w (suc n) f p h =
     let e : n ≡ suc n - 1 = omega arith in ap (λ (m : ℕ). record { fn = f; at = p } ∷ placesIn w m) e
 
--- a turn of the running frame, from its fields
-pub turn-on : (r : Turned) (w cache memory : List ℕ) (f p a o b n : ℕ) (c : Core) → 0 < r .state .depth → r .state .depth - 1 ≡ n → r .state .f ≡ f → r .state .p ≡ p
-    → coreOf (r .state .machine) cache memory ≡ c → r .answer ≡ a → r .out ≡ o → r .back ≡ b
-    → turnOf w r cache memory ≡ onwards f p (placesIn w n) c a o b
-turn-on r w cache memory f p a o b n c h d i j k l m q =
-    ap (λ (fs : List Place). record { state = record { frames = fs; core = coreOf (r .state .machine) cache memory }; answer = r .answer; out = r .out; back = r .back })
+-- ---- a turn, from the fields of what is returned
+
+-- function f runs at point p, and the callers are those below it
+turn-on : (r : Turned) (w cache memory : List ℕ) (f p a o b : ℕ) (fs : List Place) (c : Core) → 0 < r .state .depth → r .state .f ≡ f → r .state .p ≡ p
+    → placesIn w (r .state .depth - 1) ≡ fs → coreOf (r .state .machine) cache memory ≡ c → r .answer ≡ a → r .out ≡ o → r .back ≡ b
+    → turnOf w r cache memory ≡ onwards f p fs c a o b
+turn-on r w cache memory f p a o b fs c h i j d k l m q =
+    ap
+    (λ (gs : List Place).
+    record {
+      state = record { frames = gs; core = coreOf (r .state .machine) cache memory };
+      answer = r .answer;
+      out = r .out;
+      back = r .back;
+    })
     (frames-some w (r .state .depth) (r .state .f) (r .state .p) h)
-    ∙ (λ t. onwards (i t) (j t) (placesIn w (d t)) (k t) (l t) (m t) (q t))
+    ∙ (λ t. onwards (i t) (j t) (d t) (k t) (l t) (m t) (q t))
+
+-- a step that moves nothing
+pub plain-does : (x : State) (r : Turned) (p a p′ a′ : ℕ) (w cache memory : List ℕ) (c : Core) → 0 < x .depth → r ≡ plainTurn x p a → p ≡ p′ → a ≡ a′
+    → coreOf (x .machine) cache memory ≡ c → Does r w cache memory (onwards (x .f) p′ (placesIn w (x .depth - 1)) c a′ 0 0) 0
+plain-does x r p a p′ a′ w cache memory c h e i j k =
+    rw e (record { turn = turn-on (plainTurn x p a) w cache memory _ _ _ _ _ _ _ h refl i refl k j refl refl; bound = refl })
+
+-- a step or a preemption that moves blocks, with the callers as they were
+moved-does : (x : State) (r : Turned) (p o b n : ℕ) (w cache memory : List ℕ) (c : Core) → 0 < x .depth → r .state .depth ≡ x .depth → r .state .f ≡ x .f
+    → r .state .p ≡ p → coreOf (r .state .machine) cache memory ≡ c → r .answer ≡ 0 → r .out ≡ o → r .back ≡ b → r .bound ≡ n
+    → Does r w cache memory (onwards (x .f) p (placesIn w (x .depth - 1)) c 0 o b) n
+moved-does x r p o b n w cache memory c h d e f k a i j l =
+    record {
+      turn =
+          turn-on r w cache memory _ _ _ _ _ _ _ (omega arith) e f (ap (λ (m : ℕ). placesIn w (m - 1)) d) k a i j;
+      bound = l;
+    }
+
+-- ---- the callers
+
+-- a caller written behind n others
+module _ (w : List ℕ) (n f p : ℕ) where
+  places-below : (m : ℕ) → m ≤ n → placesIn (putCaller w n f p) m ≡ placesIn w m
+  unfolding placesIn
+  places-below zero h = refl
+  places-below (suc m) h =
+      let apart : (j : ℕ) → j < framesAt + 2 * n → item (putCaller w n f p) j ≡ item w j
+      = λ j l. elsewhere (set w (framesAt + 2 * n) f) (framesAt + 2 * n + 1) j p (λ e. omega arith) ∙ elsewhere w (framesAt + 2 * n) j f (λ e. omega arith) in
+      let a = apart (framesAt + 2 * m) (omega arith) in
+      let b = apart (framesAt + 2 * m + 1) (omega arith) in
+      let r = places-below m (omega arith) in
+      λ i. record { fn = a i; at = b i } ∷ r i
+
+  pub caller-put : framesAt + 2 * n + 1 < length w → placesIn (putCaller w n f p) (suc n) ≡ record { fn = f; at = p } ∷ placesIn w n
+  unfolding placesIn
+  caller-put h =
+      let a = elsewhere (set w (framesAt + 2 * n) f) (framesAt + 2 * n + 1) (framesAt + 2 * n) p (λ e. omega arith) ∙ here w (framesAt + 2 * n) f (omega arith) in
+      let b = here (set w (framesAt + 2 * n) f) (framesAt + 2 * n + 1) p (simp length-set h) in
+      let r = places-below n (omega arith) in
+      λ i. record { fn = a i; at = b i } ∷ r i
+
+  -- nothing else changes
+  pub caller-stays : n < mostFuncs → (w′ : List ℕ) → w′ ≡ putCaller w n f p → Stays w w′
+  caller-stays h w′ e =
+      rw e
+      (record {
+        below = λ i l.
+            elsewhere (set w (framesAt + 2 * n) f) (framesAt + 2 * n + 1) i p (λ j. omega arith)
+            ∙ elsewhere w (framesAt + 2 * n) i f (λ j. omega arith);
+        kept = record {
+          size = simp length-set;
+          past =
+              drop-set-lt framesEnd (set w (framesAt + 2 * n) f) (framesAt + 2 * n + 1) p (omega arith)
+              ∙ drop-set-lt framesEnd w (framesAt + 2 * n) f (omega arith);
+        };
+      })
+
+-- the last of n callers runs
+pub callers-none : (w : List ℕ) (n : ℕ) → n ≡ 0 → [] ≡ placesIn w n
+unfolding placesIn
+callers-none w n e = rw e refl
+
+pub caller-runs : (w : List ℕ) (n f p : ℕ) → (n ≡ 0 → ⊥) → f ≡ item w (framesAt + 2 * (n - 1)) → p ≡ item w (framesAt + 2 * (n - 1) + 1)
+    → framesFrom w n f p ≡ placesIn w n
+unfolding placesIn
+caller-runs w zero f p h a b = absurd (h refl)
+caller-runs w (suc n) f p h a b =
+    let e : suc n - 1 ≡ n = omega arith in
+    let g = a ∙ ap (λ (m : ℕ). item w (framesAt + 2 * m)) e in
+    let i = b ∙ ap (λ (m : ℕ). item w (framesAt + 2 * m + 1)) e in
+    λ j. record { fn = g j; at = i j } ∷ placesIn w n
+
+-- a step that leaves the running frame
+pub leave-does : (x : State) (w cache memory : List ℕ) (n : ℕ) (c : Core) → framesOf w x ≡ placesIn w n → coreOf (x .machine) cache memory ≡ c
+    → Does (record { state = x; answer = 0; out = 0; back = 0; bound = 0 }) w cache memory
+    (record { state = record { frames = placesIn w n; core = c }; answer = 0; out = 0; back = 0 }) 0
+leave-does x w cache memory n c e k =
+    record { turn = λ i. record { state = record { frames = e i; core = k i }; answer = 0; out = 0; back = 0 }; bound = refl }
+
+-- a step at a point that is known
+pub steps-at : (t : Task) (x : State) (y z : Point) (v : ℕ) (w cache memory : List ℕ) {r : Turned} {w′ cache′ memory′ : List ℕ} → y ≡ z
+    → Steps t x z v w cache memory r w′ cache′ memory′ → Steps t x y v w cache memory r w′ cache′ memory′
+steps-at t x y z v w cache memory e d = rw e d
+
+pub stays-same : (w : List ℕ) → Stays w w
+stays-same w = record { below = λ i l. refl; kept = kept-same framesEnd w }
+
+-- a step that enters function g
+call-does : (x : State) (r : Turned) (w w′ cache memory : List ℕ) (g o n : ℕ) (c : Core) → 0 < x .depth → x .depth ≤ mostFuncs → framesEnd ≤ length w
+    → w′ ≡ putCaller w (x .depth - 1) (x .f) (x .p + 1) → r .state .depth ≡ x .depth + 1 → r .state .f ≡ g → r .state .p ≡ 0
+    → coreOf (r .state .machine) cache memory ≡ c → r .answer ≡ 0 → r .out ≡ o → r .back ≡ 0 → r .bound ≡ n
+    → Does r w′ cache memory (onwards g 0 (record { fn = x .f; at = suc (x .p) } ∷ placesIn w (x .depth - 1)) c 0 o 0) n
+call-does x r w w′ cache memory g o n c h l u e d f p k a i j b =
+    let m : r .state .depth - 1 ≡ suc (x .depth - 1) = omega arith in
+    let q : x .p + 1 ≡ suc (x .p) = omega arith in
+    let below =
+    (λ z. placesIn (e z) (m z))
+    ∙ caller-put w (x .depth - 1) (x .f) (x .p + 1) (omega arith)
+    ∙ ap (λ (z : ℕ). record { fn = x .f; at = z } ∷ placesIn w (x .depth - 1)) q in
+    record { turn = turn-on r w′ cache memory _ _ _ _ _ _ _ (omega arith) f p below k a i j; bound = b }
+
+-- ---- the figures that bound an event
+
+-- frame and spill of a callee
+pub callee-is : (t : Task) (r : FuncFigures) (f g : ℕ) → r ≡ funcFigures t f → f ≡ g → (r .frame ≡ func t g .frame) × (r .spill ≡ sheetOf t .spill g)
+unfolding funcFigures
+callee-is t r f g e j = (ap (λ (z : FuncFigures). z .frame) e ∙ ap (λ z. func t z .frame) j, ap (λ (z : FuncFigures). z .spill) e ∙ ap (sheetOf t .spill) j)
+
+-- the running frame of a call goes on behind the callee, which is entered
+pub enters-does : (t : Task) (x : State) (q : FuncFigures) (e : Moved) (w w′ cache memory memory′ : List ℕ) (i f g v : ℕ) → 0 < x .depth → x .depth ≤ mostFuncs
+    → framesEnd ≤ length w → q ≡ funcFigures t i → i ≡ g → f ≡ g → w′ ≡ putCaller w (x .depth - 1) (x .f) (x .p + 1)
+    → machine.Does e cache memory′ (reserve (q .frame) (coreOf (x .machine) cache memory))
+    → Steps t x (Call g) v w cache memory
+    (record { state = record { depth = x .depth + 1; f = f; p = 0; machine = e .machine }; answer = 0; out = e .blocks; back = 0; bound = q .spill })
+    w′ cache memory′
+enters-does t x q e w w′ cache memory memory′ i f g v h l u b j k a d =
+    let c = coreOf (x .machine) cache memory in
+    let n = callee-is t q i g b j in
+    call-does x _ w w′ cache memory′ g _ _ _ h l u a refl k refl
+    (d .core ∙ ap (λ (z : ℕ). reserve z c .core) (n .0)) refl (d .blocks ∙ ap (λ (z : ℕ). reserve z c .blocks) (n .0)) refl (n .1)
+
+-- an ensure, and a preemption, by the figures of the point
+module _ (t : Task) (x : State) (q : PointFigures) (w cache memory cache′ : List ℕ) (v : ℕ) (h : 0 < x .depth)
+    (i : figuredOf q ≡ sheetOf t .at (x .f) (x .p)) where
+  pub ensure-does : (e : Moved) (p k : ℕ) → p ≡ suc (x .p) → machine.Does e cache′ memory (ensure k (coreOf (x .machine) cache memory))
+      → Steps t x (Ensure k) v w cache memory
+      (record { state = record { depth = x .depth; f = x .f; p = p; machine = e .machine }; answer = 0; out = 0; back = e .blocks; bound = q .fill })
+      w cache′ memory
+  ensure-does e p k j d =
+      moved-does x _ _ _ _ _ w cache′ memory _ h refl refl j (d .core) refl refl (d .blocks) (ap (λ (z : Figured). z .fill) i)
+
+  pub preempt-does : (e : Preempted) (memory′ : List ℕ) → machine.Preempts e cache′ memory′ (q .dead) (q .need) v (coreOf (x .machine) cache memory)
+      → Preempts t x v w cache memory
+      (record { state = record { depth = x .depth; f = x .f; p = x .p; machine = e .machine }; answer = 0; out = e .out; back = e .back; bound = q .cost })
+      cache′ memory′
+  preempt-does e memory′ d =
+      let c = coreOf (x .machine) cache memory in
+      moved-does x _ _ _ _ _ w cache′ memory′ _ h refl refl refl
+      (d .core ∙ ap (λ (z : Figured). preempt (z .dead) (z .need) (filledWith v c) c) i) refl
+      (d .out ∙ ap (λ (z : Figured). saveMoves (z .dead) (c .occupancy)) i)
+      (d .back ∙ ap (λ (z : Figured). resumeMoves (z .dead) (z .need) (c .occupancy)) i)
+      (ap (λ (z : Figured). z .cost) i)
+
+-- a point of a function has a small number
+pub inside-small : {w : List ℕ} {h : Header} {x : State} {s : Span} → Inside w h x s → x .p < mostPoints
+inside-small {x = x} {s = s} k =
+    let e : s .size ≡ _ = ap (λ (z : Span). z .size) (k .span) in
+    omega (arith, e, k .at-in, settled-fits (k .figured .settled) (x .f) (k .fn-in) .small)
+
+-- ---- a start
+
+module _ {w : List ℕ} {h : Header} (k : figures.Figured w h) where
+  some-funcs : 0 < h .funcs
+  some-funcs = omega (arith, count-is w h, k .settled .formed .shaped .some)
+
+  first-frame : (s : Span) → s ≡ spanAt w 0 → s .frame ≡ func (taskOf w h) 0 .frame
+  first-frame s e = ap (λ (z : Span). z .frame) e ∙ sym (frame-is w h 0 some-funcs)
+
+  pub start-room : (s : Span) (n : ℕ) → s ≡ spanAt w 0 → longest (taskOf w h) 0 ≤ n → (s .frame ≤ h .stack) × (s .frame ≤ n)
+  start-room s n e l =
+      let t = k .settled .formed in
+      let c : 0 < count (taskOf w h) = t .shaped .some in
+      let f = first-frame s e in
+      (omega (arith, f, t .shaped .frames 0 c), omega (arith, f, frame-room (taskOf w h) t 0 c))
+
+  pub start-is : (s : Span) (m : Machine) (n : ℕ) → s ≡ spanAt w 0 → Entered (h .stack) (s .frame) n m
+      → Started w h n (record { depth = 1; f = 0; p = 0; machine = m })
+  unfolding placesIn
+  start-is s m n e a cache memory i j =
+      let core = a cache memory i j ∙ ap (λ (z : ℕ). reserve z (idle cache memory) .core) (first-frame s e) in
+      λ z. record { frames = record { fn = 0; at = 0 } ∷ []; core = core z }
+
+-- ---- rows
+
+-- a point that is no either
+pub not-either : (y : Point) → OneOf (0 ∷ 1 ∷ 2 ∷ 3 ∷ 4 ∷ 6 ∷ []) (tagOf P.the-type y) → false ≡ isEither y
+not-either (Load o) h = refl
+not-either (Store o) h = refl
+not-either (Call g) h = refl
+not-either (Ensure k) h = refl
+not-either (Goto q) h = refl
+not-either (Either q r) h = absurd (miss (0 ∷ 1 ∷ 2 ∷ 3 ∷ 4 ∷ 6 ∷ []) 5 tt h)
+not-either Return h = refl
