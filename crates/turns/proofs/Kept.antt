@@ -1,25 +1,27 @@
 -- What an event keeps: the task, its figures, and a state that a run can be in. A loop over events cites these laws.
 use Prim.Native.Nat.{ℕ, zero, suc, _+_, _-_, _≤_, _<_}
 use mathlib.Core.List.{List, [], _∷_}
+use mathlib.Core.Option.{none}
 use mathlib.Core.Path.{_≡_, refl, ap, sym, subst, _∙_}
 use native.Mathlib.Omega.{arith}
-use lib.ListN.{length, length-replicate}
+use lib.ListN.{length}
 use Rattle.model.specs.Limits.{mostStack, mostFuncs, mostInAll}
 use Rattle.model.specs.declared.Point.{Point}
+use Rattle.model.specs.declared.Point.the-variants.{Load, Store, Call, Ensure, Goto, Either, Return}
+use Rattle.model.specs.Refusal.{eventRows}
 use Rattle.model.specs.Task.{Task, size, count, func, point}
 use Rattle.model.specs.Walk.{called}
-use Rattle.model.specs.Core.{Core, idle, reserve}
+use Rattle.model.specs.Core.{Core, idle}
 use Rattle.model.specs.Figures as model
-use Rattle.model.specs.Sheet as sheet
-use Rattle.model.specs.Sheet.{sheetOf, inBlocks}
-use Rattle.model.specs.Plain.{Frame, Act, afterEvent, firstFrames}
+use Rattle.model.specs.Sheet.{Sheet, sheetOf, inBlocks}
+use Rattle.model.specs.Plain.{Frame, Act, takes, preempted, afterEvent, firstFrames}
 use Rattle.model.specs.Run as run
-use Rattle.model.specs.Run.{Place, turn}
+use Rattle.model.specs.Run.{runningPlace, stepTurn, turn, eventBound}
 use Rattle.model.specs.WellFormed.{WellFormed}
 use Rattle.theory.specs.Sound.{Sound}
 use Rattle.theory.proofs.Links.{callee-later}
-use Rattle.theory.proofs.Frames.{places, In, Below, Standing, Window}
-use Rattle.theory.proofs.Window.{window-idle}
+use Rattle.theory.proofs.Frames.{places, In, Standing, Window}
+use Rattle.theory.proofs.Window.{ensures-frame, window-idle}
 use Rattle.theory.proofs.Fair.{Running, fair-event, runs-start}
 use Rattle.theory.proofs.Lawful.{sound}
 use Rattle.theory.proofs.Prices.{price-blocks}
@@ -33,10 +35,11 @@ use Rattle.tables.proofs.Valid.{task-same, settled-same}
 use Rattle.figures.specs.Columns.{columnsEnd, Points, Funcs}
 use Rattle.figures.specs.Figured.{Figured}
 use Rattle.machine.specs.Moves.{coreOf}
+use Rattle.machine.proofs.Kept.{reserve-blocks, ensure-blocks}
 use Rattle.turns.specs.declared.State.{State}
 use Rattle.turns.specs.declared.Turned.{Turned}
-use Rattle.turns.specs.Frames.{placesIn, framesFrom, framesOf, stateOf, turnOf}
-use Rattle.turns.specs.Turns.{Runs, Placed, Stays, Turns, Started}
+use Rattle.turns.specs.Frames.{framesFrom, turnOf}
+use Rattle.turns.specs.Turns.{Runs, Stays, Turns, Started}
 
 -- ---- the task and its figures, while the tables and the columns stay
 
@@ -95,35 +98,118 @@ figured-same {w} {w′} {h} k a =
 
 -- ---- a state that a run can be in
 
--- the frames that an event leaves on the plain stack
+-- what a loop goes on with after an event: k is the state before it, and r what it returned
+pub record Goes {w : List ℕ} {h : Header} {x : State} {cache memory : List ℕ} (k : Runs w h x cache memory) (a : Act) (r : Turned)
+    (w′ cache′ memory′ : List ℕ) : Type 0 where
+  pub runs : Runs w′ h (r .state) cache′ memory′
+  pub frames : runs .frames ≡ afterEvent (taskOf w h) (k .frames) a
+  pub task : taskOf w′ h ≡ taskOf w h
+  pub bound : r .bound ≡ eventBound (taskOf w h) (sheetOf (taskOf w h)) (k .frames) a
+  pub out-few : r .out ≤ mostStack
+  pub back-few : r .back ≤ mostStack
+
+-- no event moves more blocks out or back than the cache has
+pub record Few (t : Task) (u : run.Turn) : Type 0 where
+  pub out : u .out ≤ t .stack
+  pub back : u .back ≤ t .stack
+
+none-moved : (t : Task) (u : run.Turn) → u .out ≡ 0 → u .back ≡ 0 → Few t u
+none-moved t u i j = record { out = omega arith; back = omega arith }
+
+module _ (t : Task) (s : Sheet) (f : WellFormed t) where
+  few-step : (x : Frame) (fs : List Frame) (c : Core) (y : Point) (v : ℕ) → point (func t (x .fn)) (x .at) ≡ y → In t x → Window t s (x ∷ fs) c
+      → Few t (stepTurn t (x .fn) (x .at) (places fs) c y v)
+  few-step x fs c (Load o) v e i w = none-moved t _ refl refl
+  few-step x fs c (Store o) v e i w = none-moved t _ refl refl
+  few-step x fs c (Call g) v e i w =
+      let l = callee-later (f .linked) (x .fn) (x .at) g (i .fn-in) (i .at-in) (ap called e) in
+      record {
+        out = omega (arith, reserve-blocks c (func t g .frame) (omega (arith, w .fits, w .blocks)), f .shaped .frames g (l .1));
+        back = omega arith;
+      }
+  few-step x fs c (Ensure k) v e i w = record {
+    out = omega arith;
+    back = omega (arith, ensure-blocks c k, ensures-frame t f x k i e, f .shaped .frames (x .fn) (i .fn-in));
+  }
+  few-step x fs c (Goto q) v e i w = none-moved t _ refl refl
+  few-step x fs c (Either q r) v e i w = none-moved t _ refl refl
+  few-step x fs c Return v e i w = none-moved t _ refl refl
+
+  few-event : (fs : List Frame) (c : Core) (a : Act) → Standing t fs → Window t s fs c → Few t (turn t s (record { frames = places fs; core = c }) a)
+  unfolding turn places
+  few-event [] c a j w = none-moved t _ refl refl
+  few-event (x ∷ fs) c (takes v) (Standing.runs i b) w = few-step x fs c (point (func t (x .fn)) (x .at)) v refl i w
+  few-event (x ∷ fs) c (preempted v) (Standing.runs i b) w = record { out = omega (arith, w .fits); back = omega (arith, w .fits) }
+
 module _ {w : List ℕ} {h : Header} {x : State} {cache memory : List ℕ} (k : Runs w h x cache memory) {a : Act} {r : Turned} {w′ cache′ memory′ : List ℕ}
     (u : Turns w h x cache memory a r w′ cache′ memory′) where
-  abbrev framesAfter : List Frame
-  framesAfter = afterEvent (taskOf w h) (k .frames) a
+  abbrev t : Task
+  t = taskOf w h
 
   -- the turn that the event does, on the frames of the plain stack
   turn-plain : turnOf w′ r cache′ memory′
-      ≡ turn (taskOf w h) (sheetOf (taskOf w h)) (record { frames = places (k .frames); core = coreOf (x .machine) cache memory }) a
+      ≡ turn t (sheetOf t) (record { frames = places (k .frames); core = coreOf (x .machine) cache memory }) a
   turn-plain =
       u .turn
-      ∙ ap (λ (y : run.State). turn (taskOf w h) (sheetOf (taskOf w h)) y a)
-      (λ i. record { frames = k .same i; core = coreOf (x .machine) cache memory })
+      ∙ ap (λ (y : run.State). turn t (sheetOf t) y a) (λ i. record { frames = k .same i; core = coreOf (x .machine) cache memory })
 
-  -- an event that no row refuses leaves a state that a run can be in
-  pub runs-turn : Runs w′ h (r .state) cache′ memory′
-  runs-turn =
-      let t = taskOf w h in
-      let s = sheetOf t in
-      let f = fair-event t s (k .figured .settled .formed) (k .sound) (k .frames) (coreOf (x .machine) cache memory) a (k .running .standing) (k .running) in
-      let c = ap (λ (z : run.Turn). z .state .core) turn-plain in
-      let run-of : Running t s (k .sound .ground) framesAfter (coreOf (r .state .machine) cache′ memory′)
-      = subst (λ (z : Core). Running t s (k .sound .ground) framesAfter z) (sym c) (f .runs) in
-      let both = subst (λ (z : Task). (i : Sound z (sheetOf z)) × Running z (sheetOf z) (i .ground) framesAfter (coreOf (r .state .machine) cache′ memory′))
-      (sym (task-stays (k .figured .settled .holds) (u .stays))) (k .sound, run-of) in
+  -- after an event that no row refuses a run can go on
+  pub goes-on : Goes k a r w′ cache′ memory′
+  goes-on =
+      let f = fair-event t (sheetOf t) (k .figured .settled .formed) (k .sound) (k .frames) (coreOf (x .machine) cache memory) a (k .running .standing) (k .running) in
+      let fs = afterEvent t (k .frames) a in
+      let c = coreOf (r .state .machine) cache′ memory′ in
+      let e = task-stays (k .figured .settled .holds) (u .stays) in
+      let here : Running t (sheetOf t) (k .sound .ground) fs c
+      = subst (λ (z : Core). Running t (sheetOf t) (k .sound .ground) fs z) (sym (ap (λ (z : run.Turn). z .state .core) turn-plain)) (f .runs) in
+      let there = subst (λ (z : Task). (i : Sound z (sheetOf z)) × Running z (sheetOf z) (i .ground) fs c) (sym e) (k .sound, here) in
+      let n = few-event t (sheetOf t) (k .figured .settled .formed) (k .frames) (coreOf (x .machine) cache memory) a (k .running .standing) (k .running .window) in
+      let small = k .figured .settled .formed .shaped .stack-high in
       record {
-        figured = figured-same (k .figured) (u .stays);
-        frames = framesAfter;
-        same = ap (λ (z : run.Turn). z .state .frames) turn-plain ∙ f .frames;
-        sound = both .0;
-        running = both .1;
+        runs = record {
+          figured = figured-same (k .figured) (u .stays);
+          frames = fs;
+          same = ap (λ (z : run.Turn). z .state .frames) turn-plain ∙ f .frames;
+          sound = there .0;
+          running = there .1;
+        };
+        frames = refl;
+        task = e;
+        bound = u .bound (k .frames) (k .same);
+        out-few = omega (arith, ap (λ (z : run.Turn). z .out) turn-plain, n .out, small);
+        back-few = omega (arith, ap (λ (z : run.Turn). z .back) turn-plain, n .back, small);
       }
+
+-- ---- the first state
+
+-- a loop begins with a state in which function 0 has just been entered
+pub record Begins (w : List ℕ) (h : Header) (x : State) (cache memory : List ℕ) : Type 0 where
+  pub runs : Runs w h x cache memory
+  pub frames : runs .frames ≡ firstFrames (taskOf w h)
+
+pub begins : {w : List ℕ} {h : Header} {x : State} (cache memory : List ℕ) → Figured w h → Started w h (length memory) x → length cache ≡ h .stack
+    → model.longest (taskOf w h) 0 ≤ length memory → Begins w h x cache memory
+unfolding places
+begins {w} {h} {x} cache memory k a i j =
+    let t = taskOf w h in
+    let f = k .settled .formed in
+    let s = sound t f inBlocks price-blocks in
+    let e = a cache memory i refl in
+    let r = runs-start t (sheetOf t) f s (f .shaped .some) (idle cache memory) (window-idle t (sheetOf t) cache memory i j) in
+    record {
+      runs = record {
+        figured = k;
+        frames = firstFrames t;
+        same = ap (λ (z : run.State). z .frames) e;
+        sound = s;
+        running = subst (λ (z : Core). Running t (sheetOf t) (s .ground) (firstFrames t) z) (sym (ap (λ (z : run.State). z .core) e)) r;
+      };
+      frames = refl;
+    }
+
+-- ---- an event that no row refuses has a frame that runs
+
+pub accepted-runs : (t : Task) (w : List ℕ) (d f p i k v : ℕ) → eventRows i k v (runningPlace t (framesFrom w d f p)) ≡ none → 0 < d
+unfolding eventRows
+accepted-runs t w zero f p i k v e = let z : _≡_ {A = ℕ} 0 1 = cc in absurd (omega arith)
+accepted-runs t w (suc d) f p i k v e = omega arith
