@@ -46,7 +46,7 @@ loop-again c =
     let l = c .before .before .before .before .before .before .before .before .before .before .before .before .before .before .before .before .before .before .before in
     let k = l .before .loop .inv in
     let t = c .before .before .before .before .before .before .before .before .before .turn in (
-      loops-on (k .0) (bounds l .0) (l .before .before .before .before .before .before .before .before .before .pre .answered) (omega (arith, c .before .struct-known2 .given)) (c .before .before .before .before .before .before .before .before .before .before .before .before .before .enum-told .given .1) (c .before .before .before .before .before .before .before .before .before .before .before .before .before .before .before .event-row .ensures) (t .ensures),
+      loops-on (k .0) {r = t .result} (bounds l .0) (l .before .before .before .before .before .before .before .before .before .pre .answered) (omega (arith, c .before .struct-known2 .given)) (c .before .before .before .before .before .before .before .before .before .before .before .before .before .enum-told .given .1) (c .before .before .before .before .before .before .before .before .before .before .before .before .before .before .before .event-row .ensures) (t .ensures),
       omega (arith, bounds l),
       omega (arith, k .2, t .kept),
       omega (arith, k .3, t .kept),
