@@ -5,25 +5,11 @@
 #ifndef _GNU_SOURCE
 #define _GNU_SOURCE 1
 #endif
-#include "felknost.h"
-#include "room.h"
+#include "lent.h"
 
 #include <pthread.h>
-#include <stdio.h>
 #include <stdlib.h>
 #include <string.h>
-
-static int passed, failed;
-
-static void count(const char *name, int good)
-{
-    if (good) {
-        passed++;
-        return;
-    }
-    failed++;
-    printf("%s: FAILED\n", name);
-}
 
 #define TASK                                                                                  \
     "(stack 5)\n(func 2\n  (store 1)\n  (call 1)\n  (ensure 2)\n  (load 1)\n  (return)\n)\n" \
@@ -35,44 +21,19 @@ static void count(const char *name, int good)
     "  (at 0 5 4 1 1 0 0 1 2 0)\n  (at 1 5 0 1 5 1 0 1 7 0)\n  (at 2 5 4 0 1 0 0 1 2 0)\n)\n"
 
 #define WANTED (sizeof SHEET - 1)
-#define FILLER 0xa5
 
-/* ---- one call, with every buffer at one end of its pages: the front, where what lies before traps, or the end, where what lies behind does */
-
-struct buffer {
-    struct room room;
-    uint8_t *at;
-    size_t bytes;
-};
+/* ---- one call */
 
 static struct buffer texts, outputs, works, results;
-
-static void lend(struct buffer *buffer, size_t bytes, int at_end, int byte)
-{
-    memset(buffer->room.start, byte, buffer->room.size);
-    buffer->at = buffer->room.start + (at_end ? buffer->room.size - bytes : 0);
-    buffer->bytes = bytes;
-}
-
-/* All bytes of the buffer's pages from this one of the buffer on, and those before the buffer, are as they were lent. */
-static int kept_from(const struct buffer *buffer, size_t from)
-{
-    const uint8_t *byte = buffer->room.start;
-    for (; byte < buffer->room.start + buffer->room.size; byte++)
-        if ((byte < buffer->at || byte >= buffer->at + from) && *byte != FILLER)
-            return 0;
-    return 1;
-}
 
 static uint64_t numbers[3];
 
 static int called(const char *text, size_t length, size_t output, size_t work, size_t result, int at_end)
 {
-    lend(&texts, length, at_end, 0);
-    memcpy(texts.at, text, length);
-    lend(&outputs, output, at_end, FILLER);
-    lend(&works, work * sizeof(uint32_t), at_end, FILLER);
-    lend(&results, result * sizeof(uint64_t), at_end, FILLER);
+    lend_with(&texts, text, length, at_end);
+    lend(&outputs, output, at_end);
+    lend(&works, work * sizeof(uint32_t), at_end);
+    lend(&results, result * sizeof(uint64_t), at_end);
     room_close(&texts.room);
     uint32_t answer = felknost_report(texts.at, length, outputs.at, output, (uint32_t *)(void *)works.at, work, (uint64_t *)(void *)results.at, result);
     room_open(&texts.room);
@@ -81,25 +42,16 @@ static int called(const char *text, size_t length, size_t output, size_t work, s
     return (int)answer;
 }
 
-/* A working space of this many numbers is 0 in its first FELKNOST_WORK and untouched behind, or wholly untouched where it is shorter. */
-static int cleared(size_t work)
-{
-    size_t zeros = work < FELKNOST_WORK ? 0 : FELKNOST_WORK * sizeof(uint32_t);
-    size_t i;
-    for (i = 0; i < zeros; i++)
-        if (works.at[i] != 0)
-            return 0;
-    return kept_from(&works, zeros);
-}
-
-static void expect(const char *name, const char *text, size_t length, size_t output, size_t work, uint64_t code, uint64_t place, const char *bytes, size_t written)
+static void expect(const char *name, const char *text, size_t length, size_t output, size_t work, uint64_t code, uint64_t place, const char *bytes,
+                   size_t written)
 {
     int at_end;
     for (at_end = 0; at_end < 2; at_end++) {
         room_case = name;
         int answer = called(text, length, output, work, 5, at_end);
         int same = numbers[0] == code && numbers[1] == place && numbers[2] == written;
-        count(name, answer == 1 && same && memcmp(outputs.at, bytes, written) == 0 && kept_from(&outputs, written) && cleared(work) && kept_from(&results, sizeof numbers));
+        int wrote = memcmp(outputs.at, bytes, written) == 0 && kept_from(&outputs, written);
+        count(name, answer == 1 && same && wrote && cleared(&works, work) && kept_from(&results, sizeof numbers));
     }
 }
 
@@ -137,7 +89,8 @@ static void short_results(void)
             count(room_case, answer == 0 && kept_from(&outputs, 0) && kept_from(&works, 0) && kept_from(&results, 0));
         }
     uint64_t three[3] = {9, 9, 9};
-    count("nothing is lent but the result", felknost_report(NULL, 0, NULL, 0, NULL, 0, three, 3) == 1 && three[0] == 15 && three[1] == FELKNOST_WORK && three[2] == 0);
+    int answer = (int)felknost_report(NULL, 0, NULL, 0, NULL, 0, three, 3);
+    count("nothing is lent but the result", answer == 1 && three[0] == 15 && three[1] == FELKNOST_WORK && three[2] == 0);
     count("nothing is lent", felknost_report(NULL, 0, NULL, 0, NULL, 0, NULL, 0) == 0);
 }
 

@@ -15,7 +15,7 @@ use Rattle.model.specs.Walk.{Walk, Met}
 use Rattle.tables.specs.Tables.{item}
 use Rattle.tables.proofs.Laws.{sum-but, here, elsewhere}
 use Rattle.tables.proofs.Valid.{kept-same, kept-on}
-use Rattle.flow.specs.Flow.{Inside}
+use Rattle.flow.specs.Flow.{LeadsWithin}
 use Rattle.flow.proofs.Laws.{set-each, kept-set}
 use Rattle.backward.specs.Backward.{has, Solved}
 use Rattle.backward.specs.Rounds.{joined, setAt, cost, Right, Round}
@@ -83,7 +83,7 @@ module _
     (next : ℕ → List ℕ)
     (gens kills : List ℕ)
     (n : ℕ)
-    (inside : Inside next n)
+    (inside : LeadsWithin next n)
     (small : (a : ℕ) → item kills a < 2 ^ setBits) where
   -- the set of a point, bit by bit
   bit-set : (sets : List ℕ) (p j : ℕ) → j < setBits

@@ -4,29 +4,17 @@ use native.Mathlib.Omega.{arith}
 use native.Mathlib.Decide.{ℕ-discrete}
 use native.Mathlib.Numerals.{add-one}
 use mathlib.Core.Bool.{Bool, true, false}
-use mathlib.Core.List.{List}
-use mathlib.Core.Option.{Option, none, some}
 use mathlib.Core.Logic.{_⊎_, inl, inr, ⊎-elim}
-use mathlib.Core.Path.{_≡_, refl, ap, sym, _∙_}
-use lib.Dec.{T, eqb}
-use lib.ListN.{length, set}
-use borrow.Author.Tests.{eq-eqb, ne-eqb}
-use Rattle.model.specs.declared.Point.{Point}
-use Rattle.model.specs.Limits.{mostFuncs}
+use mathlib.Core.Path.{_≡_, refl, ap, _∙_}
+use lib.Dec.{T}
 use Rattle.model.specs.Basic.{if_then_else_}
 use Rattle.model.specs.Task.{Func, Task, size, count, func}
-use Rattle.model.specs.Walk.{Largest, called, is, calls}
+use Rattle.model.specs.Walk.{Largest, calls}
 use Rattle.model.specs.Figures.{overCalls}
 use Rattle.theory.proofs.Lists.{by-test, largest-unique}
 use Rattle.theory.proofs.Between.{CallsLater, overCalls-is, caller-before}
-use Rattle.tables.specs.declared.Span.{Span}
-use Rattle.tables.specs.Layout.{tablesLength}
-use Rattle.tables.specs.Tables.{item, pointAt, funcIn}
-use Rattle.tables.specs.Valid.{Lies}
-use Rattle.tables.proofs.Laws.{here, elsewhere, point-there}
-use Rattle.figures.specs.Columns.{Changed}
-use Rattle.figures.specs.Steps.{raisedBy, soFar, numbered, calleeAt, Raised}
-use Rattle.figures.proofs.Writes.{changed-none, changed-set, changed-same, same-agree}
+use Rattle.columns.specs.Values.{raisedBy}
+use Rattle.figures.specs.Steps.{soFar}
 
 module _ (test : ℕ → Bool) (v : ℕ → ℕ) (m : ℕ) where
   raised-first : (n : ℕ) → m ≤ raisedBy test v n m
@@ -77,65 +65,6 @@ raised-same test v v′ (suc n) m e =
         ≡ (if t then max (raisedBy test v′ n m) (v′ n) else raisedBy test v′ n m)
     by-last true e i = omega (arith, e tt, i)
     by-last false e i = i
-
-raised-yes : (test : ℕ → Bool) (v : ℕ → ℕ) (p m : ℕ) → test p ≡ true → raisedBy test v (p + 1) m ≡ max (raisedBy test v p m) (v p)
-unfolding raisedBy
-raised-yes test v p m e = rw (add-one p, e)
-
-raised-no : (test : ℕ → Bool) (v : ℕ → ℕ) (p m : ℕ) → test p ≡ false → raisedBy test v (p + 1) m ≡ raisedBy test v p m
-unfolding raisedBy
-raised-no test v p m e = rw (add-one p, e)
-
--- the first p points of s have raised the numbers of their callees
-pub record Raising (a : ℕ) (s : Span) (v : List ℕ) (p : ℕ) (w₀ w : List ℕ) : Type 0 where
-  pub changed : Changed a mostFuncs w₀ w
-  pub each : (g : ℕ) → g < mostFuncs → item w (a + g) ≡ raisedBy (calls (funcIn w₀ s) g) (item v) p (item w₀ (a + g))
-
-pub raising-none : (a : ℕ) (s : Span) (v w : List ℕ) → Raising a s v 0 w w
-unfolding raisedBy
-raising-none a s v w = record { changed = changed-none a mostFuncs w; each = λ g h. refl }
-
-pub raising-all : {a n : ℕ} {s : Span} {v w₀ w : List ℕ} → n ≡ s .size → Raising a s v n w₀ w → Raised a s v w₀ w
-raising-all e k = let r = rw e at k in record { changed = r .changed; each = r .each }
-
-is-number : (o : Option ℕ) (f g : ℕ) → g ≡ numbered o → f < mostFuncs → is f o ≡ eqb f g
-is-number none f g e h = sym (ne-eqb f g (λ d. omega arith))
-is-number (some n) f g e h = rw e
-
-module _ (a : ℕ) (s : Span) (v : List ℕ) {w₀ : List ℕ} (w : List ℕ) (p g : ℕ) (behind : tablesLength ≤ a) (lies : Lies w₀ s) (h : p < s .size)
-    (e : g ≡ calleeAt w s p) (r : Raising a s v p w₀ w) where
-  calls-test : (f : ℕ) → f < mostFuncs → calls (funcIn w₀ s) f p ≡ eqb f g
-  calls-test f k =
-      ap (λ (x : Point). is f (called x)) (point-there w₀ (s .base) (s .size) p h)
-      ∙ is-number (called (pointAt w₀ (s .base + p))) f g
-      (e ∙ ap (λ (x : Point). numbered (called x)) (same-agree (changed-same behind (r .changed)) 0 (omega arith) .point (s .base + p) (omega
-      (arith, lies .within)))) k
-
-  pub raising-call : {x : ℕ} → g < mostFuncs → a + mostFuncs ≤ length w → x ≡ max (item w (a + g)) (item v p)
-      → Raising a s v (p + 1) w₀ (set w (a + g) x)
-  raising-call {x} l room m =
-      record {
-        changed = changed-set a mostFuncs w (a + g) x (omega arith) (omega arith) (r .changed);
-        each = λ f k.
-            elim (ℕ-discrete f g) [
-              | yes d ↦
-                  let t = raised-yes (calls (funcIn w₀ s) f) (item v) p (item w₀ (a + f)) (calls-test f k ∙ eq-eqb f g d) in
-                  let i : item (set w (a + g) x) (a + f) ≡ x = ap (λ (n : ℕ). item (set w (a + g) x) (a + n)) d ∙ here w (a + g) x (omega arith) in
-                  omega (arith, i, m, t, r .each f k, ap (λ (n : ℕ). item w (a + n)) d)
-              | no d ↦
-                  elsewhere w (a + g) (a + f) x (omega arith)
-                  ∙ (r .each f k ∙ sym (raised-no (calls (funcIn w₀ s) f) (item v) p (item w₀ (a + f)) (calls-test f k ∙ ne-eqb f g d)))
-            ];
-      }
-
-  pub raising-other : mostFuncs ≤ g → Raising a s v (p + 1) w₀ w
-  raising-other l =
-      record {
-        changed = r .changed;
-        each = λ f k.
-            r .each f k
-            ∙ sym (raised-no (calls (funcIn w₀ s) f) (item v) p (item w₀ (a + f)) (calls-test f k ∙ ne-eqb f g (λ d. omega arith)));
-      }
 
 -- after one caller more
 pub so-far-more : (t : Task) (figure : ℕ → ℕ → ℕ) (f g : ℕ) {x : Func} {v : ℕ → ℕ} {n m : ℕ} → func t f ≡ x → n ≡ size x

@@ -1,9 +1,8 @@
-pub mod Writes
 pub mod Callers
 pub mod Limits
-pub mod Values
-pub mod Callees
-pub mod Passes
+pub mod Within
+pub mod Gathers
+pub mod Points
 pub mod Displaces
-pub mod Whole
+pub mod Stages
 pub mod Read

@@ -14,8 +14,8 @@ use Rattle.tables.specs.Tables.{item, spanAt, taskOf}
 use Rattle.tables.specs.Valid.{Lies}
 use Rattle.tables.proofs.Laws.{frame-is}
 use Rattle.tables.proofs.Valid.{lies-in}
-use Rattle.figures.specs.Columns.{highColumn, deadColumn, needColumn, nextColumn, fillColumn, longestColumn, shortestColumn, entryColumn}
-use Rattle.figures.specs.Columns.{chainColumn, Points}
+use Rattle.columns.specs.Columns.{highColumn, deadColumn, needColumn, nextColumn, fillColumn, longestColumn, shortestColumn, entryColumn}
+use Rattle.columns.specs.Columns.{chainColumn, Points}
 use Rattle.figures.specs.Figured.{Figured, figuredOf, funcFigures}
 use Rattle.figures.proofs.Limits.{frame-low, high-low, next-low, chain-low, entry-low}
 

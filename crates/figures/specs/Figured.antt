@@ -11,8 +11,8 @@ use Rattle.tables.specs.Tables.{taskOf}
 use Rattle.tables.specs.Valid.{Settled}
 use Rattle.figures.specs.declared.PointFigures.{PointFigures}
 use Rattle.figures.specs.declared.FuncFigures.{FuncFigures}
-use Rattle.figures.specs.Columns.{highColumn, deadColumn, needColumn, nextColumn, fillColumn, longestColumn, shortestColumn, entryColumn}
-use Rattle.figures.specs.Columns.{chainColumn, Points, Funcs}
+use Rattle.columns.specs.Columns.{highColumn, deadColumn, needColumn, nextColumn, fillColumn, longestColumn, shortestColumn, entryColumn}
+use Rattle.columns.specs.Columns.{chainColumn, Points, Funcs}
 
 -- the working space holds an accepted task and has room for all columns: what the figures are worked out from
 pub record Ready (w : List ℕ) (h : Header) : Type 0 where

@@ -8,8 +8,8 @@ use Rattle.flow.specs.declared.Next.{Next}
 use Rattle.flow.specs.declared.Next.the-variants.{Nowhere, To, Fork}
 
 -- points below n lead only to points below n
-abbrev pub Inside : (ℕ → List ℕ) → ℕ → Type 0
-Inside next n = (p q : ℕ) → p < n → List·Memᴰ q (next p) → q < n
+abbrev pub LeadsWithin : (ℕ → List ℕ) → ℕ → Type 0
+LeadsWithin next n = (p q : ℕ) → p < n → List·Memᴰ q (next p) → q < n
 
 -- a function whose walks a kernel can follow, and for each of its points the bits that it generates and those that it kills
 pub record Given (w : List ℕ) (s : Span) (gens kills : List ℕ) : Type 0 where

@@ -15,12 +15,12 @@ use Rattle.tables.specs.Tables.{item, sum, funcIn}
 use Rattle.tables.specs.Valid.{Kept}
 use Rattle.tables.proofs.Laws.{sum-but, here, elsewhere}
 use Rattle.tables.proofs.Valid.{kept-same, kept-on}
-use Rattle.flow.specs.Flow.{Inside, Given, targets}
+use Rattle.flow.specs.Flow.{LeadsWithin, Given, targets}
 use Rattle.flow.proofs.Laws.{next-one, next-both, set-each, kept-set}
 use Rattle.flow.specs.declared.Next.{Next}
 use Rattle.flow.specs.declared.Next.the-variants.{Nowhere, To, Fork}
-use Rattle.forward.specs.Worklist.{unseen, seen, waiting, tally, Progress, progress, added, last, taken, LastThere, LastIs}
-use Rattle.forward.specs.Worklist.{Merged, Propagated, Visited, Visits, Listed, Ready, ReadyAll}
+use Rattle.forward.specs.Worklist.{unseen, seen, waiting, tally, Worklist, worklistOf, added, last, taken, LastThere, LastIs}
+use Rattle.forward.specs.Worklist.{Merged, Propagated, Visited, Visits, Listed, Mergeable, MergeableAll}
 
 -- ---- sums
 
@@ -73,7 +73,7 @@ tally-le t s = elim (ℕ-discrete s t) [ yes e ↦ omega (arith, tally-yes t s e
 abbrev waits-at : List ℕ → ℕ → ℕ
 waits-at state p = tally waiting (item state p)
 
-module _ {n : ℕ} {x : Progress} (l : Listed n x) where
+module _ {n : ℕ} {x : Worklist} (l : Listed n x) where
   -- where some point does not wait, it has fewer entries than there are points
   list-room : (q : ℕ) → q < n → (item (x .state) q ≡ waiting → ⊥) → x .count < n
   list-room q h k =
@@ -95,7 +95,7 @@ module _ {n : ℕ} {x : Progress} (l : Listed n x) where
       omega (arith, l .counted, ap (tally waiting) e, ap (tally waiting) (here (x .state) q t (omega (arith, l .state-long))))
 
 -- a point that does not wait is put at its end
-module _ {n : ℕ} {x : Progress} (q m : ℕ) (l : Listed n x) (h : q < n) (k : item (x .state) q ≡ waiting → ⊥) where
+module _ {n : ℕ} {x : Worklist} (q m : ℕ) (l : Listed n x) (h : q < n) (k : item (x .state) q ≡ waiting → ⊥) where
   new : item (set (x .worklist) (x .count) q) (x .count) ≡ q
   new = here (x .worklist) (x .count) q (omega (arith, list-room l q h k, l .list-long))
 
@@ -158,11 +158,11 @@ left-takes : (v : ℕ) → left seen v < left waiting v
 unfolding left tally
 left-takes v = omega arith
 
-pub cost : ℕ → Progress → ℕ
+pub cost : ℕ → Worklist → ℕ
 cost n x = sum (λ p. left (item (x .state) p) (item (x .sets) p)) n
 
 -- the cost of tables that differ at q alone, where the second have the state t and the set v there
-cost-but : {n q t v : ℕ} (x y : Progress) → q < n → ((p : ℕ) → (p ≡ q → ⊥) → item (y .state) p ≡ item (x .state) p)
+cost-but : {n q t v : ℕ} (x y : Worklist) → q < n → ((p : ℕ) → (p ≡ q → ⊥) → item (y .state) p ≡ item (x .state) p)
     → ((p : ℕ) → (p ≡ q → ⊥) → item (y .sets) p ≡ item (x .sets) p) → item (y .state) q ≡ t → item (y .sets) q ≡ v
     → cost n y + left (item (x .state) q) (item (x .sets) q) ≡ cost n x + left t v
 unfolding cost
@@ -173,18 +173,18 @@ cost-but {n} {q} x y h s t e f =
 -- ---- the steps
 
 -- what every step from x to y preserves: the worklist's facts, the lengths of the tables, and what lies past the n points. The cost does not rise
-pub record Preserved (n : ℕ) (x y : Progress) : Type 0 where
+pub record Preserved (n : ℕ) (x y : Worklist) : Type 0 where
   pub list : Listed n y
   pub sets-kept : Kept n (x .sets) (y .sets)
   pub state-kept : Kept n (x .state) (y .state)
   pub list-same : length (y .worklist) ≡ length (x .worklist)
   pub costs : cost n y ≤ cost n x
 
-pub preserved-none : {n : ℕ} {x : Progress} → Listed n x → Preserved n x x
+pub preserved-none : {n : ℕ} {x : Worklist} → Listed n x → Preserved n x x
 preserved-none {n} {x} l =
     record { list = l; sets-kept = kept-same n (x .sets); state-kept = kept-same n (x .state); list-same = refl; costs = omega arith }
 
-pub preserved-on : {n : ℕ} {x y z : Progress} → Preserved n x y → Preserved n y z → Preserved n x z
+pub preserved-on : {n : ℕ} {x y z : Worklist} → Preserved n x y → Preserved n y z → Preserved n x z
 preserved-on a b = record {
   list = b .list;
   sets-kept = kept-on (a .sets-kept) (b .sets-kept);
@@ -194,7 +194,7 @@ preserved-on a b = record {
 }
 
 -- what a merge of m into the set of q has done
-pub record Effect (n q m : ℕ) (x y : Progress) : Type 0 where
+pub record Effect (n q m : ℕ) (x y : Worklist) : Type 0 where
   pub on : Preserved n x y
   pub state-else : (p : ℕ) → (p ≡ q → ⊥) → item (y .state) p ≡ item (x .state) p
   pub sets-else : (p : ℕ) → (p ≡ q → ⊥) → item (y .sets) p ≡ item (x .sets) p
@@ -203,7 +203,7 @@ pub record Effect (n q m : ℕ) (x y : Progress) : Type 0 where
   pub still : (item (y .state) q ≡ waiting → ⊥) → (item (y .state) q ≡ item (x .state) q) × (item (y .sets) q ≡ item (x .sets) q)
   pub grown : x .count < y .count → q ≡ last y
 
-pub effect : {n q m : ℕ} {x y : Progress} → Listed n x → q < n → Merged q m x y → Effect n q m x y
+pub effect : {n q m : ℕ} {x y : Worklist} → Listed n x → q < n → Merged q m x y → Effect n q m x y
 effect l h (Merged.rests s e) = record {
   on = preserved-none l;
   state-else = λ p d. refl;
@@ -215,7 +215,7 @@ effect l h (Merged.rests s e) = record {
 }
 effect {n} {q} {m} {x} l h (Merged.grows s) =
     let u = union (item (x .sets) q) m in
-    let y = progress (set (x .sets) q u) (x .state) (x .worklist) (x .count) in
+    let y = worklistOf (set (x .sets) q u) (x .state) (x .worklist) (x .count) in
     let g = here (x .sets) q u (omega (arith, l .sets-long)) in
     record {
       on = record {
@@ -268,7 +268,7 @@ effect {n} {q} {m} {x} l h (Merged.adds k d b) =
     }
 
 -- merges into the points to which a point leads preserve all that
-pub preserved-propagated : {n m : ℕ} {ls : List ℕ} {x y : Progress} → Listed n x → ((q : ℕ) → List·Memᴰ q ls → q < n) → Propagated m ls x y → Preserved n x y
+pub preserved-propagated : {n m : ℕ} {ls : List ℕ} {x y : Worklist} → Listed n x → ((q : ℕ) → List·Memᴰ q ls → q < n) → Propagated m ls x y → Preserved n x y
 preserved-propagated l h Propagated.none = preserved-none l
 preserved-propagated l h (Propagated.one {q = q} a) = effect l (h q (List·Memᴰ·head refl)) a .on
 preserved-propagated l h (Propagated.two {q = q} {r = r} a b) =
@@ -276,7 +276,7 @@ preserved-propagated l h (Propagated.two {q = q} {r = r} a b) =
     preserved-on f (effect (f .list) (h q (List·Memᴰ·head refl)) b .on)
 
 -- and so does taking the last point of the worklist, which lowers the cost
-module _ {n : ℕ} {x : Progress} (l : Listed n x) (h : 0 < x .count) where
+module _ {n : ℕ} {x : Worklist} (l : Listed n x) (h : 0 < x .count) where
   pub last-within : last x < n
   last-within = l .within (x .count - 1) (omega arith)
 
@@ -315,82 +315,82 @@ module _ {n : ℕ} {x : Progress} (l : Listed n x) (h : 0 < x .count) where
   }
 
 -- so do a visit, which lowers the cost too, and any number of visits
-module _ {next : ℕ → List ℕ} {n : ℕ} (inside : Inside next n) {gens kills : List ℕ} where
-  pub preserved-visited : {x y : Progress} → Listed n x → 0 < x .count → Visited next gens kills x y → Preserved n x y × (cost n y < cost n x)
+module _ {next : ℕ → List ℕ} {n : ℕ} (inside : LeadsWithin next n) {gens kills : List ℕ} where
+  pub preserved-visited : {x y : Worklist} → Listed n x → 0 < x .count → Visited next gens kills x y → Preserved n x y × (cost n y < cost n x)
   preserved-visited {x} l h v =
       let a = preserved-taken l h in
       let b = preserved-propagated (a .list) (λ q k. inside (last x) q (last-within l h) k) (v .merges) in
       (preserved-on a b, omega (arith, cost-taken l h, b .costs))
 
-  pub preserved-visits : {x y : Progress} → Listed n x → Visits next gens kills x y → Preserved n x y
+  pub preserved-visits : {x y : Worklist} → Listed n x → Visits next gens kills x y → Preserved n x y
   preserved-visits l Visits.none = preserved-none l
   preserved-visits l (Visits.more w h v) = let a = preserved-visits l w in preserved-on a (preserved-visited (a .list) h v .0)
 
 -- ---- what the functions ask of one another
 
 -- tables are the same where their worklists are
-pub progress-same : {s t l l′ : List ℕ} {c c′ : ℕ} → l ≡ l′ → c ≡ c′ → progress s t l c ≡ progress s t l′ c′
-progress-same {s} {t} d e = λ i. progress s t (d i) (e i)
+pub progress-same : {s t l l′ : List ℕ} {c c′ : ℕ} → l ≡ l′ → c ≡ c′ → worklistOf s t l c ≡ worklistOf s t l′ c′
+progress-same {s} {t} d e = λ i. worklistOf s t (d i) (e i)
 
 -- a point that does not wait can go into the worklist
-pub ready-room : {q : ℕ} {x : Progress} → Ready q x → (item (x .state) q ≡ waiting → ⊥)
+pub ready-room : {q : ℕ} {x : Worklist} → Mergeable q x → (item (x .state) q ≡ waiting → ⊥)
     → (q < length (x .sets)) × (q < length (x .state)) × (q < mostPoints) × (x .count < length (x .worklist))
 ready-room {q} r k = omega (arith, list-room (r .list) q (r .below) k, r .list .small, r .list .sets-long, r .list .state-long, r .list .list-long)
 
 -- the ways in which the set m is merged into that of q, where u is the union
-module _ {q m u : ℕ} {x : Progress} (e : u ≡ union (item (x .sets) q) m) where
+module _ {q m u : ℕ} {x : Worklist} (e : u ≡ union (item (x .sets) q) m) where
   pub merged-rests : (item (x .state) q ≡ unseen → ⊥) → u ≡ item (x .sets) q → Merged q m x x
   merged-rests s d = Merged.rests s (sym e ∙ d)
 
-  pub merged-grows : item (x .state) q ≡ waiting → Merged q m x (progress (set (x .sets) q u) (x .state) (x .worklist) (x .count))
+  pub merged-grows : item (x .state) q ≡ waiting → Merged q m x (worklistOf (set (x .sets) q u) (x .state) (x .worklist) (x .count))
   merged-grows s = rw e (Merged.grows s)
 
-  pub merged-adds : {y : Progress} → u < 2 ^ setBits → y ≡ added q u x → (item (x .state) q ≡ waiting → ⊥)
+  pub merged-adds : {y : Worklist} → u < 2 ^ setBits → y ≡ added q u x → (item (x .state) q ≡ waiting → ⊥)
       → ((item (x .state) q ≡ unseen → ⊥) → u ≡ item (x .sets) q → ⊥) → Merged q m x y
   merged-adds b d s t = rw (d, e) (Merged.adds s (rw e at t) (rw e at b))
 
 -- the end of the worklist after a merge of m into the set of q
-pub merged-last : {q m v : ℕ} {x y : Progress} → Ready q x → v ≡ union (item (x .sets) q) m → Merged q m x y
+pub merged-last : {q m v : ℕ} {x y : Worklist} → Mergeable q x → v ≡ union (item (x .sets) q) m → Merged q m x y
     → LastThere (y .sets) (y .worklist) (y .count) × (x .count < y .count → LastIs (y .sets) (y .worklist) (y .count) (record { point = q; set = v }))
 merged-last r e a =
     let f = effect (r .list) (r .below) a in
     (listed-last (f .on .list), λ d k. (f .grown d, e ∙ sym (f .set-here)))
 
 -- the points that are next are ready for a merge, the first of two after the merge into the second
-module _ {next : Next} {x : Progress} (r : ReadyAll (targets next) x) where
-  pub ready-one : {q : ℕ} → next ≡ To q → Ready q x
+module _ {next : Next} {x : Worklist} (r : MergeableAll (targets next) x) where
+  pub ready-one : {q : ℕ} → next ≡ To q → Mergeable q x
   ready-one e = record { n = r .n; below = next-one (r .inside) e; list = r .list }
 
-  pub ready-first : {q p : ℕ} → next ≡ Fork q p → Ready p x
+  pub ready-first : {q p : ℕ} → next ≡ Fork q p → Mergeable p x
   ready-first e = record { n = r .n; below = next-both (r .inside) e .1; list = r .list }
 
-  pub ready-second : {q p m : ℕ} {y : Progress} → next ≡ Fork q p → Merged p m x y → Ready q y
+  pub ready-second : {q p m : ℕ} {y : Worklist} → next ≡ Fork q p → Merged p m x y → Mergeable q y
   ready-second e a =
       let b = next-both (r .inside) e in
       record { n = r .n; below = b .0; list = effect (r .list) (b .1) a .on .list }
 
 -- the arms of propagate
-module _ {next : Next} {m : ℕ} {x : Progress} where
+module _ {next : Next} {m : ℕ} {x : Worklist} where
   pub propagated-none : next ≡ Nowhere → Propagated m (targets next) x x
   propagated-none e = rw e Propagated.none
 
-  pub propagated-one : {q : ℕ} {y : Progress} → next ≡ To q → Merged q m x y → Propagated m (targets next) x y
+  pub propagated-one : {q : ℕ} {y : Worklist} → next ≡ To q → Merged q m x y → Propagated m (targets next) x y
   propagated-one e a = rw e (Propagated.one a)
 
-  pub propagated-two : {q p : ℕ} {y z : Progress} → next ≡ Fork q p → Merged p m x y → Merged q m y z → Propagated m (targets next) x z
+  pub propagated-two : {q p : ℕ} {y z : Worklist} → next ≡ Fork q p → Merged p m x y → Merged q m y z → Propagated m (targets next) x z
   propagated-two e a b = rw e (Propagated.two a b)
 
 -- the visit of p, the last point of the worklist
-module _ {x : Progress} {p : ℕ} (e : p ≡ last x) where
+module _ {x : Worklist} {p : ℕ} (e : p ≡ last x) where
   pub ready-visit : {w : List ℕ} {s : Span} {gens kills l : List ℕ} → Given w s gens kills → Listed (s .size) x → 0 < x .count
-      → l ≡ leads (funcIn w s) p → ReadyAll l (progress (x .sets) (set (x .state) p seen) (x .worklist) (x .count - 1))
+      → l ≡ leads (funcIn w s) p → MergeableAll l (worklistOf (x .sets) (set (x .state) p seen) (x .worklist) (x .count - 1))
   ready-visit {s = s} g l h d = record {
     n = s .size;
     inside = λ q m. g .fits .inside p q (rw e (last-within l h)) (rw d at m);
     list = rw e (preserved-taken l h .list);
   }
 
-  pub visited : {next : ℕ → List ℕ} {gens kills l : List ℕ} {v m : ℕ} {y : Progress} → v ≡ item (x .sets) p
+  pub visited : {next : ℕ → List ℕ} {gens kills l : List ℕ} {v m : ℕ} {y : Worklist} → v ≡ item (x .sets) p
       → m ≡ transfer v (item kills p) (item gens p) → l ≡ next p
-      → Propagated m l (progress (x .sets) (set (x .state) p seen) (x .worklist) (x .count - 1)) y → Visited next gens kills x y
+      → Propagated m l (worklistOf (x .sets) (set (x .state) p seen) (x .worklist) (x .count - 1)) y → Visited next gens kills x y
   visited g f d a = record { merges = rw (f, g, d, e) at a }

@@ -14,20 +14,20 @@ use Rattle.tables.specs.Tables.{item}
 use Rattle.tables.specs.Valid.{Kept}
 use Rattle.tables.proofs.Laws.{here, elsewhere}
 use Rattle.tables.proofs.Valid.{kept-on}
-use Rattle.flow.specs.Flow.{Inside}
+use Rattle.flow.specs.Flow.{LeadsWithin}
 use Rattle.flow.proofs.Laws.{set-each, kept-set, kept-cleared}
 use Rattle.forward.specs.Forward.{Carried, Solved}
-use Rattle.forward.specs.Worklist.{unseen, seen, waiting, Progress, progress, added, last, taken, leaving, Propagated, Visited, Visits, tally, Listed}
+use Rattle.forward.specs.Worklist.{unseen, seen, waiting, Worklist, worklistOf, added, last, taken, leaving, Propagated, Visited, Visits, tally, Listed}
 use Rattle.forward.proofs.List.{sum-zero, tally-no, list-none, listed-put, Effect, effect, last-within, last-waits, preserved-visits, preserved-taken}
 
 -- ---- what comes to a point
 
 -- the set m has come to point b
-abbrev Arrived : Progress → ℕ → ℕ → Type 0
+abbrev Arrived : Worklist → ℕ → ℕ → Type 0
 Arrived x b m = (item (x .state) b ≡ unseen → ⊥) × ((j : ℕ) → j < setBits → bit m j ≡ 1 → bit (item (x .sets) b) j ≡ 1)
 
 -- a merge of m into the set of q: m has come to q, what has come stays, and a point that does not wait is as before
-module _ {n q m : ℕ} {x y : Progress} (f : Effect n q m x y) where
+module _ {n q m : ℕ} {x y : Worklist} (f : Effect n q m x y) where
   bits-here : (j : ℕ) → bit (item (y .sets) q) j ≡ max (bit (item (x .sets) q) j) (bit m j)
   bits-here j = ap (λ (v : ℕ). bit v j) (f .set-here) ∙ bit-union (item (x .sets) q) m j
 
@@ -56,7 +56,7 @@ walk-on (Walk.step t k w) m = Walk.step t k (walk-on w m)
 module _ (next : ℕ → List ℕ) (n entry : ℕ) (gens kills : List ℕ) where
   -- the tables are right but for some points: what they have is carried by walks, and what leaves a point that is seen and does not wait has
   -- come to the points that are next
-  record Right (But : ℕ → Type 0) (x : Progress) : Type 0 where
+  record Right (But : ℕ → Type 0) (x : Worklist) : Type 0 where
     pub reached : (a : ℕ) → a < n → (item (x .state) a ≡ unseen → ⊥) → Walk next never 0 a
     pub carried : (a j : ℕ) → a < n → j < setBits → bit (item (x .sets) a) j ≡ 1 → Carried next entry (item gens) (item kills) j a
     pub entered : Arrived x 0 entry
@@ -69,11 +69,11 @@ module _ (next : ℕ → List ℕ) (n entry : ℕ) (gens kills : List ℕ) where
       (walk : Walk next never 0 p)
       (brings : (b j : ℕ) → List·Memᴰ b (next p) → j < setBits → bit m j ≡ 1 → Carried next entry (item gens) (item kills) j b) where
     -- it is under way: the tables are right but for p, and m is what leaves p unless p waits again
-    record Visiting (x : Progress) : Type 0 where
+    record Visiting (x : Worklist) : Type 0 where
       pub right : Right (λ a. a ≡ p) x
       pub same : (item (x .state) p ≡ waiting → ⊥) → m ≡ leaving gens kills x p
 
-    visiting-merged : {q : ℕ} {x y : Progress} → List·Memᴰ q (next p) → Effect n q m x y → Visiting x → Visiting y
+    visiting-merged : {q : ℕ} {x y : Worklist} → List·Memᴰ q (next p) → Effect n q m x y → Visiting x → Visiting y
     visiting-merged {q} {x} {y} k f w = record {
       right = record {
         reached = λ a h u. elim (ℕ-discrete a q) [
@@ -97,7 +97,7 @@ module _ (next : ℕ → List ℕ) (n entry : ℕ) (gens kills : List ℕ) where
       same = λ d. let (s, t) = as-before f p d in rw t (w .same (rw (← s) d));
     }
 
-    visiting-propagated : {ls : List ℕ} {x y : Progress} → Inside next n → p < n → Listed n x → ((q : ℕ) → List·Memᴰ q ls → List·Memᴰ q (next p))
+    visiting-propagated : {ls : List ℕ} {x y : Worklist} → LeadsWithin next n → p < n → Listed n x → ((q : ℕ) → List·Memᴰ q ls → List·Memᴰ q (next p))
         → Visiting x → Propagated m ls x y → Visiting y × ((b : ℕ) → List·Memᴰ b ls → Arrived y b m)
     visiting-propagated i h l k w Propagated.none = (w, λ b e. absurd (List·Memᴰ·not-nil e))
     visiting-propagated i h l k w (Propagated.one {q = q} a) =
@@ -118,8 +118,8 @@ module _ (next : ℕ → List ℕ) (n entry : ℕ) (gens kills : List ℕ) where
         )
 
   -- the last point of the worklist is visited: it is seen as before, and what leaves it comes to the points that are next
-  module _ (inside : Inside next n) (small : (a : ℕ) → item kills a < 2 ^ setBits) where
-    right-visited : {x y : Progress} → Listed n x → 0 < x .count → Right (λ a. ⊥) x → Visited next gens kills x y → Right (λ a. ⊥) y
+  module _ (inside : LeadsWithin next n) (small : (a : ℕ) → item kills a < 2 ^ setBits) where
+    right-visited : {x y : Worklist} → Listed n x → 0 < x .count → Right (λ a. ⊥) x → Visited next gens kills x y → Right (λ a. ⊥) y
     right-visited {x} {y} l h r v =
         let w = r .reached (last x) (last-within l h) (λ e. omega (arith, last-waits l h)) in
         let (d, g) = visiting-propagated (last x) (leaving gens kills x (last x)) w brings inside (last-within l h) (preserved-taken l h .list) (λ q k. k)
@@ -166,12 +166,12 @@ module _ (next : ℕ → List ℕ) (n entry : ℕ) (gens kills : List ℕ) where
                   Carried.kept (r .carried (last x) j (last-within l h) i (omega arith)) (omega arith) k
             ]
 
-    right-visits : {x y : Progress} → Listed n x → Right (λ a. ⊥) x → Visits next gens kills x y → Right (λ a. ⊥) y
+    right-visits : {x y : Worklist} → Listed n x → Right (λ a. ⊥) x → Visits next gens kills x y → Right (λ a. ⊥) y
     right-visits l r Visits.none = r
     right-visits l r (Visits.more w h v) = right-visited (preserved-visits inside l w .list) h (right-visits l r w) v
 
     -- when the worklist is empty all that walks carry is there
-    module _ (some : 1 ≤ n) {x : Progress} (l : Listed n x) (none : x .count ≡ 0) (r : Right (λ a. ⊥) x) where
+    module _ (some : 1 ≤ n) {x : Worklist} (l : Listed n x) (none : x .count ≡ 0) (r : Right (λ a. ⊥) x) where
       -- what leaves a seen point has come to those that are next
       passes : (a b : ℕ) → a < n → (item (x .state) a ≡ unseen → ⊥) → List·Memᴰ b (next a) → Arrived x b (leaving gens kills x a)
       passes a b h s k = r .passed a b h (λ e. e) s (list-none l none a h) k
@@ -212,7 +212,7 @@ module _
     (n entry : ℕ)
     (s t l : List ℕ)
     {s′ t′ : List ℕ}
-    {x : Progress}
+    {x : Worklist}
     (some : 1 ≤ n)
     (few : n ≤ mostPoints)
     (i : n ≤ length s)
@@ -220,7 +220,7 @@ module _
     (k : n ≤ length l)
     (e : s′ ≡ cleared n s)
     (f : t′ ≡ cleared n t)
-    (g : x ≡ added 0 entry (progress s′ t′ l 0)) where
+    (g : x ≡ added 0 entry (worklistOf s′ t′ l 0)) where
   zero-sets : (p : ℕ) → p < n → item s′ p ≡ 0
   zero-sets p h = rw e (item-cleared n p s h)
 
@@ -238,7 +238,7 @@ module _
       rw
       g
       (listed-put
-      {x = progress s′ t′ l 0}
+      {x = worklistOf s′ t′ l 0}
       0
       entry
       (record {
@@ -258,10 +258,10 @@ module _
 
   module _ (next : ℕ → List ℕ) (gens kills : List ℕ) where
     -- every point but 0 is unseen, and 0 waits
-    start-zero : (a : ℕ) → a < n → (item (added 0 entry (progress s′ t′ l 0) .state) a ≡ unseen → ⊥) → a ≡ 0
+    start-zero : (a : ℕ) → a < n → (item (added 0 entry (worklistOf s′ t′ l 0) .state) a ≡ unseen → ⊥) → a ≡ 0
     start-zero a h u = elim (ℕ-discrete a 0) [ yes d ↦ d | no d ↦ absurd (u (elsewhere t′ 0 a waiting d ∙ zero-state a h)) ]
 
-    start-right : Right next n entry gens kills (λ a. ⊥) (added 0 entry (progress s′ t′ l 0))
+    start-right : Right next n entry gens kills (λ a. ⊥) (added 0 entry (worklistOf s′ t′ l 0))
     start-right = record {
       reached = λ a h u. rw (start-zero a h u) Walk.here;
       carried = λ a b h m.
@@ -272,7 +272,7 @@ module _
     }
 
     -- visits until the worklist is empty solve the problem, and keep what lies past the n points
-    pub start-solved : {y : Progress} → Inside next n → ((a : ℕ) → item kills a < 2 ^ setBits) → Visits next gens kills x y → y .count ≡ 0
+    pub start-solved : {y : Worklist} → LeadsWithin next n → ((a : ℕ) → item kills a < 2 ^ setBits) → Visits next gens kills x y → y .count ≡ 0
         → Solved next n entry gens kills (y .sets) (y .state) × Kept n s (y .sets) × Kept n t (y .state)
     start-solved inside small v z =
         let o = preserved-visits inside start-listed v in (

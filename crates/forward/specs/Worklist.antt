@@ -21,26 +21,26 @@ abbrev pub waiting : ℕ
 waiting = 2
 
 -- the tables: the set of each point, its state, and the worklist, of which the first count entries are in use
-pub record Progress : Type 0 where
+pub record Worklist : Type 0 where
   pub sets : List ℕ
   pub state : List ℕ
   pub worklist : List ℕ
   pub count : ℕ
 
-abbrev pub progress : List ℕ → List ℕ → List ℕ → ℕ → Progress
-progress s t l c = record { sets = s; state = t; worklist = l; count = c }
+abbrev pub worklistOf : List ℕ → List ℕ → List ℕ → ℕ → Worklist
+worklistOf s t l c = record { sets = s; state = t; worklist = l; count = c }
 
 -- point q has the set m and is at the end of the worklist
-abbrev pub added : ℕ → ℕ → Progress → Progress
+abbrev pub added : ℕ → ℕ → Worklist → Worklist
 added q m x =
-    progress (set (x .sets) q m) (set (x .state) q waiting) (set (x .worklist) (x .count) q) (x .count + 1)
+    worklistOf (set (x .sets) q m) (set (x .state) q waiting) (set (x .worklist) (x .count) q) (x .count + 1)
 
 -- the last point of the worklist, and the tables once it is taken
-abbrev pub last : Progress → ℕ
+abbrev pub last : Worklist → ℕ
 last x = item (x .worklist) (x .count - 1)
 
-abbrev pub taken : Progress → Progress
-taken x = progress (x .sets) (set (x .state) (last x) seen) (x .worklist) (x .count - 1)
+abbrev pub taken : Worklist → Worklist
+taken x = worklistOf (x .sets) (set (x .state) (last x) seen) (x .worklist) (x .count - 1)
 
 -- the first count entries of the worklist l are there, and so is the set of the last of them; at is that point and its set
 abbrev pub LastThere : List ℕ → List ℕ → ℕ → Type 0
@@ -51,32 +51,32 @@ LastIs sets l count at = 0 < count → (at .point ≡ item l (count - 1)) × (at
 
 -- the set m is merged into that of point q, which becomes the union: it brings nothing new; q waits already; q goes into the worklist, since it
 -- is seen for the first time or its set has grown
-pub data Merged (q m : ℕ) (x : Progress) : Progress → Type 0 where
+pub data Merged (q m : ℕ) (x : Worklist) : Worklist → Type 0 where
   rests : (item (x .state) q ≡ unseen → ⊥) → union (item (x .sets) q) m ≡ item (x .sets) q → Merged q m x x
   grows : item (x .state) q ≡ waiting
-      → Merged q m x (progress (set (x .sets) q (union (item (x .sets) q) m)) (x .state) (x .worklist) (x .count))
+      → Merged q m x (worklistOf (set (x .sets) q (union (item (x .sets) q) m)) (x .state) (x .worklist) (x .count))
   adds : (item (x .state) q ≡ waiting → ⊥)
       → ((item (x .state) q ≡ unseen → ⊥) → union (item (x .sets) q) m ≡ item (x .sets) q → ⊥)
       → union (item (x .sets) q) m < 2 ^ setBits
       → Merged q m x (added q (union (item (x .sets) q) m) x)
 
 -- the set m is merged into those of the points to which a point leads, the first of two last
-pub data Propagated (m : ℕ) : List ℕ → Progress → Progress → Type 0 where
-  none : {x : Progress} → Propagated m [] x x
-  one : {q : ℕ} {x y : Progress} → Merged q m x y → Propagated m (q ∷ []) x y
-  two : {q r : ℕ} {x y z : Progress} → Merged r m x y → Merged q m y z → Propagated m (q ∷ r ∷ []) x z
+pub data Propagated (m : ℕ) : List ℕ → Worklist → Worklist → Type 0 where
+  none : {x : Worklist} → Propagated m [] x x
+  one : {q : ℕ} {x y : Worklist} → Merged q m x y → Propagated m (q ∷ []) x y
+  two : {q r : ℕ} {x y z : Worklist} → Merged r m x y → Merged q m y z → Propagated m (q ∷ r ∷ []) x z
 
 -- what leaves point p
-abbrev pub leaving : List ℕ → List ℕ → Progress → ℕ → ℕ
+abbrev pub leaving : List ℕ → List ℕ → Worklist → ℕ → ℕ
 leaving gens kills x p = transfer (item (x .sets) p) (item kills p) (item gens p)
 
 -- the last point of the worklist has been visited; visits, one after the other
-pub record Visited (next : ℕ → List ℕ) (gens kills : List ℕ) (x y : Progress) : Type 0 where
+pub record Visited (next : ℕ → List ℕ) (gens kills : List ℕ) (x y : Worklist) : Type 0 where
   pub merges : Propagated (leaving gens kills x (last x)) (next (last x)) (taken x) y
 
-pub data Visits (next : ℕ → List ℕ) (gens kills : List ℕ) (x : Progress) : Progress → Type 0 where
+pub data Visits (next : ℕ → List ℕ) (gens kills : List ℕ) (x : Worklist) : Worklist → Type 0 where
   none : Visits next gens kills x x
-  more : {y z : Progress} → Visits next gens kills x y → 0 < y .count → Visited next gens kills y z → Visits next gens kills x z
+  more : {y z : Worklist} → Visits next gens kills x y → 0 < y .count → Visited next gens kills y z → Visits next gens kills x z
 
 -- 1 where the state is t
 unfoldable pub tally : ℕ → ℕ → ℕ
@@ -84,7 +84,7 @@ tally t s = if eqb s t then 1 else 0
 
 -- the tables have room for n points, each with one of the three states; the worklist holds each point that waits, so never more than mostPoints,
 -- and none twice
-pub record Listed (n : ℕ) (x : Progress) : Type 0 where
+pub record Listed (n : ℕ) (x : Worklist) : Type 0 where
   pub small : n ≤ mostPoints
   pub sets-long : n ≤ length (x .sets)
   pub state-long : n ≤ length (x .state)
@@ -97,12 +97,12 @@ pub record Listed (n : ℕ) (x : Progress) : Type 0 where
   pub apart : (i j : ℕ) → i < j → j < x .count → item (x .worklist) i ≡ item (x .worklist) j → ⊥
 
 -- what a merge requires: of point q, and of each of the points l
-pub record Ready (q : ℕ) (x : Progress) : Type 0 where
+pub record Mergeable (q : ℕ) (x : Worklist) : Type 0 where
   pub n : ℕ
   pub below : q < n
   pub list : Listed n x
 
-pub record ReadyAll (l : List ℕ) (x : Progress) : Type 0 where
+pub record MergeableAll (l : List ℕ) (x : Worklist) : Type 0 where
   pub n : ℕ
   pub inside : (q : ℕ) → List·Memᴰ q l → q < n
   pub list : Listed n x

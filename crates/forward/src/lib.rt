@@ -8,7 +8,7 @@ ghost use Rattle.tables.specs.Tables.{item, funcIn};
 ghost use Rattle.tables.specs.Valid.{Kept};
 ghost use Rattle.flow.specs.Flow.{targets};
 ghost use Rattle.forward.specs.Forward.{Given, Solved};
-ghost use Rattle.forward.specs.Worklist.{progress, added, LastThere, LastIs, Merged, Propagated, Visited, Visits, Listed, Ready, ReadyAll};
+ghost use Rattle.forward.specs.Worklist.{worklistOf, added, LastThere, LastIs, Merged, Propagated, Visited, Visits, Listed, Mergeable, MergeableAll};
 use flow::Next;
 use model::Limits;
 use tables::Span;
@@ -94,8 +94,8 @@ fn add_to_list(
     m: u64,
 ) -> usize
     requires { ⌜ (q < length (now sets)) × (q < length (now state)) × (q < mostPoints) × (count < length (now worklist)) ⌝ }
-    ensures { λ r. ⌜ progress (now (sets .exit)) (now (state .exit)) (now (worklist .exit)) r
-        ≡ added q m (progress (now (sets .entry)) (now (state .entry)) (now (worklist .entry)) count) ⌝ }
+    ensures { λ r. ⌜ worklistOf (now (sets .exit)) (now (state .exit)) (now (worklist .exit)) r
+        ≡ added q m (worklistOf (now (sets .entry)) (now (state .entry)) (now (worklist .entry)) count) ⌝ }
 {
     sets[q] = m;
     state[q] = State::WAITING;
@@ -111,9 +111,9 @@ fn merge(
     q: usize,
     m: u64,
 ) -> usize
-    requires { ⌜ Ready q (progress (now sets) (now state) (now worklist) count) ⌝ }
-    ensures { λ r. ⌜ Merged q m (progress (now (sets .entry)) (now (state .entry)) (now (worklist .entry)) count)
-        (progress (now (sets .exit)) (now (state .exit)) (now (worklist .exit)) r) ⌝ }
+    requires { ⌜ Mergeable q (worklistOf (now sets) (now state) (now worklist) count) ⌝ }
+    ensures { λ r. ⌜ Merged q m (worklistOf (now (sets .entry)) (now (state .entry)) (now (worklist .entry)) count)
+        (worklistOf (now (sets .exit)) (now (state .exit)) (now (worklist .exit)) r) ⌝ }
 {
     let s = state[q];
     let old = sets[q];
@@ -140,9 +140,9 @@ fn merge_last(
     q: usize,
     m: u64,
 ) -> End
-    requires { ⌜ Ready q (progress (now sets) (now state) (now worklist) count) ⌝ }
-    ensures { λ r. ⌜ Merged q m (progress (now (sets .entry)) (now (state .entry)) (now (worklist .entry)) count)
-        (progress (now (sets .exit)) (now (state .exit)) (now (worklist .exit)) (r .count))
+    requires { ⌜ Mergeable q (worklistOf (now sets) (now state) (now worklist) count) ⌝ }
+    ensures { λ r. ⌜ Merged q m (worklistOf (now (sets .entry)) (now (state .entry)) (now (worklist .entry)) count)
+        (worklistOf (now (sets .exit)) (now (state .exit)) (now (worklist .exit)) (r .count))
         × LastIs (now (sets .exit)) (now (worklist .exit)) (r .count) (r .last) ⌝ }
 {
     let set = bits::union_of(sets[q], m);
@@ -162,9 +162,9 @@ fn propagate(
     worklist: &mut [u8],
     count: usize,
 ) -> End
-    requires { ⌜ ReadyAll (targets next) (progress (now sets) (now state) (now worklist) count) ⌝ }
-    ensures { λ r. ⌜ Propagated m (targets next) (progress (now (sets .entry)) (now (state .entry)) (now (worklist .entry)) count)
-        (progress (now (sets .exit)) (now (state .exit)) (now (worklist .exit)) (r .count))
+    requires { ⌜ MergeableAll (targets next) (worklistOf (now sets) (now state) (now worklist) count) ⌝ }
+    ensures { λ r. ⌜ Propagated m (targets next) (worklistOf (now (sets .entry)) (now (state .entry)) (now (worklist .entry)) count)
+        (worklistOf (now (sets .exit)) (now (state .exit)) (now (worklist .exit)) (r .count))
         × LastIs (now (sets .exit)) (now (worklist .exit)) (r .count) (r .last) ⌝ }
 {
     match next {
@@ -192,12 +192,12 @@ fn visit(
     count: usize,
     at: Last,
 ) -> End
-    requires { ⌜ Given (now work) s (now gens) (now kills) × Listed (s .size) (progress (now sets) (now state) (now worklist) count)
+    requires { ⌜ Given (now work) s (now gens) (now kills) × Listed (s .size) (worklistOf (now sets) (now state) (now worklist) count)
         × (0 < count) × LastIs (now sets) (now worklist) count at ⌝ }
     ensures { λ r. ⌜ Visited (leads (funcIn (now (work .entry)) s)) (now (gens .entry)) (now (kills .entry))
-        (progress (now (sets .entry)) (now (state .entry)) (now (worklist .entry)) count)
-        (progress (now (sets .exit)) (now (state .exit)) (now (worklist .exit)) (r .count))
-        × Listed (s .size) (progress (now (sets .exit)) (now (state .exit)) (now (worklist .exit)) (r .count))
+        (worklistOf (now (sets .entry)) (now (state .entry)) (now (worklist .entry)) count)
+        (worklistOf (now (sets .exit)) (now (state .exit)) (now (worklist .exit)) (r .count))
+        × Listed (s .size) (worklistOf (now (sets .exit)) (now (state .exit)) (now (worklist .exit)) (r .count))
         × LastIs (now (sets .exit)) (now (worklist .exit)) (r .count) (r .last) ⌝ }
 {
     let left = count - 1;
@@ -218,10 +218,10 @@ fn drain(
     worklist: &mut [u8],
     first: usize,
 )
-    requires { ⌜ Given (now work) s (now gens) (now kills) × Listed (s .size) (progress (now sets) (now state) (now worklist) first) ⌝ }
+    requires { ⌜ Given (now work) s (now gens) (now kills) × Listed (s .size) (worklistOf (now sets) (now state) (now worklist) first) ⌝ }
     ensures { λ r. ⌜ Visits (leads (funcIn (now (work .entry)) s)) (now (gens .entry)) (now (kills .entry))
-        (progress (now (sets .entry)) (now (state .entry)) (now (worklist .entry)) first)
-        (progress (now (sets .exit)) (now (state .exit)) (now (worklist .exit)) 0) ⌝ }
+        (worklistOf (now (sets .entry)) (now (state .entry)) (now (worklist .entry)) first)
+        (worklistOf (now (sets .exit)) (now (state .exit)) (now (worklist .exit)) 0) ⌝ }
 {
     let mut count = first;
     let mut at = last_of(sets, worklist, first);

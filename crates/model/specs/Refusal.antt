@@ -8,7 +8,9 @@ use lib.Dec.{leb, ltb, eqb}
 use Rattle.model.specs.declared.Point.{Point}
 use Rattle.model.specs.declared.Point.the-variants.{Load, Store, Call, Ensure, Goto, Either, Return}
 use Rattle.model.specs.declared.Refusal.{Refusal}
-use Rattle.model.specs.declared.Row.the-variants.{WorkTooSmall, TextTooLong, Callee, Pairing, Target, LastPoint, Unreachable, Uncalled, Uninitialised, OutputTooSmall, EventList, AnswersTooSmall, CacheSize, MemoryTooSmall, AfterFinish, Kind, Choice}
+use Rattle.model.specs.declared.Row.the-variants.{WorkTooSmall, TextTooLong, Callee, Pairing, Target, LastPoint, Unreachable, Uncalled}
+use Rattle.model.specs.declared.Row.the-variants.{Uninitialised, OutputTooSmall, EventList, AnswersTooSmall, CacheSize, MemoryTooSmall}
+use Rattle.model.specs.declared.Row.the-variants.{AfterFinish, Kind, Choice}
 use Rattle.model.specs.Limits.{mostBytes, workLength, mostEventNumbers}
 use Rattle.model.specs.Rows.{refuse}
 use Rattle.model.specs.Basic.{if_then_else_, unless, _orElse_, firstOf, any, upTo, countFrom}

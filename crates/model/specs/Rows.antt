@@ -2,7 +2,9 @@
 use Prim.Native.Nat.{ℕ, _+_, _*_}
 use mathlib.Core.Option.{Option, none, some}
 use Rattle.model.specs.declared.Row.{Row}
-use Rattle.model.specs.declared.Row.the-variants.{WorkTooSmall, TextTooLong, Form, StackSize, FrameSize, Offset, TooMany, Callee, Pairing, Target, LastPoint, Unreachable, Uncalled, Uninitialised, OutputTooSmall, EventList, AnswersTooSmall, CacheSize, MemoryTooSmall, AfterFinish, Kind, Choice}
+use Rattle.model.specs.declared.Row.the-variants.{WorkTooSmall, TextTooLong, Form, StackSize, FrameSize, Offset, TooMany, Callee, Pairing}
+use Rattle.model.specs.declared.Row.the-variants.{Target, LastPoint, Unreachable, Uncalled, Uninitialised, OutputTooSmall, EventList}
+use Rattle.model.specs.declared.Row.the-variants.{AnswersTooSmall, CacheSize, MemoryTooSmall, AfterFinish, Kind, Choice}
 use Rattle.model.specs.declared.Refusal.{Refusal}
 use Rattle.model.specs.declared.Verdict.{Verdict}
 use Rattle.model.specs.declared.Verdict.the-variants as verdict

@@ -1,6 +1,6 @@
 -- What check, report and run return and what every lent buffer holds afterwards, for every input; and demand 3 of run.
 use Prim.Native.Nat.{ℕ, _≤_}
-use mathlib.Core.List.{List, [], _++_}
+use mathlib.Core.List.{List, [], _∷_, _++_}
 use mathlib.Core.Option.{Option}
 use mathlib.Core.Path.{_≡_}
 use lib.ListN.{length, drop, replicate}
@@ -13,7 +13,7 @@ use Rattle.model.specs.declared.Ending.the-variants as ending
 use Rattle.model.specs.declared.WriteResult.{WriteResult}
 use Rattle.model.specs.declared.RunResult.{RunResult}
 use Rattle.model.specs.Limits.{workLength}
-use Rattle.model.specs.Rows.{packed}
+use Rattle.model.specs.Rows.{packed, verdictCode, verdictPlace}
 use Rattle.model.specs.Basic.{if_then_else_}
 use Rattle.model.specs.Task.{Task, Judged, refused, task}
 use Rattle.model.specs.Sheet.{sheetOf, reportText}
@@ -75,6 +75,27 @@ writtenOf first print text work output =
 -- report
 abbrev pub reportOf : List ℕ → List ℕ → List ℕ → AfterWrite
 reportOf text work output = writtenOf (workRow (length work)) reportText text work output
+
+-- a service that writes bytes, as C calls it: its answer, and a buffer whose first three numbers are code, place and bytes written
+pub record AfterCall : Type 0 where
+  pub answer : ℕ
+  pub result : List ℕ
+  pub work : List ℕ
+  pub output : List ℕ
+
+abbrev pub resultNumbers : WriteResult → List ℕ
+resultNumbers r = verdictCode (r .verdict) ∷ verdictPlace (r .verdict) ∷ r .written ∷ []
+
+abbrev pub calledAs : AfterWrite → List ℕ → AfterCall
+calledAs after result =
+    record { answer = 1; result = over (resultNumbers (after .result)) result; work = after .work; output = after .output }
+
+-- report; where the buffer of the result has fewer than three numbers, the answer is 0 and nothing is touched
+unfoldable pub reportNumbers : List ℕ → List ℕ → List ℕ → List ℕ → AfterCall
+reportNumbers text work output result =
+    if ltb (length result) 3
+    then record { answer = 0; result = result; work = work; output = output }
+    else calledAs (reportOf text work output) result
 
 -- run: its result, the working space, the answers, the cache and the memory
 pub record AfterRun : Type 0 where

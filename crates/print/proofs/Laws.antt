@@ -1,19 +1,19 @@
 -- Laws of a buffer that bytes are written into, and of the lengths of a number in decimal and of a row of them.
-use Prim.Native.Nat.{ℕ, zero, suc, _+_, _*_, _/_, _%_, _^_, _≤_, _<_, zero-le}
+use Prim.Native.Nat.{ℕ, zero, suc, _+_, _-_, _*_, _/_, _%_, _^_, _≤_, _<_, zero-le}
 use mathlib.Core.Path.{_≡_, refl, sym, ap, _∙_}
 use mathlib.Core.List.{List, [], _∷_, _++_, append-assoc, append-nil}
 use native.Mathlib.Numerals.{add-one}
 use native.Mathlib.Nat.{zero-add, add-zero, pow-succ'}
 use native.Mathlib.Decide.{decLt}
 use native.Mathlib.Omega.{arith}
-use lib.ListN.{length, getD, take, drop, set, length-append, length-drop, take-append-drop}
+use lib.ListN.{length, getD, take, drop, set, length-append, length-drop, length-set, take-append-drop}
 use lib.Seq.{length-take-le, take-length, take-suc, append-snoc, take-at, drop-at, take-set-le, drop-drop, set-split, paste}
-use Rattle.model.specs.Basic.{joined}
+use Rattle.model.specs.Basic.{joined, countFrom, upTo}
 use Rattle.model.specs.Text.{bytes}
 use Rattle.model.specs.Sheet.{decimal, row}
 use Rattle.model.specs.Services.{over}
 use Rattle.theory.proofs.Decimal.{decimal-small, decimal-large}
-use Rattle.print.specs.Print.{pasted, spaced}
+use Rattle.print.specs.Print.{pasted, Wrote, spaced}
 
 -- a buffer that bytes are written into
 
@@ -21,13 +21,6 @@ use Rattle.print.specs.Print.{pasted, spaced}
 pub pasted-start : (w out : List ℕ) → pasted 0 w out ≡ over w out
 unfolding pasted over
 pasted-start w out = ap (λ (n : ℕ). w ++ drop n out) (zero-add (length w))
-
-pub length-pasted : (at : ℕ) (w out : List ℕ) → at + length w ≤ length out → length (pasted at w out) ≡ length out
-unfolding pasted
-length-pasted at w out h =
-    let e = length-append (take at out) (w ++ drop (at + length w) out) in
-    let f = length-append w (drop (at + length w) out) in
-    omega (arith, length-take-le at out (omega arith), length-drop (at + length w) out)
 
 -- what stands before the end of the bytes written, and after it
 length-head : (at : ℕ) (w out : List ℕ) → at ≤ length out → length (take at out ++ w) ≡ at + length w
@@ -60,15 +53,20 @@ pasted-more at w v out h =
     ∙ rw (e, append-assoc w v (drop (end + length v) out)) (append-assoc (take at out) w (v ++ drop (end + length v) out))
 
 -- the same from what two writers say: w ends at e and leaves o, v leaves o′
-pub pasted-on : (at e : ℕ) (w v out o o′ : List ℕ) → at ≤ length out → e ≡ at + length w → o ≡ pasted at w out → o′ ≡ pasted e v o
+pasted-on : (at e : ℕ) (w v out o o′ : List ℕ) → at ≤ length out → e ≡ at + length w → o ≡ pasted at w out → o′ ≡ pasted e v o
     → o′ ≡ pasted at (w ++ v) out
 pasted-on at e w v out o o′ h k p q = q ∙ rw (k, p) (pasted-more at w v out h)
 
--- the same of a buffer whose first bytes are written over
-pub pasted-next : (at : ℕ) (l w out : List ℕ) → at ≡ length l → pasted at w (over l out) ≡ over (l ++ w) out
-pasted-next at l w out e =
-    let z : at ≡ 0 + length l = omega arith in
-    rw (z, ← pasted-start l out, ← pasted-start (l ++ w) out) (pasted-more 0 l w out zero-le)
+pub wrote-on : {at e r : ℕ} {w v out o o′ : List ℕ} → at ≤ length out → Wrote at w out e o → Wrote e v o r o′ → Wrote at (w ++ v) out r o′
+wrote-on {at} {e} {r} {w} {v} {out} {o} {o′} h a b =
+    record {
+      end = omega (arith, a .end, b .end, length-append w v);
+      buffer = pasted-on at e w v out o o′ h (a .end) (a .buffer) (b .buffer);
+    }
+
+pub wrote-nothing : (at : ℕ) (out : List ℕ) → Wrote at [] out at out
+unfolding pasted
+wrote-nothing at out = record { end = omega arith; buffer = rw (add-zero at) (sym (take-append-drop at out)) }
 
 -- a copy of all bytes
 pub paste-all : (at : ℕ) (w out : List ℕ) (i : ℕ) → i ≡ length w → paste out at w i ≡ pasted at w out
@@ -138,6 +136,25 @@ number-first at i m out h e l =
     let z : i ≡ at = omega (arith, length-small m h) in
     rw (z, decimal-small m h) (pasted-one at (48 + m) out (omega arith))
 
+-- a number of one digit, and one of two
+pub wrote-one : (at m : ℕ) (out : List ℕ) → m < 10 → at + length (decimal m) ≤ length out → Wrote at (decimal m) out (at + 1) (set out at (48 + m))
+wrote-one at m out h l =
+    let e = length-small m h in
+    record { end = omega arith; buffer = number-first at at m out h (omega arith) (omega arith) }
+
+pub wrote-two : (at m : ℕ) (out : List ℕ) → 10 ≤ m → m < 100 → at + length (decimal m) ≤ length out
+    → Wrote at (decimal m) out (at + 2) (set (set out (at + 1) (48 + m % 10)) at (48 + m / 10))
+wrote-two at m out h k l =
+    let e = length-large m h in
+    let d = length-small (m / 10) (omega arith) in
+    let o = set out (at + 1) (48 + m % 10) in
+    record {
+      end = omega arith;
+      buffer =
+          number-first at at (m / 10) o (omega arith) (omega arith) (omega (arith, length-set out (at + 1) (48 + m % 10)))
+          ∙ number-last at (at + 1) m out h (omega arith) (omega arith);
+    }
+
 -- numbers with a space before each
 
 joined-append : (g : ℕ → List ℕ) (k l : List ℕ) → joined g (k ++ l) ≡ joined g k ++ joined g l
@@ -154,9 +171,9 @@ pub length-none : length (spaced []) ≡ 0
 unfolding joined
 length-none = refl
 
-pub pasted-none : (at : ℕ) (out : List ℕ) → out ≡ pasted at (spaced []) out
-unfolding pasted joined
-pasted-none at out = rw (add-zero at) (sym (take-append-drop at out))
+pub spaced-none : (at : ℕ) (out : List ℕ) → Wrote at (spaced []) out at out
+unfolding joined
+spaced-none at out = wrote-nothing at out
 
 -- one more
 spaced-next : (l : List ℕ) (i : ℕ) → i < length l → spaced (take (i + 1) l) ≡ spaced (take i l) ++ (bytes " " ++ decimal (getD l i 0))
@@ -180,31 +197,63 @@ pub length-room : (l : List ℕ) (i : ℕ) → i < length l → length (spaced (
 length-room l i h = omega (arith, length-next l i h, length-first l (i + 1))
 
 -- a space and a number written after those before it
-pub spaced-on : (at e r i : ℕ) (l out o o′ o″ : List ℕ) → i < length l → at ≤ length out
-    → e ≡ at + length (spaced (take i l)) → o ≡ pasted at (spaced (take i l)) out → r ≡ e + 1
-    → o′ ≡ pasted e (bytes " ") o → o″ ≡ pasted r (decimal (getD l i 0)) o′ → o″ ≡ pasted at (spaced (take (i + 1) l)) out
-spaced-on at e r i l out o o′ o″ h k a p b q u =
-    let w = spaced (take i l) in
-    let v = decimal (getD l i 0) in
-    let s = pasted-on at e w (bytes " ") out o o′ k a p q in
-    let n : r ≡ at + length (w ++ bytes " ") = omega (arith, length-append w (bytes " ")) in
-    rw (spaced-next l i h, ← append-assoc w (bytes " ") v) (pasted-on at r (w ++ bytes " ") v out o′ o″ k n s u)
+pub spaced-on : {at e r z : ℕ} (i : ℕ) (l : List ℕ) {out o o′ o″ : List ℕ} → i < length l → at ≤ length out
+    → Wrote at (spaced (take i l)) out e o → Wrote e (bytes " ") o r o′ → Wrote r (decimal (getD l i 0)) o′ z o″
+    → Wrote at (spaced (take (i + 1) l)) out z o″
+spaced-on i l h k a b d =
+    rw (spaced-next l i h, ← append-assoc (spaced (take i l)) (bytes " ") (decimal (getD l i 0))) (wrote-on k (wrote-on k a b) d)
+
+-- pieces for the numbers below n, one after the other
+
+countFrom-last : (i n : ℕ) → countFrom i (suc n) ≡ countFrom i n ++ ((i + n) ∷ [])
+unfolding countFrom
+countFrom-last i zero = ap (λ (k : ℕ). k ∷ []) (omega arith)
+countFrom-last i (suc n) =
+    ap (λ (l : List ℕ). i ∷ l) (countFrom-last (suc i) n)
+    ∙ ap (λ (k : ℕ). i ∷ (countFrom (suc i) n ++ (k ∷ []))) (omega arith)
+
+joined-last : (g : ℕ → List ℕ) (n : ℕ) → joined g (upTo (n + 1)) ≡ joined g (upTo n) ++ g n
+joined-last g n =
+    rw add-one
+    (ap (joined g) (countFrom-last 0 n) ∙ joined-snoc g (upTo n) (0 + n) ∙ ap (λ (k : ℕ). joined g (upTo n) ++ g k) (zero-add n))
+
+module _ (g : ℕ → List ℕ) where
+  -- no piece, and one more
+  pub none-length : length (joined g (upTo 0)) ≡ 0
+  unfolding joined countFrom
+  none-length = refl
+
+  pub next-length : (n : ℕ) → length (joined g (upTo (n + 1))) ≡ length (joined g (upTo n)) + length (g n)
+  next-length n = ap length (joined-last g n) ∙ length-append (joined g (upTo n)) (g n)
+
+  pub none-wrote : (at : ℕ) (out : List ℕ) → Wrote at (joined g (upTo 0)) out at out
+  unfolding joined countFrom
+  none-wrote at out = wrote-nothing at out
+
+  pub next-wrote : {at e r : ℕ} (n : ℕ) {out o o′ : List ℕ} → at ≤ length out → Wrote at (joined g (upTo n)) out e o → Wrote e (g n) o r o′
+      → Wrote at (joined g (upTo (n + 1))) out r o′
+  next-wrote n h a b = rw (joined-last g n) (wrote-on h a b)
+
+  -- a piece lies before the end of all
+  further : (k n : ℕ) → length (joined g (upTo k)) ≤ length (joined g (upTo (k + n)))
+  further k zero = rw (add-zero k) (omega arith)
+  further k (suc n) =
+      let e : k + suc n ≡ k + n + 1 = omega arith in
+      rw e (omega (arith, further k n, next-length (k + n)))
+
+  pub next-room : (k n : ℕ) → k < n → length (joined g (upTo k)) + length (g k) ≤ length (joined g (upTo n))
+  next-room k n h =
+      let e : k + 1 + (n - (k + 1)) ≡ n = omega arith in
+      omega (arith, next-length k, rw e at (further (k + 1) (n - (k + 1))))
 
 -- a row of the report
 
-row-parts : (w l : List ℕ) → row w l ≡ w ++ spaced l ++ bytes ")\n"
+pub row-parts : (w l : List ℕ) → row w l ≡ w ++ spaced l ++ bytes ")\n"
 unfolding row
 row-parts w l = sym (append-assoc w (spaced l) (bytes ")\n"))
 
 pub length-row : (w l : List ℕ) → length (row w l) ≡ length w + length (spaced l) + 2
 length-row w l = omega (arith, ap length (row-parts w l), length-append (w ++ spaced l) (bytes ")\n"), length-append w (spaced l))
-
--- a row written as its word, its numbers and its end
-pub row-written : (at e r : ℕ) (w l out o o′ o″ : List ℕ) → at ≤ length out → e ≡ at + length w → o ≡ pasted at w out
-    → r ≡ e + length (spaced l) → o′ ≡ pasted e (spaced l) o → o″ ≡ pasted r (bytes ")\n") o′ → o″ ≡ pasted at (row w l) out
-row-written at e r w l out o o′ o″ h k p a q u =
-    let n : r ≡ at + length (w ++ spaced l) = omega (arith, length-append w (spaced l)) in
-    rw (row-parts w l) (pasted-on at r (w ++ spaced l) (bytes ")\n") out o′ o″ h n (pasted-on at e w (spaced l) out o o′ h k p q) u)
 
 -- a number of 32 bits takes at most eleven bytes of a row
 pub spaced-most : (l : List ℕ) → ((i : ℕ) → getD l i 0 < 2 ^ 32) → length (spaced l) ≤ 11 * length l
@@ -212,6 +261,3 @@ unfolding joined
 spaced-most [] h = zero-le
 spaced-most (a ∷ l) h =
     omega (arith, length-append (bytes " " ++ decimal a) (spaced l), decimal-most a (h 0), spaced-most l (λ i. h (suc i)))
-
-pub row-most : (w l : List ℕ) → ((i : ℕ) → getD l i 0 < 2 ^ 32) → length (row w l) ≤ length w + 11 * length l + 2
-row-most w l h = omega (arith, length-row w l, spaced-most l h)

@@ -1,15 +1,14 @@
 // Words, decimal numbers and rows of them, written into a lent buffer at a place.
 ghost use mathlib.Core.Path.{_≡_};
-ghost use Prim.Native.Nat.{ℕ, _+_, _≤_};
-ghost use mathlib.Core.List.{List};
+ghost use Prim.Native.Nat.{_+_, _*_, _≤_};
 ghost use lib.ListN.{length};
 ghost use Rattle.model.specs.Sheet.{decimal, row};
-ghost use Rattle.print.specs.Print.{pasted, spaced};
+ghost use Rattle.print.specs.Print.{Wrote, spaced};
 
 // Writes the bytes w from byte at on, and returns where they end.
 pub fn put(out: &mut [u8], at: usize, w: &[u8]) -> usize
     requires { ⌜ at + length (now w) ≤ length (now out) ⌝ }
-    ensures { λ r. ⌜ (r ≡ at + length (now (w .entry))) × (now (out .exit) ≡ pasted at (now (w .entry)) (now (out .entry))) ⌝ }
+    ensures { λ r. ⌜ Wrote at (now (w .entry)) (now (out .entry)) r (now (out .exit)) ⌝ }
 {
     let mut i: usize = 0;
     while i < w.len() {
@@ -23,6 +22,12 @@ pub fn put(out: &mut [u8], at: usize, w: &[u8]) -> usize
 pub fn number_length(n: u32) -> usize
     ensures { λ r. ⌜ r ≡ length (decimal n) ⌝ }
 {
+    if n < 10 {
+        return 1;
+    }
+    if n < 100 {
+        return 2;
+    }
     let mut rest = n;
     let mut k: usize = 1;
     while 9 < rest {
@@ -33,9 +38,9 @@ pub fn number_length(n: u32) -> usize
 }
 
 // Writes n in decimal from byte at on, the last digit first, and returns where it ends.
-pub fn put_number(out: &mut [u8], at: usize, n: u32) -> usize
+fn put_digits(out: &mut [u8], at: usize, n: u32) -> usize
     requires { ⌜ at + length (decimal n) ≤ length (now out) ⌝ }
-    ensures { λ r. ⌜ (r ≡ at + length (decimal n)) × (now (out .exit) ≡ pasted at (decimal n) (now (out .entry))) ⌝ }
+    ensures { λ r. ⌜ Wrote at (decimal n) (now (out .entry)) r (now (out .exit)) ⌝ }
 {
     let end = at + number_length(n);
     let mut i = end - 1;
@@ -49,10 +54,27 @@ pub fn put_number(out: &mut [u8], at: usize, n: u32) -> usize
     end
 }
 
+// The same; most numbers of a report have one or two digits.
+pub fn put_number(out: &mut [u8], at: usize, n: u32) -> usize
+    requires { ⌜ at + length (decimal n) ≤ length (now out) ⌝ }
+    ensures { λ r. ⌜ Wrote at (decimal n) (now (out .entry)) r (now (out .exit)) ⌝ }
+{
+    if n < 10 {
+        out[at] = b'0' + n as u8;
+        return at + 1;
+    }
+    if n < 100 {
+        out[at + 1] = b'0' + (n % 10) as u8;
+        out[at] = b'0' + (n / 10) as u8;
+        return at + 2;
+    }
+    put_digits(out, at, n)
+}
+
 // Writes the numbers, with a space before each, from byte at on, and returns where they end.
 fn put_numbers(out: &mut [u8], at: usize, numbers: &[u32]) -> usize
     requires { ⌜ at + length (spaced (now numbers)) ≤ length (now out) ⌝ }
-    ensures { λ r. ⌜ (r ≡ at + length (spaced (now (numbers .entry)))) × (now (out .exit) ≡ pasted at (spaced (now (numbers .entry))) (now (out .entry))) ⌝ }
+    ensures { λ r. ⌜ Wrote at (spaced (now (numbers .entry))) (now (out .entry)) r (now (out .exit)) ⌝ }
 {
     let mut end = at;
     let mut k: usize = 0;
@@ -67,19 +89,20 @@ fn put_numbers(out: &mut [u8], at: usize, numbers: &[u32]) -> usize
 // Writes a row of the report from byte at on, and returns where it ends.
 pub fn put_row(out: &mut [u8], at: usize, word: &[u8], numbers: &[u32]) -> usize
     requires { ⌜ at + length (row (now word) (now numbers)) ≤ length (now out) ⌝ }
-    ensures { λ r. ⌜ (r ≡ at + length (row (now (word .entry)) (now (numbers .entry)))) × (now (out .exit) ≡ pasted at (row (now (word .entry)) (now (numbers .entry))) (now (out .entry))) ⌝ }
+    ensures { λ r. ⌜ Wrote at (row (now (word .entry)) (now (numbers .entry))) (now (out .entry)) r (now (out .exit)) ⌝ }
 {
     let first = put(out, at, word);
     let end = put_numbers(out, first, numbers);
     put(out, end, b")\n")
 }
 
-// How many bytes a row has whose word has so many.
-pub fn row_length(word: usize, numbers: &[u32]) -> usize
-    requires { ⌜ (length (now numbers) ≤ 16) × (word ≤ 64) ⌝ }
-    ensures { λ r. ⌜ ((w : List ℕ) → length w ≡ word → r ≡ length (row w (now (numbers .entry)))) ⌝ }
+// How many bytes a row has: at most 11 for each number.
+pub fn row_length(word: &[u8], numbers: &[u32]) -> usize
+    requires { ⌜ (length (now word) ≤ 16) × (length (now numbers) ≤ 16) ⌝ }
+    ensures { λ r. ⌜ (r ≡ length (row (now (word .entry)) (now (numbers .entry))))
+        × (r ≤ length (now (word .entry)) + 11 * length (now (numbers .entry)) + 2) ⌝ }
 {
-    let mut n = word + 2;
+    let mut n = word.len() + 2;
     let mut k: usize = 0;
     while k < numbers.len() {
         n += 1 + number_length(numbers[k]);

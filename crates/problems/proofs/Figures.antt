@@ -30,7 +30,7 @@ use Rattle.forward.specs.Forward.{Carried}
 use Rattle.forward.specs.Forward as forward
 use Rattle.problems.specs.declared.Problem.{Problem}
 use Rattle.problems.specs.declared.Problem.the-variants.{Live, Touched, CallFree, FirstEnsure, Occupied}
-use Rattle.problems.specs.Problems.{gives, takes, Filled, Gives, Takes, Blocks, Answered, KeptIn, CutIn, Reached}
+use Rattle.problems.specs.Problems.{gives, takes, Filled, Gives, Takes, Blocks, Answered, KeptIn, CutIn, EachReached}
 use Rattle.problems.proofs.Laws.{unmarked}
 
 -- one more than the highest bit, where bit j tells of a number j + 1 of the kind P; the lowest bit, where bit j tells of j
@@ -266,7 +266,7 @@ module _ (w : List ℕ) (s : Span) (fits : Fits w s) where
         (above p h j (inside m) .0 i)
 
     -- high: by the highest bit
-    pub high-read : {sets state : List ℕ} → start ≤ setBits → Reached w s → forward.Solved (leads x) (s .size) entry gens kills sets state
+    pub high-read : {sets state : List ℕ} → start ≤ setBits → EachReached w s → forward.Solved (leads x) (s .size) entry gens kills sets state
         → (p v : ℕ) → p < s .size → Top (item sets p) v → v ≡ highFrom t f e p
     high-read i reach solved p v h top =
         let some-point : 0 < size x = omega (arith, size-of, fits .some) in

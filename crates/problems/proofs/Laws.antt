@@ -18,7 +18,7 @@ use Rattle.tables.specs.Valid.{Kept}
 use Rattle.tables.proofs.Valid.{kept-same, kept-later, kept-on}
 use Rattle.flow.specs.Flow.{Given}
 use Rattle.flow.proofs.Laws.{set-each, kept-set}
-use Rattle.problems.specs.Problems.{effectWith, Does, Filled}
+use Rattle.problems.specs.Problems.{effectWith, HasEffect, Filled}
 
 -- k blocks kept
 pub kept-none : {k : ℕ} → k ≡ 0 → Marks (λ j. eqb (suc j) k) 0
@@ -69,7 +69,7 @@ marks-union {a = a} {b = b} s r =
 
 -- the effect of a point, part by part
 pub does : {x : Point} {a b : ℕ} {c d e : Bool} → Marks (λ j. is j (loaded x)) a → Marks (λ j. is j (stored x)) b → c ≡ present (called x)
-    → d ≡ present (ensured x) → e ≡ isReturn x → Does x (effectWith a b c d e)
+    → d ≡ present (ensured x) → e ≡ isReturn x → HasEffect x (effectWith a b c d e)
 does a b c d e = record { loads = a; stores = b; calls = c; ensures = d; returns = e }
 
 -- a buffer of which nothing is filled, and one more entry

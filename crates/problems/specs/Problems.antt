@@ -40,7 +40,7 @@ takes Unstored k a x j = is j (stored x)
 abbrev pub effectWith : ℕ → ℕ → Bool → Bool → Bool → Effect
 effectWith a b c d e = record { loaded = a; stored = b; called = c; ensured = d; returned = e }
 
-pub record Does (x : Point) (e : Effect) : Type 0 where
+pub record HasEffect (x : Point) (e : Effect) : Type 0 where
   pub loads : Marks (λ j. is j (loaded x)) (e .loaded)
   pub stores : Marks (λ j. is j (stored x)) (e .stored)
   pub calls : e .called ≡ present (called x)
@@ -91,5 +91,5 @@ pub record CutIn (w : List ℕ) (s : Span) (start : ℕ) (column : List ℕ) (t 
   pub at-calls : (p h : ℕ) → p < s .size → called (point (funcIn w s) p) ≡ some h → item column p ≡ t .stack - figure.shortest t h
 
 -- a walk reaches each point of the function s of the tables w
-abbrev pub Reached : List ℕ → Span → Type 0
-Reached w s = (p : ℕ) → p < s .size → T (figure.reached (funcIn w s) p)
+abbrev pub EachReached : List ℕ → Span → Type 0
+EachReached w s = (p : ℕ) → p < s .size → T (figure.reached (funcIn w s) p)

@@ -13,7 +13,7 @@ ghost use Rattle.bits.specs.Bits.{Marks, Lowest, Top};
 ghost use Rattle.tables.specs.Tables.{item, funcIn};
 ghost use Rattle.tables.specs.Valid.{Kept};
 ghost use Rattle.flow.specs.Flow.{Given};
-ghost use Rattle.problems.specs.Problems.{gives, takes, effectWith, Does, Filled, Gives, Takes, Blocks, Answered, Scratch, KeptIn, CutIn, Reached};
+ghost use Rattle.problems.specs.Problems.{gives, takes, effectWith, HasEffect, Filled, Gives, Takes, Blocks, Answered, Scratch, KeptIn, CutIn, EachReached};
 use model::Point;
 use tables::Span;
 
@@ -57,7 +57,7 @@ fn effect_with(loaded: u64, stored: u64, called: bool, ensured: bool, returned: 
 
 fn effect_of(x: Point) -> Effect
     requires { ⌜ T (offsetFits mostStack x) ⌝ }
-    ensures { λ r. ⌜ Does x r ⌝ }
+    ensures { λ r. ⌜ HasEffect x r ⌝ }
 {
     match x {
         Point::Load(o) => effect_with(bits::single_bit(o), 0, false, false, false),
@@ -91,7 +91,7 @@ fn kept_bit(k: u32) -> u64
 // What a point with the effect e gives, in a function with this frame, where the column has the number a.
 fn gens_of(problem: Problem, e: Effect, frame: u32, a: u32) -> u64
     requires { ⌜ (frame ≤ mostStack) × (a ≤ mostStack) ⌝ }
-    ensures { λ r. ⌜ ((x : PointOf) → Does x e → Marks (gives problem frame a x) r) ⌝ }
+    ensures { λ r. ⌜ ((x : PointOf) → HasEffect x e → Marks (gives problem frame a x) r) ⌝ }
 {
     match problem {
         Problem::Live => e.loaded,
@@ -106,7 +106,7 @@ fn gens_of(problem: Problem, e: Effect, frame: u32, a: u32) -> u64
 // What such a point takes.
 fn kills_of(problem: Problem, e: Effect, a: u32) -> u64
     requires { ⌜ a ≤ mostStack ⌝ }
-    ensures { λ r. ⌜ ((x : PointOf) (k : ℕ) → Does x e → Marks (takes problem k a x) r) ⌝ }
+    ensures { λ r. ⌜ ((x : PointOf) (k : ℕ) → HasEffect x e → Marks (takes problem k a x) r) ⌝ }
 {
     match problem {
         Problem::Live => e.stored,
@@ -278,7 +278,7 @@ pub fn high_points(
     state: &mut [u8],
     high: &mut [u32],
 )
-    requires { ⌜ Given (now work) s (now gens) (now kills) × Blocks (s .size) (now cuts) × (start ≤ mostStack) × Reached (now work) s
+    requires { ⌜ Given (now work) s (now gens) (now kills) × Blocks (s .size) (now cuts) × (start ≤ mostStack) × EachReached (now work) s
         × (s .size ≤ length (now sets)) × (s .size ≤ length (now state)) × (s .size ≤ length (now high)) ⌝ }
     ensures { λ r. ⌜ Filled (λ p v. (t : Task) (g e : ℕ) → CutIn (now (work .entry)) s start (now (cuts .entry)) t g e → v ≡ figure.highFrom t g e p)
         (s .size) (now (high .entry)) (now (high .exit))

@@ -25,7 +25,7 @@ use Rattle.tables.specs.Tables.{item, pointAt, spanAt, funcIn}
 use Rattle.tables.specs.Valid.{Fits}
 use Rattle.tables.proofs.Laws.{load-below, length-points, point-there, here, elsewhere}
 use Rattle.tables.proofs.Valid.{fits-in}
-use Rattle.reach.specs.Reach.{Ready, Clean, has, seen, Answered}
+use Rattle.reach.specs.Reach.{HoldsLinked, Clean, has, seen, Tells}
 use Rattle.reach.specs.Sweep.{Most}
 use Rattle.reach.proofs.Theory.{Has, Sweeping}
 
@@ -139,7 +139,7 @@ module _ {w : List ℕ} {s : Span} (k : Fits w s) where
           λ t. z .held p j h l (walk-carried l (bare-in j p .0 t) (Carried.enter (low .below j i))),
         )
 
-    pub answered : Answered w s sets state
+    pub answered : Tells w s sets state
     answered =
         record {
           reached = λ p h.
@@ -154,7 +154,7 @@ module _ {w : List ℕ} {s : Span} (k : Fits w s) where
         }
 
 -- function f of a task that is read and linked
-pub ready-fits : {w : List ℕ} {h : Header} → Ready w h → (f : ℕ) → f < h .funcs → {s : Span} → s ≡ spanAt w f → Fits w s
+pub ready-fits : {w : List ℕ} {h : Header} → HoldsLinked w h → (f : ℕ) → f < h .funcs → {s : Span} → s ≡ spanAt w f → Fits w s
 ready-fits r f l e = rw e (fits-in (r .0) (r .1) (r .2) f l)
 
 -- an array that a pass starts with

@@ -24,7 +24,7 @@ use Rattle.tables.specs.declared.Span.{Span}
 use Rattle.tables.specs.Tables.{baseAt, sizeAt, spanAt, funcOf, taskOf, openingLine, lineIn}
 use Rattle.tables.specs.Valid.{Holds}
 use Rattle.tables.proofs.Laws.{func-is, size-is, line-is, count-is}
-use Rattle.reach.specs.Reach.{loadsStored, Clean, CleanBefore, Answered, seen, initialised, failingAt, firstFailing}
+use Rattle.reach.specs.Reach.{loadsStored, Clean, CleanBefore, Tells, seen, initialised, failingAt, firstFailing}
 use Rattle.reach.specs.Reach.{reachIn, loadIn, isRefused, firstVerdict, verdictFrom}
 
 -- rows that agree have the same first refusal
@@ -75,7 +75,7 @@ module _ {w : List ℕ} {h : Header} (k : Holds w h) (f : ℕ) (l : f < h .funcs
       (λ p. unless (of (func-is w h f l i) p) (refuse row (line-is h (k .stacked) f l i + 1 + p)))
       (upTo (size-is w h f l i)))
 
-  module _ {s : Span} (e : s ≡ spanAt w f) {sets state : List ℕ} (a : Answered w s sets state) {v : Verdict} where
+  module _ {s : Span} (e : s ≡ spanAt w f) {sets state : List ℕ} (a : Tells w s sets state) {v : Verdict} where
     pub reach-in : v ≡ rowVerdict (firstFailing Unreachable f s (seen state)) → v ≡ rowVerdict (reachIn (taskOf w h) f)
     unfolding reachIn reachRow
     reach-in d = (rw e at d) ∙ ap rowVerdict (in-task Unreachable reached (seen state) ((rw e at a) .reached))

@@ -18,7 +18,7 @@ use Rattle.tables.specs.Tables.{item}
 use Rattle.tables.proofs.Laws.{here, elsewhere}
 use Rattle.reach.specs.declared.sweep.Step.{Step}
 use Rattle.reach.specs.declared.sweep.Step.the-variants.{Falls, Leaves}
-use Rattle.reach.specs.Sweep.{Covers, Most, Joined, Known, Stands, Moved, Stepped}
+use Rattle.reach.specs.Sweep.{Covers, Most, Joined, Known, Stands, Arrived, Stepped}
 
 -- an equal set has the same bits
 bit-same : {a b : ℕ} (j : ℕ) → a ≡ b → bit b j ≡ 1 → bit a j ≡ 1
@@ -45,13 +45,13 @@ joined-bare h = record { comes = λ j b. b; stays = λ e. absurd (h e) }
 
 module _ {mark p m : ℕ} where
   -- nothing has come
-  pub moved-none : (sets marks : List ℕ) → Moved mark p [] m sets marks sets marks
+  pub moved-none : (sets marks : List ℕ) → Arrived mark p [] m sets marks sets marks
   moved-none sets marks =
       record { low = λ a h. refl; stays = λ q j h. h; brought = λ q j k b. absurd (List·Memᴰ·not-nil k); marked = λ q. inl refl }
 
   -- one point more
-  pub moved-more : {t : ℕ} {ts sets marks sets′ marks′ sets″ marks″ : List ℕ} → Moved mark p (t ∷ []) m sets marks sets′ marks′
-      → Moved mark p ts m sets′ marks′ sets″ marks″ → Moved mark p (t ∷ ts) m sets marks sets″ marks″
+  pub moved-more : {t : ℕ} {ts sets marks sets′ marks′ sets″ marks″ : List ℕ} → Arrived mark p (t ∷ []) m sets marks sets′ marks′
+      → Arrived mark p ts m sets′ marks′ sets″ marks″ → Arrived mark p (t ∷ ts) m sets marks sets″ marks″
   moved-more v u =
       record {
         low = λ a h. u .low a h ∙ v .low a h;
@@ -68,7 +68,7 @@ module _ {mark p m : ℕ} where
   module _ (q : ℕ) (sets marks : List ℕ) where
     -- the set m comes to a point above p, where its union with what stands there is u
     pub moved-above : (u : ℕ) → p < q → q < length sets → q < length marks → Joined mark q m sets marks u
-        → Moved mark p (q ∷ []) m sets marks (set sets q u) (set marks q mark)
+        → Arrived mark p (q ∷ []) m sets marks (set sets q u) (set marks q mark)
     moved-above u l i k s =
         record {
           low = λ a h. elsewhere sets q a u (λ e. omega arith);
@@ -92,7 +92,7 @@ module _ {mark p m : ℕ} where
         at r j d b = (inr (has-mark r d), bit-same j (ap (item (set sets q u)) d ∙ here sets q u i) b)
 
     -- the set m comes to p or to a point below it, where its union with what stands there is no other set
-    pub moved-below : (u : ℕ) → q ≤ p → u ≡ union (item sets q) m → u ≡ item sets q → Moved mark p (q ∷ []) m sets marks sets marks
+    pub moved-below : (u : ℕ) → q ≤ p → u ≡ union (item sets q) m → u ≡ item sets q → Arrived mark p (q ∷ []) m sets marks sets marks
     moved-below u l e d =
         record {
           low = λ a h. refl;
@@ -158,7 +158,7 @@ module _
     (i : p < n)
     (l : p < length sets)
     (s : Joined mark p c sets marks m) where
-  module _ {ts : List ℕ} (v : Moved mark p ts m (set sets p m) marks sets′ marks′) (t : (q : ℕ) → List·Memᴰ q ts → List·Memᴰ q (leads x p)) where
+  module _ {ts : List ℕ} (v : Arrived mark p ts m (set sets p m) marks sets′ marks′) (t : (q : ℕ) → List·Memᴰ q ts → List·Memᴰ q (leads x p)) where
     at-point : item sets′ p ≡ m
     at-point = v .low p (omega arith) ∙ here sets p m l
 

@@ -23,8 +23,8 @@ use Rattle.tables.specs.Tables.{item, pointAt, spanAt, funcIn, taskOf, lineIn}
 use Rattle.tables.specs.Valid.{Holds}
 
 -- the tables hold a task that is read and linked
-abbrev pub Ready : List ℕ → Header → Type 0
-Ready w h = Holds w h × Shaped (taskOf w h) × Linked (taskOf w h)
+abbrev pub HoldsLinked : List ℕ → Header → Type 0
+HoldsLinked w h = Holds w h × Shaped (taskOf w h) × Linked (taskOf w h)
 
 -- every walk to point p stores the offset that it loads, if there is one
 abbrev pub loadsStored : Func → ℕ → Bool
@@ -52,7 +52,7 @@ abbrev pub initialised : List ℕ → Span → List ℕ → ℕ → Bool
 initialised w s sets p = not (has (item sets p) (loaded (pointAt w (s .base + p))))
 
 -- marks and sets that tell what the walks of a function do
-pub record Answered (w : List ℕ) (s : Span) (sets state : List ℕ) : Type 0 where
+pub record Tells (w : List ℕ) (s : Span) (sets state : List ℕ) : Type 0 where
   pub reached : (p : ℕ) → p < s .size → seen state p ≡ figure.reached (funcIn w s) p
   pub stored : (p : ℕ) → p < s .size → initialised w s sets p ≡ loadsStored (funcIn w s) p
 

@@ -33,7 +33,7 @@ abbrev pub Stands : ℕ → ℕ → List ℕ → List ℕ → ℕ → ℕ → Ty
 Stands mark p sets marks q j = Known mark p marks q × (bit (item sets q) j ≡ 1)
 
 -- the set m has come from point p to the points ts; what stands at p and below it has stayed
-pub record Moved (mark p : ℕ) (ts : List ℕ) (m : ℕ) (sets marks sets′ marks′ : List ℕ) : Type 0 where
+pub record Arrived (mark p : ℕ) (ts : List ℕ) (m : ℕ) (sets marks sets′ marks′ : List ℕ) : Type 0 where
   pub low : (a : ℕ) → a ≤ p → item sets′ a ≡ item sets a
   pub stays : (q j : ℕ) → Stands mark (suc p) sets marks q j → Stands mark (suc p) sets′ marks′ q j
   pub brought : (q j : ℕ) → List·Memᴰ q ts → bit m j ≡ 1 → Stands mark (suc p) sets′ marks′ q j
@@ -53,4 +53,4 @@ Accessed x m Leaves = ⊥
 abbrev pub Stepped : ℕ → ℕ → List ℕ → Point → ℕ → List ℕ → List ℕ → List ℕ → List ℕ → Step → Type 0
 Stepped mark p ts x m sets marks sets′ marks′ Fails = Unit {0}
 Stepped mark p ts x m sets marks sets′ marks′ (Falls next) = Passes x m next × (ts ≡ suc p ∷ []) × (sets′ ≡ sets) × (marks′ ≡ marks)
-Stepped mark p ts x m sets marks sets′ marks′ Leaves = Passes x m m × Moved mark p ts m sets marks sets′ marks′
+Stepped mark p ts x m sets marks sets′ marks′ Leaves = Passes x m m × Arrived mark p ts m sets marks sets′ marks′

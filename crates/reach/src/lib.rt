@@ -13,7 +13,7 @@ ghost use Rattle.model.specs.Walk.{stored, is};
 ghost use Rattle.model.specs.WellFormed.{Shaped, Linked};
 ghost use Rattle.tables.specs.Tables.{item, pointAt, taskOf};
 ghost use Rattle.tables.specs.Valid.{Holds, Fits};
-ghost use Rattle.reach.specs.Reach.{Ready, firstFailing, seen, initialised, Answered, isRefused, firstVerdict, verdictFrom};
+ghost use Rattle.reach.specs.Reach.{HoldsLinked, firstFailing, seen, initialised, Tells, isRefused, firstVerdict, verdictFrom};
 use model::Limits;
 use model::Refusal;
 use model::Row;
@@ -100,7 +100,7 @@ fn fill_kills(work: &[u32], s: Span, kills: &mut [u64])
 // Runs the kernel over a function. At its entry no offset of the frame is stored; no point generates an offset; a store kills its own.
 fn solve(work: &[u32], s: Span, gens: &Sets, kills: &mut Sets, sets: &mut Sets, state: &mut Bytes)
     requires { ⌜ Fits (now work) s × ((p : ℕ) → item (now gens) p ≡ 0) ⌝ }
-    ensures { λ r. ⌜ Answered (now (work .entry)) s (now (sets .exit)) (now (state .exit)) ⌝ }
+    ensures { λ r. ⌜ Tells (now (work .entry)) s (now (sets .exit)) (now (state .exit)) ⌝ }
 {
     fill_kills(work, s, kills);
     forward::forward(work, s, bits::low_bits(s.frame), gens, kills, sets, state);
@@ -136,7 +136,7 @@ fn rows_from(
     sets: &mut Sets,
     state: &mut Bytes,
 ) -> Verdict
-    requires { ⌜ Ready (now work) h × ((p : ℕ) → item (now gens) p ≡ 0) ⌝ }
+    requires { ⌜ HoldsLinked (now work) h × ((p : ℕ) → item (now gens) p ≡ 0) ⌝ }
     ensures { λ r. ⌜ r ≡ verdictFrom (taskOf (now (work .entry)) h) first (h .funcs) calls ⌝ }
 {
     let mut kept = calls;
@@ -156,7 +156,7 @@ fn rows_from(
 }
 
 fn solved_rows(work: &[u32], h: Header, first: usize, calls: Verdict) -> Verdict
-    requires { ⌜ Ready (now work) h ⌝ }
+    requires { ⌜ HoldsLinked (now work) h ⌝ }
     ensures { λ r. ⌜ r ≡ verdictFrom (taskOf (now (work .entry)) h) first (h .funcs) calls ⌝ }
 {
     let gens = [0u64; Limits::POINTS];

@@ -14,8 +14,8 @@ ghost use Rattle.model.specs.Task.{offsetFits, point};
 ghost use Rattle.model.specs.Walk.{leads};
 ghost use Rattle.tables.specs.Tables.{item, funcIn};
 ghost use Rattle.tables.specs.Valid.{Fits};
-ghost use Rattle.reach.specs.Reach.{Ready, Clean, CleanBefore};
-ghost use Rattle.reach.specs.Sweep.{Most, Joined, Moved, Passes, Accessed, Stepped};
+ghost use Rattle.reach.specs.Reach.{HoldsLinked, Clean, CleanBefore};
+ghost use Rattle.reach.specs.Sweep.{Most, Joined, Arrived, Passes, Accessed, Stepped};
 use super::Bytes;
 use super::Sets;
 use super::point;
@@ -46,7 +46,7 @@ fn joined(mark: u8, q: usize, m: u64, sets: &[u64], marks: &[u8]) -> u64
 // The set m comes from point p to point q. It joins the set of a higher point, and may bring a lower one nothing new.
 fn arrive(mark: u8, p: usize, q: usize, m: u64, sets: &mut Sets, marks: &mut Bytes) -> bool
     requires { ⌜ q < mostPoints ⌝ }
-    ensures { λ r. ⌜ (r ≡ true → Moved mark p (q ∷ []) m (now (sets .entry)) (now (marks .entry)) (now (sets .exit)) (now (marks .exit))) ⌝ }
+    ensures { λ r. ⌜ (r ≡ true → Arrived mark p (q ∷ []) m (now (sets .entry)) (now (marks .entry)) (now (sets .exit)) (now (marks .exit))) ⌝ }
 {
     if p < q {
         sets[q] = joined(mark, q, m, sets, marks);
@@ -163,7 +163,7 @@ fn points_swept(work: &[u32], s: Span, mark: u8, sets: &mut Sets, marks: &mut By
 
 // One function after the other. The mark of each is above those of the functions before it, so that no mark has to be cleared.
 fn funcs_swept(work: &[u32], h: Header, sets: &mut Sets, marks: &mut Bytes) -> usize
-    requires { ⌜ Ready (now work) h × Most 0 (now marks) ⌝ }
+    requires { ⌜ HoldsLinked (now work) h × Most 0 (now marks) ⌝ }
     ensures { λ r. ⌜ CleanBefore (now (work .entry)) h r ⌝ }
 {
     let mut f = 0;
@@ -178,7 +178,7 @@ fn funcs_swept(work: &[u32], h: Header, sets: &mut Sets, marks: &mut Bytes) -> u
 
 // How many functions, from the first on, pass the sweep.
 pub fn clean_funcs(work: &[u32], h: Header) -> usize
-    requires { ⌜ Ready (now work) h ⌝ }
+    requires { ⌜ HoldsLinked (now work) h ⌝ }
     ensures { λ r. ⌜ CleanBefore (now (work .entry)) h r ⌝ }
 {
     let mut sets = [0u64; Limits::POINTS];

@@ -282,14 +282,14 @@ func-from (func-read.Whole next h) text at from p q w w′ e l k = (e ∙ k .0, 
 func-from (func-read.Refused s) text at from p q w w′ e l k = (e ∙ k .0, k .1)
 
 -- the functions of h are in w, and what is left from this position on gives the answer j
-pub record Funcs (j : Judged) (text w₀ w : List ℕ) (at : Position) (h : Header) : Type 0 where
+pub record FuncsRead (j : Judged) (text w₀ w : List ℕ) (at : Position) (h : Header) : Type 0 where
   pub answer : j ≡ rest text at (betweenOf w h)
   pub kept : Kept tablesLength w₀ w
   pub holds : Holds w h
   pub begins : Begins text at
 
 pub funcs-first : (text w : List ℕ) (s a : ℕ) → (tablesLength ≤ length w) × (length text ≤ mostBytes) × (1 ≤ a) × (a ≤ length text)
-    → Funcs (afterStack text s a) text w w (record { line = 2; byte = a }) (record { stack = s; funcs = 0; points = 0 })
+    → FuncsRead (afterStack text s a) text w w (record { line = 2; byte = a }) (record { stack = s; funcs = 0; points = 0 })
 unfolding funcsOf
 funcs-first text w s a i = record {
   answer = refl;
@@ -298,9 +298,9 @@ funcs-first text w s a i = record {
   begins = omega arith;
 }
 
-module _ {j : Judged} {text w₀ w : List ℕ} {at : Position} {h : Header} (g : Funcs j text w₀ w at h) where
+module _ {j : Judged} {text w₀ w : List ℕ} {at : Position} {h : Header} (g : FuncsRead j text w₀ w at h) where
   module _ {r : FuncRead} {w′ : List ℕ} (i : funcReadAs r text at (betweenOf w h) w w′) where
-    pub funcs-on : (at′ : Position) (h′ : Header) → r ≡ func-read.Whole at′ h′ → Funcs j text w₀ w′ at′ h′
+    pub funcs-on : (at′ : Position) (h′ : Header) → r ≡ func-read.Whole at′ h′ → FuncsRead j text w₀ w′ at′ h′
     funcs-on at′ h′ e =
         let k = rw e at i in
         record { answer = g .answer ∙ k .0; kept = kept-on (g .kept) (k .1); holds = k .2; begins = k .3 }

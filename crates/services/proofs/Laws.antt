@@ -1,51 +1,140 @@
--- What a service returns and leaves, for a working space that is too small and for one that is not.
+-- The judgement that every service starts from, the working space after a service, and what check and report return.
 use Prim.Native.Nat.{ℕ, _≤_, _<_}
-use mathlib.Core.Path.{_≡_, refl, ap, _∙_}
+use native.Mathlib.Omega.{arith}
+use mathlib.Core.Path.{_≡_, refl, ap, sym, _∙_}
 use mathlib.Core.List.{List, _++_}
+use mathlib.Core.Option.{Option, none, some}
 use lib.ListN.{length, drop, replicate}
 use borrow.Author.Tests.{lt-ltb, le-ltb, lt-leb, le-leb}
-use Rattle.model.specs.declared.Row.the-variants.{WorkTooSmall}
+use Rattle.model.specs.declared.Row.the-variants.{WorkTooSmall, OutputTooSmall}
 use Rattle.model.specs.declared.Refusal.{Refusal}
 use Rattle.model.specs.declared.Verdict.the-variants.{Accepted, Refused}
+use Rattle.model.specs.declared.WriteResult.{WriteResult}
 use Rattle.model.specs.Limits.{workLength}
 use Rattle.model.specs.Rows.{refuse}
-use Rattle.model.specs.Refusal.{withRows, judged, workRow, judge, noRows}
-use Rattle.model.specs.Services.{cleared, verdictOf, checkOf}
+use Rattle.model.specs.Task.{Task, Judged, refused, task}
+use Rattle.model.specs.Sheet.{reportText}
+use Rattle.model.specs.Refusal.{withRows, judged, workRow, judge, noRows, outputRows}
+use Rattle.model.specs.Services.{cleared, over, verdictOf, checkOf, writtenAs, writtenOf, reportOf}
 use Rattle.tables.specs.declared.Header.{Header}
 use Rattle.tables.specs.Layout.{tablesLength}
 use Rattle.tables.specs.Valid.{Kept}
 use Rattle.tables.proofs.Valid.{kept-later}
 use Rattle.judge.specs.declared.Judgement.{Judgement}
 use Rattle.judge.specs.declared.Judgement.the-variants as judgement
-use Rattle.judge.specs.Judgement.{judgedIn, Judges}
+use Rattle.judge.specs.Judgement.{judgedIn, SettledBy, Judges}
+use Rattle.services.specs.Served.{ReadyBy, Lent, nothingWritten, reported, Reports}
 
--- a working space that is too small is refused and untouched
-pub too-small : (text work : List ℕ) → length work < workLength
-    → (Refused (refuse WorkTooSmall workLength) ≡ checkOf text work .verdict) × (work ≡ checkOf text work .work)
-unfolding checkOf verdictOf workRow judge cleared
-too-small text work h = (rw (lt-leb workLength (length work) h), rw (lt-ltb (length work) workLength h))
-
--- the working space after a service that has kept what lies past the tables
-pub cleared-after : {w w′ after : List ℕ} → workLength ≤ length w → Kept tablesLength w w′
-    → after ≡ replicate workLength 0 ++ drop workLength w′ → after ≡ cleared w
+-- the working space after a service, where it is too small and where it is not
+pub cleared-short : (w : List ℕ) → length w < workLength → w ≡ cleared w
 unfolding cleared
-cleared-after {w} h k e =
-    rw (le-ltb (length w) workLength h) (e ∙ ap (λ l. replicate workLength 0 ++ l) (kept-later 13120 k .past))
+cleared-short w h = rw (lt-ltb (length w) workLength h)
 
-pub check-work : (text work : List ℕ) {after : List ℕ} → after ≡ cleared work → after ≡ checkOf text work .work
-unfolding checkOf
-check-work text work e = e
+pub cleared-full : (w : List ℕ) → workLength ≤ length w → replicate workLength 0 ++ drop workLength w ≡ cleared w
+unfolding cleared
+cleared-full w h = rw (le-ltb (length w) workLength h)
 
--- check adds no row to those of the text
-module _ (text work : List ℕ) (h : workLength ≤ length work) {r : Judgement} {w w′ : List ℕ} (a : Judges (judged text) w r w′) where
-  check-is : checkOf text work .verdict ≡ verdictOf (withRows noRows (judgedIn w′ r))
-  unfolding checkOf workRow judge
-  check-is = rw (le-leb workLength (length work) h, a .same)
+-- what is kept past the working numbers is all that matters
+pub cleared-same : {w w′ : List ℕ} → workLength ≤ length w → Kept workLength w w′ → cleared w′ ≡ cleared w
+cleared-same {w} {w′} h k =
+    sym (cleared-full w′ (omega (arith, k .size))) ∙ ap (λ (l : List ℕ). replicate workLength 0 ++ l) (k .past) ∙ cleared-full w h
 
-  pub accepts : {g : Header} → r ≡ judgement.Task g → Accepted ≡ checkOf text work .verdict
-  unfolding verdictOf
-  accepts e = rw (check-is, e)
+-- 15, and the rows of the text
+pub lent-short : (text w : List ℕ) → length w < workLength → Lent text w (judgement.Refused (refuse WorkTooSmall workLength)) w
+unfolding workRow judge
+lent-short text w h = record { same = rw (lt-leb workLength (length w) h); after = refl; ready = tt }
 
-  pub refuses : {q : Refusal} → r ≡ judgement.Refused q → Refused q ≡ checkOf text work .verdict
-  unfolding verdictOf
-  refuses e = rw (check-is, e)
+no-rows : (w : List ℕ) (r : Judgement) → withRows noRows (judgedIn w r) ≡ judgedIn w r
+no-rows w (judgement.Task h) = refl
+no-rows w (judgement.Refused q) = refl
+
+ready-by : (w : List ℕ) (r : Judgement) → SettledBy w r → workLength ≤ length w → ReadyBy w r
+ready-by w (judgement.Task h) s l = (s, l)
+ready-by w (judgement.Refused q) s l = tt
+
+pub lent-judged : (text : List ℕ) {w w′ : List ℕ} {r : Judgement} → workLength ≤ length w → Judges (judged text) w r w′ → Lent text w r w′
+unfolding workRow judge
+lent-judged text {w} {w′} {r} h a =
+    record {
+      same = rw (le-leb workLength (length w) h) (ap (withRows noRows) (a .same) ∙ no-rows w′ r);
+      after = cleared-same h (kept-later 13120 (a .kept));
+      ready = ready-by w′ r (a .settled) (omega (arith, a .kept .size));
+    }
+
+-- check adds no row to those
+module _ {text w w′ : List ℕ} {r : Judgement} (a : Lent text w r w′) where
+  pub accepts : {g : Header} → r ≡ judgement.Task g → Accepted ≡ checkOf text w .verdict
+  unfolding checkOf verdictOf
+  accepts e = rw (a .same, e)
+
+  pub refuses : {q : Refusal} → r ≡ judgement.Refused q → Refused q ≡ checkOf text w .verdict
+  unfolding checkOf verdictOf
+  refuses e = rw (a .same, e)
+
+  pub checked : {l : List ℕ} → l ≡ cleared w′ → l ≡ checkOf text w .work
+  unfolding checkOf
+  checked e = e ∙ a .after
+
+-- 14, and the report; t′: the task as it was printed
+module _ {t t′ : Task} (same : t′ ≡ t) {w w′ : List ℕ} (after : cleared w′ ≡ cleared w) where
+  pub too-short : {output : List ℕ} {n : ℕ} → n ≡ length (reportText t′) → length output < n
+      → Reports (task t) w output (nothingWritten (refuse OutputTooSmall n)) w′ output
+  unfolding outputRows
+  too-short {output} {n} e h =
+      let f : n ≡ length (reportText t) = e ∙ ap (λ (t : Task). length (reportText t)) same in
+      let l : length output < length (reportText t) = omega arith in
+      record {
+        returned = λ work. rw (lt-leb (length (reportText t)) (length output) l) (ap (λ (k : ℕ). nothingWritten (refuse OutputTooSmall k)) f);
+        written = λ work. rw (lt-leb (length (reportText t)) (length output) l);
+        after = after;
+      }
+
+  pub long-enough : {output output′ : List ℕ} {n : ℕ} → n ≡ length (reportText t′) → n ≤ length output → output′ ≡ over (reportText t′) output
+      → Reports (task t) w output (record { verdict = Accepted; written = n }) w′ output′
+  unfolding outputRows
+  long-enough {output} {output′} {n} e h o =
+      let f : n ≡ length (reportText t) = e ∙ ap (λ (t : Task). length (reportText t)) same in
+      let l : length (reportText t) ≤ length output = omega arith in
+      record {
+        returned = λ work. rw (le-leb (length (reportText t)) (length output) l) (λ i. record { verdict = Accepted; written = f i });
+        written = λ work. rw (le-leb (length (reportText t)) (length output) l) (o ∙ ap (λ (t : Task). over (reportText t) output) same);
+        after = after;
+      }
+
+pub none-reported : (q : Refusal) (w output : List ℕ) → Reports (refused q) w output (nothingWritten q) w output
+none-reported q w output = record { returned = λ work. refl; written = λ work. refl; after = refl }
+
+-- the rows of a service come after those that every service has
+own-rows : (own : Task → Option Refusal) (first : Option Refusal) (text : List ℕ) → judge first own text ≡ withRows own (judge first noRows text)
+unfolding judge
+own-rows own (some r) text = refl
+own-rows own none text = later (judged text)
+  where
+    later : (j : Judged) → withRows own j ≡ withRows own (withRows noRows j)
+    later (refused r) = refl
+    later (task t) = refl
+
+-- the working space does not depend on the verdict
+work-left : (j : Judged) (work output : List ℕ) → writtenAs reportText j work output .work ≡ work
+work-left (refused r) work output = refl
+work-left (task t) work output = refl
+
+module _ {text w w′ w″ output output′ : List ℕ} {j : Judgement} {r : WriteResult} (a : Lent text w j w′)
+    (b : Reports (judgedIn w′ j) w′ output r w″ output′) where
+  report-is : reportOf text w output ≡ reported (judgedIn w′ j) (cleared w) output
+  unfolding writtenOf
+  report-is =
+      ap
+      (λ (x : Judged). writtenAs reportText x (cleared w) output)
+      (own-rows (outputRows reportText (length output)) _ text ∙ ap (withRows (outputRows reportText (length output))) (a .same))
+
+  pub report-result : r ≡ reportOf text w output .result
+  report-result = rw report-is (b .returned (cleared w))
+
+  pub report-output : output′ ≡ reportOf text w output .output
+  report-output = rw report-is (b .written (cleared w))
+
+  pub report-work : {l : List ℕ} → l ≡ cleared w″ → l ≡ reportOf text w output .work
+  report-work e =
+      let x = withRows (outputRows reportText (length output)) (judgedIn w′ j) in
+      e ∙ (b .after ∙ a .after) ∙ rw report-is (sym (work-left x (cleared w) output))

@@ -18,7 +18,8 @@ use Rattle.model.specs.Task.{Func, size, count, func, point, empty, inAll, func
 use Rattle.tables.specs.declared.Header.{Header}
 use Rattle.tables.specs.declared.Span.{Span}
 use Rattle.model.specs.Walk.{loaded, leadsFrom, leads}
-use Rattle.tables.specs.Tables.{pointOf, kindOf, isAccess, firstArgument, secondArgument, pointAt, frameAt, baseAt, sizeAt, pointsOf, funcIn, funcOf, funcsOf, taskOf, openingLine, Stacked, none, more, sum, item}
+use Rattle.tables.specs.Tables.{pointOf, kindOf, isAccess, firstArgument, secondArgument, pointAt, frameAt, baseAt, sizeAt, pointsOf, funcIn}
+use Rattle.tables.specs.Tables.{funcOf, funcsOf, taskOf, openingLine, Stacked, none, more, sum, item}
 
 -- a point survives being written as numbers
 pub point-back : (p : Point) → pointOf (kindOf p) (firstArgument p) (secondArgument p) ≡ p
@@ -41,7 +42,8 @@ access-kind k a b =
           le-ltb k 2 (omega arith) ∙ simp (ne-eqb k 0 zero-not, ne-eqb k 1 one-not) (other k a b)
     ]
   where
-    other : (k a b : ℕ) → false ≡ isAccess (if eqb k 2 then Call a else if eqb k 3 then Ensure a else if eqb k 4 then Goto a else if eqb k 5 then Either a b else Return)
+    other : (k a b : ℕ)
+        → false ≡ isAccess (if eqb k 2 then Call a else if eqb k 3 then Ensure a else if eqb k 4 then Goto a else if eqb k 5 then Either a b else Return)
     other k a b = by-four (eqb k 2) (eqb k 3) (eqb k 4) (eqb k 5)
       where
         by-four : (c d e f : Bool) → false ≡ isAccess (if c then Call a else if d then Ensure a else if e then Goto a else if f then Either a b else Return)

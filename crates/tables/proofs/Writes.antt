@@ -9,7 +9,8 @@ use lib.Seq.{getD-set-same, getD-set-other, drop-set-lt}
 use Rattle.model.specs.declared.Point.{Point}
 use Rattle.model.specs.Limits.{mostFuncs, mostInAll}
 use Rattle.tables.specs.Layout.{firstTable, secondTable, frameTable, baseTable, sizeTable, tablesLength}
-use Rattle.tables.specs.Tables.{pointOf, kindOf, firstArgument, secondArgument, pointAt, putPoint, frameAt, baseAt, sizeAt, putFunc, pointsOf, funcsOf, Stacked, none, more}
+use Rattle.tables.specs.Tables.{pointOf, kindOf, firstArgument, secondArgument, pointAt, putPoint, frameAt, baseAt, sizeAt, putFunc, pointsOf}
+use Rattle.tables.specs.Tables.{funcsOf, Stacked, none, more}
 use Rattle.tables.proofs.Laws.{point-back}
 
 -- w′ has the first n functions and the first m points of w
@@ -135,7 +136,8 @@ module _ (w : List ℕ) (f k b m : ℕ) (h : f < mostFuncs) where
     put-func-stacked s =
         subst (λ (n : ℕ). Stacked (putFunc w f k b m) (suc f) (b + n)) put-size (more (stacked-agree put-func-agree s (omega arith)) put-base)
 
-    pub put-func-more : Stacked w f b → b + m ≤ mostInAll → funcsOf (putFunc w f k b m) (suc f) ≡ funcsOf w f ++ (record { frame = k; points = pointsOf w b m } ∷ [])
+    pub put-func-more : Stacked w f b → b + m ≤ mostInAll
+        → funcsOf (putFunc w f k b m) (suc f) ≡ funcsOf w f ++ (record { frame = k; points = pointsOf w b m } ∷ [])
     unfolding funcsOf
     put-func-more s l =
         rw (funcs-agree put-func-agree s (omega arith) (omega arith), put-frame, put-base, put-size, points-agree put-func-agree b m l)

@@ -17,7 +17,8 @@ use Rattle.model.specs.Task.{Task, Judged, refused, task, size, count, func, po
 use Rattle.model.specs.Walk.{loaded}
 use Rattle.model.specs.Walk
 use Rattle.model.specs.Figures.{reached}
-use Rattle.model.specs.Refusal.{calleeFits, targetsFit, endFits, isCalled, storedBefore, linkRow, reachRow, callRow, loadRow, firstPoint, linkRows, reachRows, callRows, loadRows, taskRows, orTask, withRows, judged, judge}
+use Rattle.model.specs.Refusal.{calleeFits, targetsFit, endFits, isCalled, storedBefore, linkRow, reachRow, callRow, loadRow, firstPoint, linkRows}
+use Rattle.model.specs.Refusal.{reachRows, callRows, loadRows, taskRows, orTask, withRows, judged, judge}
 use Rattle.model.specs.Refusal
 use Rattle.theory.proofs.Lists.{by-test}
 use Rattle.theory.proofs.Firsts.{orElse-none, unless-none, row-none, counted-none, points-none}
@@ -106,7 +107,9 @@ rows-none t = (
       let j = orElse-none (reachRows t) (callRows t orElse loadRows t) .0 (i .1) in
       let k = orElse-none (callRows t) (loadRows t) .0 (j .1) in
       (links-none t .0 (i .0), reach-none t .0 (j .0), calls-none t .0 (k .0), loads-none t .0 (k .1)),
-  λ w. orElse-none _ _ .1 (links-none t .1 (w .0), orElse-none _ _ .1 (reach-none t .1 (w .1), orElse-none _ _ .1 (calls-none t .1 (w .2), loads-none t .1 (w .3)))),
+  λ w.
+      let k = orElse-none (callRows t) (loadRows t) .1 (calls-none t .1 (w .2), loads-none t .1 (w .3)) in
+      orElse-none _ _ .1 (links-none t .1 (w .0), orElse-none _ _ .1 (reach-none t .1 (w .1), k)),
 )
 
 -- what the judgement of a text as task t says

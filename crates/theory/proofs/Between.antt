@@ -13,7 +13,8 @@ use Rattle.model.specs.Basic.{if_then_else_, largest, smallest, upTo}
 use Rattle.model.specs.declared.Point.the-variants.{Return}
 use Rattle.model.specs.Task.{Func, Task, size, count, func, point}
 use Rattle.model.specs.Walk.{Met, Largest, leads, called, is, calls, isCall, returns}
-use Rattle.model.specs.Figures.{theCalled, callees, callFree, longestTo, longest, shortestTo, shortest, highFrom, callPoints, overCalls, entryTo, entry, high, kept, chainTo, chain}
+use Rattle.model.specs.Figures.{theCalled, callees, callFree, longestTo, longest, shortestTo, shortest, highFrom, callPoints, overCalls, entryTo}
+use Rattle.model.specs.Figures.{entry, high, kept, chainTo, chain}
 use Rattle.theory.proofs.Lists.{by-test, mem-select, mem-joined, mem-upTo, by-largest, largest-bounds, largest-largest}
 use Rattle.theory.proofs.Figures.{Closed, callFree-met}
 

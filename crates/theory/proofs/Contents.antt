@@ -40,22 +40,22 @@ unfoldable pub HoldsFrom : Task → (ℕ → ℕ) → ℕ → List Frame → Typ
 HoldsFrom t number a [] = Unit
 HoldsFrom t number a (x ∷ fs) = FrameHolds t number a x × HoldsFrom t number (a + func t (x .fn) .frame) fs
 
--- the core holds the numbers of these frames: the running frame starts at ST
-abbrev pub Holds : Task → List Frame → Core → Type 0
-Holds t fs c = HoldsFrom t (numberAt c) (c .st) fs
+-- coherence: the core holds the numbers of these frames; the running frame starts at ST
+abbrev pub Coherent : Task → List Frame → Core → Type 0
+Coherent t fs c = HoldsFrom t (numberAt c) (c .st) fs
 
 -- the memory alone holds them: so it is while the task waits, whoever has the cache
 abbrev pub Stored : Task → List Frame → Core → Type 0
 Stored t fs c = HoldsFrom t (λ a. getD (c .memory) a 0) (c .st) fs
 
 -- a move that keeps the number at each address of the frames
-holds-same : (t : Task) (before now : ℕ → ℕ) (a : ℕ) (fs : List Frame)
+coherent-same : (t : Task) (before now : ℕ → ℕ) (a : ℕ) (fs : List Frame)
     → ((b : ℕ) → a ≤ b → b < a + total t fs → now b ≡ before b) → HoldsFrom t before a fs → HoldsFrom t now a fs
 unfolding HoldsFrom total
-holds-same t before now a [] same h = tt
-holds-same t before now a (x ∷ fs) same h = (
+coherent-same t before now a [] same h = tt
+coherent-same t before now a (x ∷ fs) same h = (
   λ o l v. same (a + o) (omega arith) (omega arith) ∙ h .0 o l v,
-  holds-same t before now (a + func t (x .fn) .frame) fs (λ b l m. same b (omega arith) (omega arith)) (h .1),
+  coherent-same t before now (a + func t (x .fn) .frame) fs (λ b l m. same b (omega arith) (omega arith)) (h .1),
 )
 
 module _ (t : Task) (s : Sheet) (w : WellFormed t) (r : Sound t s) where
@@ -70,20 +70,20 @@ module _ (t : Task) (s : Sheet) (w : WellFormed t) (r : Sound t s) where
       (uninitialised-walk (func t f) inside some-point o (m .0) .1 (m .1))
 
   -- the frames hold after a lead from a point that stores nothing
-  holds-along : (x : Frame) (fs : List Frame) (number : ℕ → ℕ) (a q : ℕ) → In t x → List·Memᴰ q (leads (func t (x .fn)) (x .at))
+  coherent-along : (x : Frame) (fs : List Frame) (number : ℕ → ℕ) (a q : ℕ) → In t x → List·Memᴰ q (leads (func t (x .fn)) (x .at))
       → ((o : ℕ) → T (not (stores (func t (x .fn)) o (x .at)))) → HoldsFrom t number a (x ∷ fs) → HoldsFrom t number a (movedTo q x ∷ fs)
   unfolding HoldsFrom
-  holds-along x fs number a q i m j h = (
+  coherent-along x fs number a q i m j h = (
     λ o l v. h .0 o l (live-along (func t (x .fn)) (closed-in w (x .fn) (i .fn-in)) (x .at) (i .at-in) q m o (j o) v),
     h .1,
   )
 
   -- what each move of the core leaves
-  holds-store : (x : Frame) (fs : List Frame) (c : Core) (o v : ℕ) → point (func t (x .fn)) (x .at) ≡ Store o → In t x
-      → Window t s (x ∷ fs) c → Holds t (x ∷ fs) c
-      → Holds t (record { fn = x .fn; at = suc (x .at); numbers = set (x .numbers) o v } ∷ fs) (store o v c)
+  coherent-store : (x : Frame) (fs : List Frame) (c : Core) (o v : ℕ) → point (func t (x .fn)) (x .at) ≡ Store o → In t x
+      → Window t s (x ∷ fs) c → Coherent t (x ∷ fs) c
+      → Coherent t (record { fn = x .fn; at = suc (x .at); numbers = set (x .numbers) o v } ∷ fs) (store o v c)
   unfolding HoldsFrom store leads
-  holds-store x fs c o v e i u h =
+  coherent-store x fs c o v e i u h =
       let k = touched-cached t s w r x fs c o i (rw e (eqb-refl o)) u in
       let z : c .occupancy ≤ length (c .cache) = omega (arith, u .fits, u .blocks) in (
         λ a l live-after. elim (ℕ-discrete a o) [
@@ -94,87 +94,87 @@ module _ (t : Task) (s : Sheet) (w : WellFormed t) (r : Sound t s) where
               (rw e (List·Memᴰ·head refl)) a (rw e (not-T (eqb a o) (λ j. n (eqb→eq a o j)))) live-after)
               ∙ sym (getD-set-other (x .numbers) o a v 0 n)
         ],
-        holds-same t (numberAt c) (numberAt (store o v c)) (c .st + func t (x .fn) .frame) fs
+        coherent-same t (numberAt c) (numberAt (store o v c)) (c .st + func t (x .fn) .frame) fs
             (λ b l m. store-keeps c b o v (k .1) z (omega arith) (λ y. omega (arith, k .0))) (h .1),
       )
 
-  holds-reserve : (fs : List Frame) (c : Core) (g : ℕ) → g < count t → func t g .frame ≤ c .st
-      → c .st + total t fs ≡ length (c .memory) → Holds t fs c → Holds t (entered t g ∷ fs) (reserve (func t g .frame) c .core)
+  coherent-reserve : (fs : List Frame) (c : Core) (g : ℕ) → g < count t → func t g .frame ≤ c .st
+      → c .st + total t fs ≡ length (c .memory) → Coherent t fs c → Coherent t (entered t g ∷ fs) (reserve (func t g .frame) c .core)
   unfolding HoldsFrom reserve
-  holds-reserve fs c g l k u h =
+  coherent-reserve fs c g l k u h =
       let e : c .st - func t g .frame + func t g .frame ≡ c .st = omega arith in (
         λ o m v. absurd (live-first g o l v),
-        rw e (holds-same t (numberAt c) (numberAt (reserve (func t g .frame) c .core)) (c .st) fs
+        rw e (coherent-same t (numberAt c) (numberAt (reserve (func t g .frame) c .core)) (c .st) fs
             (λ b m n. reserve-keeps c b (func t g .frame) k m (omega arith)) h),
       )
 
-  holds-free : (x : Frame) (fs : List Frame) (c : Core) → Holds t (x ∷ fs) c → Holds t fs (free (func t (x .fn) .frame) c)
+  coherent-free : (x : Frame) (fs : List Frame) (c : Core) → Coherent t (x ∷ fs) c → Coherent t fs (free (func t (x .fn) .frame) c)
   unfolding HoldsFrom free
-  holds-free x fs c h =
-      holds-same t (numberAt c) (numberAt (free (func t (x .fn) .frame) c)) (c .st + func t (x .fn) .frame) fs
+  coherent-free x fs c h =
+      coherent-same t (numberAt c) (numberAt (free (func t (x .fn) .frame) c)) (c .st + func t (x .fn) .frame) fs
       (λ b l m. free-keeps c b (func t (x .fn) .frame) l) (h .1)
 
-  holds-ensure : (x : Frame) (fs : List Frame) (c : Core) → In t x → Window t s (x ∷ fs) c → Holds t (x ∷ fs) c
-      → Holds t (x ∷ fs) (ensure (func t (x .fn) .frame) c .core)
+  coherent-ensure : (x : Frame) (fs : List Frame) (c : Core) → In t x → Window t s (x ∷ fs) c → Coherent t (x ∷ fs) c
+      → Coherent t (x ∷ fs) (ensure (func t (x .fn) .frame) c .core)
   unfolding ensure
-  holds-ensure x fs c i u =
-      holds-same t (numberAt c) (numberAt (ensure (func t (x .fn) .frame) c .core)) (c .st) (x ∷ fs)
+  coherent-ensure x fs c i u =
+      coherent-same t (numberAt c) (numberAt (ensure (func t (x .fn) .frame) c .core)) (c .st) (x ∷ fs)
       (λ b l m. ensure-keeps c b (func t (x .fn) .frame) (omega (arith, u .blocks, w .shaped .frames (x .fn) (i .fn-in)))
       (omega (arith, u .fits, u .blocks)) l)
 
   -- what keeps the number at each address from the lowest live one up keeps the contents
-  holds-above : (x : Frame) (fs : List Frame) (before now : ℕ → ℕ) (a : ℕ) → In t x
+  coherent-above : (x : Frame) (fs : List Frame) (before now : ℕ → ℕ) (a : ℕ) → In t x
       → ((b : ℕ) → a + s .at (x .fn) (x .at) .dead ≤ b → b < a + total t (x ∷ fs) → now b ≡ before b)
       → HoldsFrom t before a (x ∷ fs) → HoldsFrom t now a (x ∷ fs)
   unfolding HoldsFrom total
-  holds-above x fs before now a i same h =
+  coherent-above x fs before now a i same h =
       let k = r .at (x .fn) (x .at) (i .fn-in) (i .at-in) in (
         λ o l v. same (a + o) (omega (arith, k .marked .dead-live o l v)) (omega arith) ∙ h .0 o l v,
-        holds-same t before now (a + func t (x .fn) .frame) fs (λ b l m. same b (omega (arith, k .marked .dead-frame)) (omega arith)) (h .1),
+        coherent-same t before now (a + func t (x .fn) .frame) fs (λ b l m. same b (omega (arith, k .marked .dead-frame)) (omega arith)) (h .1),
       )
 
   -- the halves of a preemption: the first leaves in memory all that is live, and the second needs no more, whatever the cache holds
-  pub holds-save : (x : Frame) (fs : List Frame) (c : Core) → In t x → Window t s (x ∷ fs) c → Holds t (x ∷ fs) c
+  pub coherent-save : (x : Frame) (fs : List Frame) (c : Core) → In t x → Window t s (x ∷ fs) c → Coherent t (x ∷ fs) c
       → Stored t (x ∷ fs) (save (s .at (x .fn) (x .at) .dead) c .core)
-  holds-save x fs c i u h =
-      unfold save in holds-above x fs (numberAt c) (λ a. getD (save (s .at (x .fn) (x .at) .dead) c .core .memory) a 0) (c .st) i
+  coherent-save x fs c i u h =
+      unfold save in coherent-above x fs (numberAt c) (λ a. getD (save (s .at (x .fn) (x .at) .dead) c .core .memory) a 0) (c .st) i
       (λ b l m. save-keeps c b (s .at (x .fn) (x .at) .dead) (omega (arith, l)) (omega (arith, m, u .top))) h
 
-  pub holds-resume : (x : Frame) (fs : List Frame) (c : Core) (n : ℕ) → In t x → Window t s (x ∷ fs) c → Stored t (x ∷ fs) c
-      → Holds t (x ∷ fs) (resume (s .at (x .fn) (x .at) .dead) n c .core)
-  holds-resume x fs c n i u h =
-      unfold resume in holds-above x fs (λ a. getD (c .memory) a 0) (numberAt (resume (s .at (x .fn) (x .at) .dead) n c .core)) (c .st) i
+  pub coherent-resume : (x : Frame) (fs : List Frame) (c : Core) (n : ℕ) → In t x → Window t s (x ∷ fs) c → Stored t (x ∷ fs) c
+      → Coherent t (x ∷ fs) (resume (s .at (x .fn) (x .at) .dead) n c .core)
+  coherent-resume x fs c n i u h =
+      unfold resume in coherent-above x fs (λ a. getD (c .memory) a 0) (numberAt (resume (s .at (x .fn) (x .at) .dead) n c .core)) (c .st) i
       (λ b l m. resume-brings c b (s .at (x .fn) (x .at) .dead) n (omega (arith, u .fits, u .blocks)) (omega (arith, l))) h
 
   -- a step, by the point at which the running frame stands
-  pub holds-step : (x : Frame) (fs : List Frame) (c : Core) (y : Point) (v : ℕ) → point (func t (x .fn)) (x .at) ≡ y → In t x → Below t (x .fn) fs
-      → Window t s (x ∷ fs) c → Holds t (x ∷ fs) c → Holds t (stepped t x fs y v) (stepTurn t (x .fn) (x .at) (places fs) c y v .state .core)
+  pub coherent-step : (x : Frame) (fs : List Frame) (c : Core) (y : Point) (v : ℕ) → point (func t (x .fn)) (x .at) ≡ y → In t x → Below t (x .fn) fs
+      → Window t s (x ∷ fs) c → Coherent t (x ∷ fs) c → Coherent t (stepped t x fs y v) (stepTurn t (x .fn) (x .at) (places fs) c y v .state .core)
   unfolding leads total
-  holds-step x fs c (Load o) v e i b u h = holds-along x fs (numberAt c) (c .st) (suc (x .at)) i (rw e (List·Memᴰ·head refl)) (λ o. rw e tt) h
-  holds-step x fs c (Store o) v e i b u h = holds-store x fs c o v e i u h
-  holds-step x fs c (Call g) v e i b u h =
+  coherent-step x fs c (Load o) v e i b u h = coherent-along x fs (numberAt c) (c .st) (suc (x .at)) i (rw e (List·Memᴰ·head refl)) (λ o. rw e tt) h
+  coherent-step x fs c (Store o) v e i b u h = coherent-store x fs c o v e i u h
+  coherent-step x fs c (Call g) v e i b u h =
       let l = callee-later (w .linked) (x .fn) (x .at) g (i .fn-in) (i .at-in) (ap called e) in
       let m : List·Memᴰ (suc (x .at)) (leads (func t (x .fn)) (x .at)) = rw e (List·Memᴰ·head refl) in
-      holds-reserve (movedTo (suc (x .at)) x ∷ fs) c g (l .1) (room-below t s w r x fs c g i b e u) (u .top)
-      (holds-along x fs (numberAt c) (c .st) (suc (x .at)) i m (λ o. rw e tt) h)
-  holds-step x fs c (Ensure k) v e i b u h =
-      holds-along x fs (numberAt (ensure k c .core)) (ensure k c .core .st) (suc (x .at)) i (rw e (List·Memᴰ·head refl)) (λ o. rw e tt)
-      (rw (ensures-frame t w x k i e) (holds-ensure x fs c i u h))
-  holds-step x fs c (Goto q) v e i b u h = holds-along x fs (numberAt c) (c .st) q i (rw e (List·Memᴰ·head refl)) (λ o. rw e tt) h
-  holds-step x fs c (Either q p) v e i b u h =
-      by-test (λ (a : ℕ). Holds t (movedTo a x ∷ fs) c) (eqb v 0)
-      (λ z. holds-along x fs (numberAt c) (c .st) q i (rw e (List·Memᴰ·head refl)) (λ o. rw e tt) h)
-      (λ z. holds-along x fs (numberAt c) (c .st) p i (rw e (List·Memᴰ·tail (List·Memᴰ·head refl))) (λ o. rw e tt) h)
-  holds-step x fs c Return v e i b u h = holds-free x fs c h
+      coherent-reserve (movedTo (suc (x .at)) x ∷ fs) c g (l .1) (room-below t s w r x fs c g i b e u) (u .top)
+      (coherent-along x fs (numberAt c) (c .st) (suc (x .at)) i m (λ o. rw e tt) h)
+  coherent-step x fs c (Ensure k) v e i b u h =
+      coherent-along x fs (numberAt (ensure k c .core)) (ensure k c .core .st) (suc (x .at)) i (rw e (List·Memᴰ·head refl)) (λ o. rw e tt)
+      (rw (ensures-frame t w x k i e) (coherent-ensure x fs c i u h))
+  coherent-step x fs c (Goto q) v e i b u h = coherent-along x fs (numberAt c) (c .st) q i (rw e (List·Memᴰ·head refl)) (λ o. rw e tt) h
+  coherent-step x fs c (Either q p) v e i b u h =
+      by-test (λ (a : ℕ). Coherent t (movedTo a x ∷ fs) c) (eqb v 0)
+      (λ z. coherent-along x fs (numberAt c) (c .st) q i (rw e (List·Memᴰ·head refl)) (λ o. rw e tt) h)
+      (λ z. coherent-along x fs (numberAt c) (c .st) p i (rw e (List·Memᴰ·tail (List·Memᴰ·head refl))) (λ o. rw e tt) h)
+  coherent-step x fs c Return v e i b u h = coherent-free x fs c h
 
   -- a fresh start holds nothing that is live
-  pub holds-start : 0 < count t → (c : Core) → Holds t (firstFrames t) (reserve (func t 0 .frame) c .core)
+  pub coherent-start : 0 < count t → (c : Core) → Coherent t (firstFrames t) (reserve (func t 0 .frame) c .core)
   unfolding HoldsFrom
-  holds-start h c = (λ o l v. absurd (live-first 0 o h v), tt)
+  coherent-start h c = (λ o l v. absurd (live-first 0 o h v), tt)
 
   -- a load answers the number of the plain stack
   load-same : (x : Frame) (fs : List Frame) (c : Core) (o : ℕ) → point (func t (x .fn)) (x .at) ≡ Load o → In t x → Window t s (x ∷ fs) c
-      → Holds t (x ∷ fs) c → load o c ≡ getD (x .numbers) o 0
+      → Coherent t (x ∷ fs) c → load o c ≡ getD (x .numbers) o 0
   unfolding HoldsFrom load
   load-same x fs c o e i u h =
       let k = touched-cached t s w r x fs c o i (rw e (or-holds (eqb o o) false .1 (inl (eqb-refl o)))) u in
@@ -183,7 +183,7 @@ module _ (t : Task) (s : Sheet) (w : WellFormed t) (r : Sound t s) where
 
   -- a step answers as on the plain stack
   pub answer-step : (x : Frame) (fs : List Frame) (c : Core) (y : Point) (v : ℕ) → point (func t (x .fn)) (x .at) ≡ y → In t x
-      → Window t s (x ∷ fs) c → Holds t (x ∷ fs) c → stepTurn t (x .fn) (x .at) (places fs) c y v .answer ≡ loadedFrom (x .numbers) y
+      → Window t s (x ∷ fs) c → Coherent t (x ∷ fs) c → stepTurn t (x .fn) (x .at) (places fs) c y v .answer ≡ loadedFrom (x .numbers) y
   answer-step x fs c (Load o) v e i u h = load-same x fs c o e i u h
   answer-step x fs c (Store o) v e i u h = refl
   answer-step x fs c (Call g) v e i u h = refl

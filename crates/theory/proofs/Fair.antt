@@ -12,13 +12,14 @@ use Rattle.model.specs.Task.{Task, count, func, point}
 use Rattle.model.specs.Core.{Core, save, reserve, withCache, resume, filledWith}
 use Rattle.model.specs.Sheet.{Sheet}
 use Rattle.model.specs.Refusal.{eventRows}
-use Rattle.model.specs.Plain.{Event, Act, takes, preempted, act, Frame, Plain, entered, running, stepped, afterEvent, loadedFrom, answerOf, orPlain, plainFrom, plain, firstFrames}
+use Rattle.model.specs.Plain.{Event, Act, takes, preempted, act, Frame, Plain, entered, running, stepped, afterEvent, loadedFrom, answerOf, orPlain}
+use Rattle.model.specs.Plain.{plainFrom, plain, firstFrames}
 use Rattle.model.specs.Run.{State, Turn, stepTurn, preemptTurn, turn, Ran, orRan, ranFrom, ran, stepBound, eventBound, orBound, allowedFrom, allowed}
 use Rattle.model.specs.WellFormed.{WellFormed}
 use Rattle.theory.specs.Sound.{Ground, Sound}
 use Rattle.theory.proofs.Frames.{places, running-same, frames-step, In, Below, Standing, standing-start, standing-step, Window, Needed}
 use Rattle.theory.proofs.Window.{window-start, window-step, window-save, window-between, window-resume}
-use Rattle.theory.proofs.Contents.{Holds, Stored, holds-start, holds-step, holds-save, holds-resume, answer-step}
+use Rattle.theory.proofs.Contents.{Coherent, Stored, coherent-start, coherent-step, coherent-save, coherent-resume, answer-step}
 use Rattle.theory.proofs.Occupancy.{Occupied, occupied-start, occupied-step, fewer}
 use Rattle.theory.proofs.Potential.{potential, paid, potential-start, step-covered, preempt-covered}
 
@@ -26,7 +27,7 @@ use Rattle.theory.proofs.Potential.{potential, paid, potential-start, s
 pub record Running (t : Task) (s : Sheet) (b : Ground) (fs : List Frame) (c : Core) : Type 0 where
   pub standing : Standing t fs
   pub window : Window t s fs c
-  pub holds : Holds t fs c
+  pub holds : Coherent t fs c
   pub occupied : Occupied t s b fs (c .occupancy)
 
 -- a task that waits between the halves of a preemption: all that it will load is in its memory
@@ -68,7 +69,7 @@ module _ (t : Task) (s : Sheet) (w : WellFormed t) (r : Sound t s) where
   runs-save x fs c i k = record {
     standing = k .standing;
     window = window-save t s w r (x ∷ fs) c _ (k .window);
-    stored = holds-save t s w r x fs c i (k .window) (k .holds);
+    stored = coherent-save t s w r x fs c i (k .window) (k .holds);
     occupied = unfold save in k .occupied;
   }
 
@@ -87,7 +88,7 @@ module _ (t : Task) (s : Sheet) (w : WellFormed t) (r : Sound t s) where
   aside-resume x fs c i k = record {
     standing = k .standing;
     window = window-resume t s w r x fs c _ (k .window);
-    holds = holds-resume t s w r x fs c _ i (k .window) (k .stored);
+    holds = coherent-resume t s w r x fs c _ i (k .window) (k .stored);
     occupied = unfold resume in fewer t s (r .ground) x fs (c .occupancy) _ (omega arith) (k .occupied);
   }
 
@@ -102,7 +103,7 @@ module _ (t : Task) (s : Sheet) (w : WellFormed t) (r : Sound t s) where
     runs = record {
       standing = standing-step t w x fs y v e i b;
       window = window-step t s w r x fs c y v e i b (k .window);
-      holds = holds-step t s w r x fs c y v e i b (k .window) (k .holds);
+      holds = coherent-step t s w r x fs c y v e i b (k .window) (k .holds);
       occupied = occupied-step t s w r x fs c y v e i b (k .window) (k .occupied);
     };
     answers = answer-step t s w r x fs c y v e i (k .window) (k .holds);
@@ -150,7 +151,7 @@ module _ (t : Task) (s : Sheet) (w : WellFormed t) (r : Sound t s) where
   runs-start h c u = record {
     standing = standing-start t w h;
     window = window-start t s w r h c u;
-    holds = holds-start t s w r h c;
+    holds = coherent-start t s w r h c;
     occupied = occupied-start t s w r h c u;
   }
 

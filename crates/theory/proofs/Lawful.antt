@@ -19,7 +19,8 @@ use Rattle.model.specs.WellFormed.{WellFormed}
 use Rattle.theory.proofs.Links.{is-holds, ensure-after-call, callee-later}
 use Rattle.theory.proofs.Figures.{someWalk-walk}
 use Rattle.theory.proofs.Between.{mem-callees, shortest-is, shortest-free, entry-is, entry-zero, chain-is, overCalls-is}
-use Rattle.theory.proofs.Rules.{dead-frame, dead-live, need-frame, need-touch, need-ensure, need-along, keptNext-ensure, keptNext-along, high-along, high-enter}
+use Rattle.theory.proofs.Rules.{dead-frame, dead-live, need-frame, need-touch, need-ensure, need-along, keptNext-ensure, keptNext-along}
+use Rattle.theory.proofs.Rules.{high-along, high-enter}
 use Rattle.theory.proofs.Sheet.{closed-in, in-frame, calls-later}
 use Rattle.theory.specs.Sound.{Price, Marked, SoundCall, Sound}
 

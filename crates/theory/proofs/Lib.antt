@@ -5,7 +5,8 @@
 --   Places, Decimal          the place of a refusal fits 16 bits; numbers in decimal
 --   Figures, Between, Rules  each figure, within a function, between functions, and along a lead
 --   Rows                     what rows 11 and 13 say of walks, for refused texts too
---   Frames, Window           from here to Fair nothing is known of a sheet but the rules of specs/Sound; the frames of a run are those of the plain stack, and where the stack stands
+--   Frames, Window           the frames of a run are those of the plain stack, and where the stack stands; from here to Fair nothing is known of a
+--                            sheet but the rules of specs/Sound
 --   Blocks, Numbers          what moves between cache and memory keep
 --   Contents                 cache and memory hold the numbers of the plain stack, between the halves of a preemption the memory alone
 --   Occupancy                the occupancy is at most high

@@ -8,7 +8,8 @@ use lib.Dec.{ltb, ltb→lt, nltb→le}
 use lib.ListN.{length, getD, length-set}
 use lib.Seq.{getD-set-same, getD-set-other}
 use Rattle.model.specs.Basic.{if_then_else_}
-use Rattle.model.specs.Core.{Core, block, spilled, reserved, reserveMoves, ensuredTo, ensureMoves, savedFrom, saveMoves, resumed, resumeMoves, reserve, free, ensure, store, save, resume}
+use Rattle.model.specs.Core.{Core, block, spilled, reserved, reserveMoves, ensuredTo, ensureMoves, savedFrom, saveMoves, resumed, resumeMoves}
+use Rattle.model.specs.Core.{reserve, free, ensure, store, save, resume}
 use Rattle.theory.proofs.Lists.{by-test}
 use Rattle.theory.proofs.Blocks.{apart, length-filled, spilled-in, spilled-out, filled-in, filled-out}
 

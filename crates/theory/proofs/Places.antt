@@ -13,12 +13,14 @@ use Rattle.model.specs.declared.Refusal.{Refusal}
 use Rattle.model.specs.declared.Row.the-variants.{Callee, Pairing, Target, LastPoint, Unreachable, Uncalled, Uninitialised}
 use Rattle.model.specs.Basic.{unless, _orElse_, firstOf, sumOf, upTo, countFrom}
 use Rattle.model.specs.Text.{linesFrom, linesOf}
-use Rattle.model.specs.Task.{Func, Task, Judged, refused, task, Progress, start, between, inside, Step, stop, goes, readLine, readEnd, readFrom, readText, onward, inAll, size, count, func, point, funcLine, pointLine, offsetFits}
+use Rattle.model.specs.Task.{Func, Task, Judged, refused, task, Progress, start, between, inside, Step, stop, goes, readLine, readEnd, readFrom}
+use Rattle.model.specs.Task.{readText, onward, inAll, size, count, func, point, funcLine, pointLine, offsetFits}
 use Rattle.model.specs.Walk.{called, loaded}
 use Rattle.model.specs.Figures.{reached}
 use Rattle.model.specs.Limits.{mostStack, mostFuncs, mostPoints, mostInAll, mostBytes}
 use Rattle.model.specs.Rows.{refuse}
-use Rattle.model.specs.Refusal.{judged, withRows, orTask, calleeFits, paired, targetsFit, endFits, storedBefore, isCalled, linkRow, reachRow, loadRow, callRow, firstPoint, linkRows, reachRows, callRows, taskRows}
+use Rattle.model.specs.Refusal.{judged, withRows, orTask, calleeFits, paired, targetsFit, endFits, storedBefore, isCalled, linkRow, reachRow, loadRow}
+use Rattle.model.specs.Refusal.{callRow, firstPoint, linkRows, reachRows, callRows, taskRows}
 use Rattle.theory.proofs.Lists.{by-test, mem-upTo, mem-countFrom}
 use Rattle.model.specs.WellFormed.{Shaped}
 use Rattle.theory.proofs.Firsts.{first-some, points-some}

@@ -255,4 +255,5 @@ module _ (t : Task) (s : Sheet) (w : WellFormed t) (r : Sound t s) where
   unfolding delayed reserve
   potential-start l c u =
       let q = r .at 0 0 l (w .shaped .nonempty 0 l) .next-frame in
-      rw (u .blocks) (omega (arith, price-zero (r .price) _ (just-entered (r .ground .next 0 0) (func t 0 .frame) (c .occupancy) (t .stack) q (w .shaped .frames 0 l))))
+      let e = just-entered (r .ground .next 0 0) (func t 0 .frame) (c .occupancy) (t .stack) q (w .shaped .frames 0 l) in
+      rw (u .blocks) (omega (arith, price-zero (r .price) _ e))

@@ -16,7 +16,8 @@ use Rattle.model.specs.declared.Line.the-variants as line
 use Rattle.model.specs.Limits.{mostStack, mostFuncs, mostPoints, mostInAll}
 use Rattle.model.specs.Basic.{sumOf}
 use Rattle.model.specs.Text.{linesOf}
-use Rattle.model.specs.Task.{Func, Task, Judged, refused, task, Progress, start, between, inside, Step, stop, goes, size, count, inAll, empty, func, point, offsetFits, withPoint, withFunc, readLine, readEnd, onward, readFrom, readText}
+use Rattle.model.specs.Task.{Func, Task, Judged, refused, task, Progress, start, between, inside, Step, stop, goes, size, count, inAll, empty, func}
+use Rattle.model.specs.Task.{point, offsetFits, withPoint, withFunc, readLine, readEnd, onward, readFrom, readText}
 use Rattle.model.specs.WellFormed.{Shaped}
 use Rattle.theory.proofs.Lists.{by-test, and-holds}
 
@@ -35,10 +36,10 @@ pub record Begun (t : Task) : Type 0 where
   pub closed : (f : ℕ) → f < count t → Opened (t .stack) (func t f) × (1 ≤ size (func t f))
 
 -- what a progress within the limits is
-abbrev pub Kept : Progress → Type 0
-Kept start = Unit {0}
-Kept (between t) = Begun t
-Kept (inside t x) = Begun t × Opened (t .stack) x × (count t < mostFuncs) × (inAll (t .funcs) + size x ≤ mostInAll)
+abbrev pub WithinLimits : Progress → Type 0
+WithinLimits start = Unit {0}
+WithinLimits (between t) = Begun t
+WithinLimits (inside t x) = Begun t × Opened (t .stack) x × (count t < mostFuncs) × (inAll (t .funcs) + size x ≤ mostInAll)
 
 -- the kind P of the progress after a step, of the task of a judgement
 abbrev Goes : (Progress → Type 0) → Step → Type 0
@@ -92,10 +93,10 @@ more-point s x p o c h = record {
 }
 
 -- what a line goes on with is within the limits
-line-goes : (n : ℕ) (s : Progress) (l : Line) → Kept s → Goes Kept (readLine n s l)
+line-goes : (n : ℕ) (s : Progress) (l : Line) → WithinLimits s → Goes WithinLimits (readLine n s l)
 unfolding readLine
 line-goes n start (line.Stack s) k =
-    by-test (Goes Kept) (leb 1 s && leb s mostStack) (λ h. let r = and-holds (leb 1 s) (leb s mostStack) .0 h in record {
+    by-test (Goes WithinLimits) (leb 1 s && leb s mostStack) (λ h. let r = and-holds (leb 1 s) (leb s mostStack) .0 h in record {
       low = leb→le 1 s (r .0);
       high = leb→le s mostStack (r .1);
       few = omega arith;
@@ -108,8 +109,8 @@ line-goes n start line.Close k = tt
 line-goes n start line.Malformed k = tt
 line-goes n (between t) (line.Stack s) k = tt
 line-goes n (between t) (line.Func m) k =
-    by-test (Goes Kept) (ltb (t .stack) m) (λ h. tt) (λ h.
-    by-test (Goes Kept) (leb mostFuncs (count t)) (λ j. tt) (λ j. (
+    by-test (Goes WithinLimits) (ltb (t .stack) m) (λ h. tt) (λ h.
+    by-test (Goes WithinLimits) (leb mostFuncs (count t)) (λ j. tt) (λ j. (
       k,
       record { frame = nltb→le (t .stack) m h; small = omega arith; offsets = λ p l. absurd (omega arith) },
       nleb→lt mostFuncs (count t) j,
@@ -121,8 +122,8 @@ line-goes n (between t) line.Malformed k = tt
 line-goes n (inside t x) (line.Stack s) k = tt
 line-goes n (inside t x) (line.Func m) k = tt
 line-goes n (inside t x) (line.At p) k =
-    by-test (Goes Kept) (not (offsetFits (x .frame) p)) (λ h. tt) (λ h.
-    by-test (Goes Kept) (leb mostPoints (size x) || leb mostInAll (inAll (t .funcs) + size x)) (λ j. tt) (λ j.
+    by-test (Goes WithinLimits) (not (offsetFits (x .frame) p)) (λ h. tt) (λ h.
+    by-test (Goes WithinLimits) (leb mostPoints (size x) || leb mostInAll (inAll (t .funcs) + size x)) (λ j. tt) (λ j.
     let r = neither (leb mostPoints (size x)) (leb mostInAll (inAll (t .funcs) + size x)) j in
     let a = nleb→lt mostInAll (inAll (t .funcs) + size x) (r .1) in (
       k .0,
@@ -131,14 +132,14 @@ line-goes n (inside t x) (line.At p) k =
       omega (arith, length-append (x .points) (p ∷ [])),
     )))
 line-goes n (inside t x) line.Close k =
-    by-test (Goes Kept) (leb 1 (size x)) (λ h. more-func t x (k .0) (k .1) (k .2) (k .3) (leb→le 1 (size x) h)) (λ h. tt)
+    by-test (Goes WithinLimits) (leb 1 (size x)) (λ h. more-func t x (k .0) (k .1) (k .2) (k .3) (leb→le 1 (size x) h)) (λ h. tt)
 line-goes n (inside t x) line.Malformed k = tt
 
 -- every line keeps the limits
-pub line-keeps : (n : ℕ) (s : Progress) (l : Line) {s′ : Progress} → Kept s → readLine n s l ≡ goes s′ → Kept s′
+pub line-keeps : (n : ℕ) (s : Progress) (l : Line) {s′ : Progress} → WithinLimits s → readLine n s l ≡ goes s′ → WithinLimits s′
 line-keeps n s l k e = rw e at (line-goes n s l k)
 
-end-keeps : (n : ℕ) (s : Progress) → Kept s → Tasked Shaped (readEnd n s)
+end-keeps : (n : ℕ) (s : Progress) → WithinLimits s → Tasked Shaped (readEnd n s)
 unfolding readEnd
 end-keeps n start k = tt
 end-keeps n (between t) k =
@@ -155,12 +156,12 @@ end-keeps n (between t) k =
     }) (λ h. tt)
 end-keeps n (inside t x) k = tt
 
-onward-keeps : (r : Step) (go : Progress → Judged) → Goes Kept r → ((s : Progress) → Kept s → Tasked Shaped (go s))
+onward-keeps : (r : Step) (go : Progress → Judged) → Goes WithinLimits r → ((s : Progress) → WithinLimits s → Tasked Shaped (go s))
     → Tasked Shaped (onward r go)
 onward-keeps (stop r) go k h = tt
 onward-keeps (goes s) go k h = h s k
 
-lines-keep : (n : ℕ) (s : Progress) (ls : List Line) → Kept s → Tasked Shaped (readFrom n s ls)
+lines-keep : (n : ℕ) (s : Progress) (ls : List Line) → WithinLimits s → Tasked Shaped (readFrom n s ls)
 unfolding readFrom
 lines-keep n s [] k = end-keeps n s k
 lines-keep n s (l ∷ ls) k = onward-keeps (readLine n s l) (λ s′. readFrom (suc n) s′ ls) (line-goes n s l k) (λ s′ k′. lines-keep (suc n) s′ ls k′)

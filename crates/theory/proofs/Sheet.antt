@@ -11,7 +11,8 @@ use Rattle.model.specs.declared.Point.{Point}
 use Rattle.model.specs.declared.Point.the-variants.{Load, Store, Call, Ensure, Goto, Either, Return}
 use Rattle.model.specs.Basic.{largest, smallest}
 use Rattle.model.specs.Task.{Task, task, size, count, func, point, offsetFits}
-use Rattle.model.specs.Walk.{Walk, Met, Carries, Largest, Smallest, leads, never, loads, stores, touches, calls, called, is, isCall, isEnsure, returns, loaded, stored}
+use Rattle.model.specs.Walk.{Walk, Met, Carries, Largest, Smallest, leads, never, loads, stores, touches, calls, called, is, isCall, isEnsure}
+use Rattle.model.specs.Walk.{returns, loaded, stored}
 use Rattle.model.specs.Figures as model
 use Rattle.model.specs.Figures.{callees, after, kept}
 use Rattle.model.specs.Refusal.{judged}
@@ -20,7 +21,8 @@ use Rattle.model.specs.WellFormed.{WellFormed}
 use Rattle.theory.proofs.Accepted.{judged-as}
 use Rattle.theory.proofs.Links.{is-holds, closed, callee-later}
 use Rattle.theory.proofs.Figures.{Closed, InFrame, reached-walk, uninitialised-walk, dead-is, need-is, keptNext-is, high-entry-is}
-use Rattle.theory.proofs.Between.{CallsLater, mem-callees, longest-is, shortest-leaf, shortest-free, shortest-calls, entry-is, entry-zero, chain-is, chain-zero, overCalls-is}
+use Rattle.theory.proofs.Between.{CallsLater, mem-callees, longest-is, shortest-leaf, shortest-free, shortest-calls, entry-is, entry-zero}
+use Rattle.theory.proofs.Between.{chain-is, chain-zero, overCalls-is}
 
 -- of function f, x = func t f
 pub record OverWalksOf (t : Task) (f : ℕ) : Type 0 where

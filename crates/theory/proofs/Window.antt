@@ -182,7 +182,9 @@ module _ (t : Task) (s : Sheet) (w : WellFormed t) (r : Sound t s) where
       let l = callee-later (w .linked) (x .fn) (x .at) g (i .fn-in) (i .at-in) (ap called e) in
       window-reserve (movedTo (suc (x .at)) x ∷ fs) c g (l .1) (room-below x fs c g i b e u)
       (window-along x fs c (suc (x .at)) (x .numbers) i (rw e (List·Memᴰ·head refl)) (rw e tt) u)
-  window-step x fs c (Ensure k) v e i b u = rw (ensures-frame t w x k i e) (window-ensure x fs c (suc (x .at)) i (closed (w .linked) (x .fn) (x .at) (suc (x .at)) (i .fn-in) (i .at-in) (rw e (List·Memᴰ·head refl))) u)
+  window-step x fs c (Ensure k) v e i b u =
+      let m = closed (w .linked) (x .fn) (x .at) (suc (x .at)) (i .fn-in) (i .at-in) (rw e (List·Memᴰ·head refl)) in
+      rw (ensures-frame t w x k i e) (window-ensure x fs c (suc (x .at)) i m u)
   window-step x fs c (Goto q) v e i b u = window-along x fs c q (x .numbers) i (rw e (List·Memᴰ·head refl)) (rw e tt) u
   window-step x fs c (Either q r) v e i b u =
       by-test (λ (p : ℕ). Window t s (movedTo p x ∷ fs) c) (eqb v 0)

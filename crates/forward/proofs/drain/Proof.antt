@@ -3,20 +3,20 @@ use native.Mathlib.Omega.{arith}
 use mathlib.Core.Path.{_≡_}
 use Rattle.model.specs.Walk.{leads}
 use Rattle.tables.specs.Tables.{funcIn}
-use Rattle.forward.specs.Worklist.{progress, LastIs, Visits}
+use Rattle.forward.specs.Worklist.{worklistOf, LastIs, Visits}
 use Rattle.forward.proofs.List.{cost, Preserved, preserved-none, preserved-on, listed-last, preserved-visited}
 use Rattle.forward.proofs.drain.Statement.{statement}
 use Rattle.forward.proofs.drain.Tie as tie
 
 abbrev Inv-loop : tie.InvT-loop
 Inv-loop work s gens kills sets₀ state₀ worklist₀ first count₀ at₀ sets state worklist count at =
-    Visits (leads (funcIn work s)) gens kills (progress sets₀ state₀ worklist₀ first) (progress sets state worklist count)
-    × Preserved (s .size) (progress sets₀ state₀ worklist₀ first) (progress sets state worklist count)
+    Visits (leads (funcIn work s)) gens kills (worklistOf sets₀ state₀ worklist₀ first) (worklistOf sets state worklist count)
+    × Preserved (s .size) (worklistOf sets₀ state₀ worklist₀ first) (worklistOf sets state worklist count)
     × LastIs sets worklist count at
 
 abbrev μ-loop : tie.MeasureT-loop
 μ-loop work s gens kills sets₀ state₀ worklist₀ first count₀ at₀ sets state worklist count at =
-    cost (s .size) (progress sets state worklist count)
+    cost (s .size) (worklistOf sets state worklist count)
 
 pub drain-spec : {M : Type 1} → statement M
 drain-spec =

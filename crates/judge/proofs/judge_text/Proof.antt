@@ -13,9 +13,15 @@ judge-text-spec =
     (λ c κs. omega arith)
     (λ c. search needs)
     (λ c. search needs)
-    (λ c κs. let r = read-task (c .before .before .before .before .before .before .read-text .ensures) (c .before .before .h .given .1) in (r .2, read-shape _ (r .0)))
-    (λ c. search needs)
-    (λ c. unreadable _ (omega (arith, c .before .before .before .before .before .before .before .if1 .left)) (read-refused (c .before .before .before .before .before .read-text .ensures) (c .before .r .given .1)))
+    (λ c κs.
+    let r = read-task (c .before .before .before .before .before .before .read-text .ensures) (c .before .before .h .given .1) in
+    (r .2, read-shape _ (r .0)))
     (λ c. search needs)
     (λ c.
-    readable _ (omega (arith, c .before .before .before .before .before .before .before .before .before .if1 .left)) (read-task (c .before .before .before .before .before .before .before .read-text .ensures) (c .before .before .before .h .given .1)) (c .with-rows .ensures)))
+    let k = c .before .before .before .before .before in
+    unreadable _ (omega (arith, k .before .before .if1 .left)) (read-refused (k .read-text .ensures) (c .before .r .given .1)))
+    (λ c. search needs)
+    (λ c.
+    let k = c .before .before .before .before .before .before .before in
+    readable _ (omega (arith, k .before .before .if1 .left)) (read-task (k .read-text .ensures) (c .before .before .before .h .given .1))
+    (c .with-rows .ensures)))

@@ -17,7 +17,8 @@ task-rows-spec =
     let a = c .before .before .before .before in
     (a .pre .0, a .pre .1, linked (taskOf (a .args .work .now) (a .args .h)) (c .before .before .link-rows .ensures) (c .enum-told .given .1)))
     (λ c.
-    let a = c .before .before .before .before .before .args in link-first (taskOf (a .work .now) (a .h)) (c .before .before .before .link-rows .ensures) (c .before .links .given .1))
+    let a = c .before .before .before .before .before .args in
+    link-first (taskOf (a .work .now) (a .h)) (c .before .before .before .link-rows .ensures) (c .before .links .given .1))
     (λ c.
     let a = c .before .before .before .before .before .args in
     link-fine (taskOf (a .work .now) (a .h)) (c .before .before .before .link-rows .ensures) (c .before .enum-told .given .1) (c .walk-rows .ensures)))

@@ -11,5 +11,7 @@ with-rows-spec =
     (λ c κs. search needs)
     (λ c. search needs)
     (λ c. search needs)
-    (λ c. let a = c .before .before .before .before .before in rows-refuse (a .pre .0) (a .pre .1) (c .before .before .before .task-rows .ensures) (c .before .r .given .1))
+    (λ c.
+    let a = c .before .before .before .before .before in
+    rows-refuse (a .pre .0) (a .pre .1) (c .before .before .before .task-rows .ensures) (c .before .r .given .1))
     (λ c. let a = c .before .before .before .before in rows-accept (a .pre .0) (a .pre .1) (c .before .before .task-rows .ensures) (c .enum-told .given .1)))

@@ -14,6 +14,14 @@ Inv-loop n rest₀ k₀ rest k = (k ≤ 10) × (length (decimal n) + 1 ≡ k + l
 abbrev μ-loop : tie.MeasureT-loop
 μ-loop n rest₀ k₀ rest k = rest
 
+returns : tie.Need-returns Inv-loop μ-loop
+returns c = omega (arith, length-small (c .before .args .n) (omega arith))
+
+returns-2 : tie.Need-returns-2 Inv-loop μ-loop
+returns-2 c =
+    let n = c .before .before .args .n in
+    omega (arith, length-large n (omega arith), length-small (n / 10) (omega arith))
+
 loop-holds : tie.Need-loop-holds Inv-loop μ-loop
 loop-holds c = omega arith
 
@@ -26,11 +34,11 @@ loop-less c = omega arith
 loop-again : tie.Need-loop-again Inv-loop μ-loop
 loop-again c =
     let m = c .before .loop .rest in
-    omega (arith, length-large m (omega arith), decimal-some (m / 10), decimal-most (c .before .before .args .n) (omega arith))
+    omega (arith, length-large m (omega arith), decimal-some (m / 10), decimal-most (c .before .before .before .before .args .n) (omega arith))
 
-returns : tie.Need-returns Inv-loop μ-loop
-returns c = omega (arith, length-small (c .before .loop .rest) (omega arith))
+returns-3 : tie.Need-returns-3 Inv-loop μ-loop
+returns-3 c = omega (arith, length-small (c .before .loop .rest) (omega arith))
 
 pub number-length-spec : {M : Type 1} → statement M
 number-length-spec =
-    tie.close (tie.spec Inv-loop μ-loop loop-holds add-k loop-less loop-again returns)
+    tie.close (tie.spec Inv-loop μ-loop returns returns-2 loop-holds add-k loop-less loop-again returns-3)

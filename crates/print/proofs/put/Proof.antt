@@ -52,7 +52,7 @@ returns : tie.Need-returns Inv-loop μ-loop
 returns c =
     let l = c .before .loop in
     let a = c .before .before .args in
-    (omega arith, l .inv .2 ∙ paste-all (a .at) (a .w .now) (a .out .now) (l .i) (omega arith))
+    record { end = omega arith; buffer = l .inv .2 ∙ paste-all (a .at) (a .w .now) (a .out .now) (l .i) (omega arith) }
 
 pub put-spec : {M : Type 1} → statement M
 put-spec =

@@ -1,11 +1,11 @@
 -- `print::put_numbers` meets its contract. The loop's invariant: the first k numbers are written, and end at byte end.
-use Prim.Native.Nat.{_+_, _-_, _≤_}
+use Prim.Native.Nat.{_-_, _≤_}
 use mathlib.Core.Path.{_≡_, refl}
 use native.Mathlib.Omega.{arith}
 use lib.ListN.{length, take}
 use lib.Seq.{take-all}
-use Rattle.print.specs.Print.{pasted, spaced}
-use Rattle.print.proofs.Laws.{length-none, pasted-none, length-next, length-room, spaced-on}
+use Rattle.print.specs.Print.{Wrote, spaced}
+use Rattle.print.proofs.Laws.{spaced-none, length-room, spaced-on}
 use Rattle.print.proofs.put_numbers.Statement.{statement}
 use Rattle.print.proofs.put_numbers.Tie as tie
 
@@ -13,8 +13,7 @@ abbrev Inv-loop : tie.InvT-loop
 Inv-loop out₀ at numbers end₀ k₀ t6 out end k =
     (k ≤ length numbers)
     × (length out ≡ length out₀)
-    × (end ≡ at + length (spaced (take k numbers)))
-    × (out ≡ pasted at (spaced (take k numbers)) out₀)
+    × Wrote at (spaced (take k numbers)) out₀ end out
 
 abbrev μ-loop : tie.MeasureT-loop
 μ-loop out₀ at numbers end₀ k₀ t6 out end k = length numbers - k
@@ -22,7 +21,7 @@ abbrev μ-loop : tie.MeasureT-loop
 loop-holds : tie.Need-loop-holds Inv-loop μ-loop
 loop-holds c =
     let a = c .before .before .args in
-    (omega arith, refl, omega (arith, length-none), pasted-none (a .at) (a .out .now))
+    (omega arith, refl, spaced-none (a .at) (a .out .now))
 
 slice-aggregate-put : tie.Need-slice-aggregate-put Inv-loop μ-loop
 slice-aggregate-put c = refl
@@ -59,8 +58,7 @@ loop-again c =
     let n = c .before .before .put-number .ensures in (
       omega arith,
       omega arith,
-      omega (arith, length-next (a .numbers .now) (l .k) (omega arith)),
-      spaced-on (a .at) (l .end) _ (l .k) (a .numbers .now) (a .out .now) (l .out) _ _ (omega arith) (omega arith) (l .inv .2) (l .inv .3) (p .0) (p .1) (n .1),
+      spaced-on (l .k) (a .numbers .now) (omega arith) (omega arith) (l .inv .2) p n,
     )
 
 same-length : tie.Need-same-length Inv-loop μ-loop
@@ -71,7 +69,7 @@ returns c =
     let l = c .before .loop in
     let n = c .before .before .before .before .args .numbers .now in
     let e : take (l .k) n ≡ n = take-all (l .k) n (omega arith) in
-    (rw e at (l .inv .2), rw e at (l .inv .3))
+    rw e at (l .inv .2)
 
 pub put-numbers-spec : {M : Type 1} → statement M
 put-numbers-spec =

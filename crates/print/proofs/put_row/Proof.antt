@@ -1,7 +1,7 @@
 -- `print::put_row` meets its contract.
 use native.Mathlib.Omega.{arith}
 use borrow.Author.Needs.{needs}
-use Rattle.print.proofs.Laws.{length-row, row-written}
+use Rattle.print.proofs.Laws.{length-row, row-parts, wrote-on}
 use Rattle.print.proofs.put_row.Statement.{statement}
 use Rattle.print.proofs.put_row.Tie as tie
 
@@ -31,10 +31,8 @@ returns c =
     let a = c .before .before .before .before .before .before .before .before .before .before .before .before .before .before .before .before .args in
     let w = c .before .before .before .before .before .before .before .before .before .before .before .put .ensures in
     let n = c .before .before .before .before .before .before .before .put-numbers .ensures in
-    let e = c .before .before .put2 .ensures in (
-      omega (arith, length-row (a .word .now) (a .numbers .now)),
-      row-written (a .at) _ _ (a .word .now) (a .numbers .now) (a .out .now) _ _ _ (omega arith) (w .0) (w .1) (n .0) (n .1) (e .1),
-    )
+    let e = c .before .before .put2 .ensures in
+    rw (row-parts (a .word .now) (a .numbers .now)) (wrote-on (omega arith) (wrote-on (omega arith) w n) e)
 
 pub put-row-spec : {M : Type 1} → statement M
 put-row-spec =

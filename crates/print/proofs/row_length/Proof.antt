@@ -11,7 +11,7 @@ use Rattle.print.proofs.row_length.Statement.{statement}
 use Rattle.print.proofs.row_length.Tie as tie
 
 abbrev Inv-loop : tie.InvT-loop
-Inv-loop word numbers n₀ k₀ n k = (k ≤ length numbers) × (n ≡ word + 2 + length (spaced (take k numbers)))
+Inv-loop word numbers n₀ k₀ n k = (k ≤ length numbers) × (n ≡ length word + 2 + length (spaced (take k numbers)))
 
 abbrev μ-loop : tie.MeasureT-loop
 μ-loop word numbers n₀ k₀ n k = length numbers - k
@@ -32,13 +32,13 @@ number-length-requires : tie.Need-number-length-requires Inv-loop μ-loop
 number-length-requires c κs = search needs
 
 -- with the next number n is still small
-small : (c : tie.After-number-length Inv-loop μ-loop) → c .before .before .before .loop .n + (1 + c .number-length .result) ≤ 242
+small : (c : tie.After-number-length Inv-loop μ-loop) → c .before .before .before .loop .n + (1 + c .number-length .result) ≤ 194
 small c =
-    let numbers = c .before .before .before .before .before .args .numbers .now in
+    let numbers = c .before .before .before .before .before .before .args .numbers .now in
     omega (
       arith,
       length-room numbers (c .before .before .before .loop .k) (omega arith),
-      spaced-most numbers (λ k. (c .before .shared-slice-known2 .given k) .fits),
+      spaced-most numbers (λ k. (c .before .shared-slice-known3 .given k) .fits),
     )
 
 add-n-2 : tie.Need-add-n-2 Inv-loop μ-loop
@@ -55,14 +55,16 @@ loop-less c = omega arith
 
 loop-again : tie.Need-loop-again Inv-loop μ-loop
 loop-again c =
-    (omega arith, omega (arith, length-next (c .before .before .before .before .before .args .numbers .now) (c .before .before .before .loop .k) (omega arith)))
+    let numbers = c .before .before .before .before .before .before .args .numbers .now in
+    (omega arith, omega (arith, length-next numbers (c .before .before .before .loop .k) (omega arith)))
 
 returns : tie.Need-returns Inv-loop μ-loop
-returns c w e =
+returns c =
     let l = c .before .loop in
-    let numbers = c .before .before .before .args .numbers .now in
-    let n = rw (take-all (l .k) numbers (omega arith)) at (l .inv .1) in
-    omega (arith, length-row w numbers)
+    let a = c .before .before .before .before .args in
+    let n = rw (take-all (l .k) (a .numbers .now) (omega arith)) at (l .inv .1) in
+    let most = spaced-most (a .numbers .now) (λ k. (c .before .before .shared-slice-known2 .given k) .fits) in
+    omega (arith, length-row (a .word .now) (a .numbers .now))
 
 pub row-length-spec : {M : Type 1} → statement M
 row-length-spec =

@@ -4,12 +4,12 @@ use native.Mathlib.Omega.{arith}
 use lib.ListN.{length}
 use borrow.Author.Needs.{needs}
 use Rattle.reader.specs.Reading.{afterStack}
-use Rattle.reader.proofs.Laws.{Funcs, funcs-first, funcs-on, funcs-off, funcs-none, funcs-task}
+use Rattle.reader.proofs.Laws.{FuncsRead, funcs-first, funcs-on, funcs-off, funcs-none, funcs-task}
 use Rattle.reader.proofs.read_funcs.Statement.{statement}
 use Rattle.reader.proofs.read_funcs.Tie as tie
 
 abbrev Inv-loop : tie.InvT-loop
-Inv-loop text work₀ stack a at₀ h₀ work at h = Funcs (afterStack text stack a) text work₀ work at h
+Inv-loop text work₀ stack a at₀ h₀ work at h = FuncsRead (afterStack text stack a) text work₀ work at h
 
 abbrev μ-loop : tie.MeasureT-loop
 μ-loop text work₀ stack a at₀ h₀ work at h = length text - at .byte

@@ -1,11 +1,12 @@
--- Zeros are written from the front, one a turn.
+-- Zeros are written from the front, one a turn, where the working space is not too small.
 use Prim.Native.Nat.{_≤_, _<_, _-_}
-use mathlib.Core.Path.{_≡_, refl}
+use mathlib.Core.Path.{_≡_, refl, _∙_}
 use mathlib.Core.List.{_++_}
 use native.Mathlib.Omega.{arith}
 use borrow.Author.Fill.{fill-more}
 use Rattle.model.specs.Limits.{workLength}
 use lib.ListN.{length, drop, replicate, length-set}
+use Rattle.services.proofs.Laws.{cleared-short, cleared-full}
 use Rattle.services.proofs.clear.Statement.{statement}
 use Rattle.services.proofs.clear.Tie as tie
 
@@ -16,8 +17,11 @@ Inv-loop work₀ i₀ work i =
 abbrev μ-loop : tie.MeasureT-loop
 μ-loop work₀ i₀ work i = workLength - i
 
+returns : tie.Need-returns Inv-loop μ-loop
+returns c = cleared-short _ (omega (arith, c .if1 .taken))
+
 loop-holds : tie.Need-loop-holds Inv-loop μ-loop
-loop-holds c = (omega arith, omega arith, refl, refl)
+loop-holds c = (omega arith, omega (arith, c .if1 .left), refl, refl)
 
 mul-work : tie.Need-mul-work Inv-loop μ-loop
 mul-work c = omega arith
@@ -34,7 +38,7 @@ loop-less c = omega arith
 loop-again : tie.Need-loop-again Inv-loop μ-loop
 loop-again c =
     let l = c .before in
-    let w = l .before .args .work .now in
+    let w = l .before .before .args .work .now in
     let h : l .loop .i < length w = omega arith in (
       omega arith,
       omega arith,
@@ -45,10 +49,11 @@ loop-again c =
 same-length : tie.Need-same-length Inv-loop μ-loop
 same-length c = c .before .loop .inv .2
 
-returns : tie.Need-returns Inv-loop μ-loop
-returns c =
-    let e : c .before .loop .i ≡ workLength = omega arith in
-    rw e at (c .before .loop .inv .3)
+returns-2 : tie.Need-returns-2 Inv-loop μ-loop
+returns-2 c =
+    let l = c .before .loop in
+    let e : l .i ≡ workLength = omega arith in
+    rw e at (l .inv .3) ∙ cleared-full _ (l .inv .1)
 
 pub clear-spec : {M : Type 1} → statement M
 clear-spec =
@@ -56,6 +61,7 @@ clear-spec =
     (tie.spec
     Inv-loop
     μ-loop
+    returns
     loop-holds
     mul-work
     slice-write-work
@@ -63,4 +69,4 @@ clear-spec =
     loop-less
     loop-again
     same-length
-    returns)
+    returns-2)

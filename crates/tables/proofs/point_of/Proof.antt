@@ -22,7 +22,16 @@ returns-6 : tie.Need-returns-6
 returns-6 c = rw (c .match .keys6)
 
 returns-7 : tie.Need-returns-7
-returns-7 c = simp (ne-eqb _ _ (c .match .rest .0 .0 .0 .0 .0 .1), ne-eqb _ _ (c .match .rest .0 .0 .0 .0 .1), ne-eqb _ _ (c .match .rest .0 .0 .0 .1), ne-eqb _ _ (c .match .rest .0 .0 .1), ne-eqb _ _ (c .match .rest .0 .1), ne-eqb _ _ (c .match .rest .1))
+returns-7 c =
+    let k = c .match .rest .0 .0 in
+    simp (
+      ne-eqb _ _ (k .0 .0 .0 .1),
+      ne-eqb _ _ (k .0 .0 .1),
+      ne-eqb _ _ (k .0 .1),
+      ne-eqb _ _ (k .1),
+      ne-eqb _ _ (c .match .rest .0 .1),
+      ne-eqb _ _ (c .match .rest .1),
+    )
 
 pub point-of-spec : {M : Type 1} → statement M
 point-of-spec =

@@ -19,4 +19,5 @@ access-spec =
     (λ c κs. search needs)
     (λ c.
     let k = c .before .kill-of in
-    unloaded-passes (not-load (c .before .before .before .args .x) (c .before .before .match .keys2)) (k .ensures) (omega (arith, k .ok)) (c .difference-of .ensures)))
+    let l = not-load (c .before .before .before .args .x) (c .before .before .match .keys2) in
+    unloaded-passes l (k .ensures) (omega (arith, k .ok)) (c .difference-of .ensures)))

@@ -1,0 +1,4 @@
+pub mod Writes
+pub mod Values
+pub mod Callees
+pub mod Raises

@@ -1,0 +1,84 @@
+-- The numbers that the points are given, by the branches of the code.
+use Prim.Native.Nat.{ℕ, _+_, _-_, _≤_, _<_}
+use native.Mathlib.Omega.{arith}
+use mathlib.Core.Bool.{true, false}
+use mathlib.Core.List.{List, [], _∷_}
+use mathlib.Core.Path.{_≡_, refl}
+use lib.Dec.{ltb}
+use denote.Enum.Declared.{tagOf}
+use types.Run.{OneOf, miss}
+use borrow.Author.Tests.{lt-ltb, le-ltb}
+use Rattle.model.proofs.Point as P
+use Rattle.model.specs.declared.Point.{Point}
+use Rattle.model.specs.declared.Point.the-variants.{Load, Store, Call, Ensure, Goto, Either, Return}
+use Rattle.model.specs.Limits.{mostFuncs}
+use Rattle.model.specs.Walk.{called, ensured, present}
+use Rattle.theory.proofs.Lists.{by-test}
+use Rattle.tables.specs.declared.Header.{Header}
+use Rattle.tables.specs.declared.Span.{Span}
+use Rattle.tables.specs.Tables.{item}
+use Rattle.columns.specs.Columns.{longestColumn, shortestColumn, fillColumn}
+use Rattle.columns.specs.Values.{numbered, calleeAt, ensureAt, filledAt, keptAt, cutAt, chainedAt}
+
+-- a point that is no call, and one that is no ensure
+pub none-called : (x : Point) → OneOf (0 ∷ 1 ∷ 3 ∷ 4 ∷ 5 ∷ 6 ∷ []) (tagOf P.the-type x) → mostFuncs ≡ numbered (called x)
+none-called (Load o) h = refl
+none-called (Store o) h = refl
+none-called (Call g) h = absurd (miss (0 ∷ 1 ∷ 3 ∷ 4 ∷ 5 ∷ 6 ∷ []) 2 tt h)
+none-called (Ensure k) h = refl
+none-called (Goto p) h = refl
+none-called (Either p q) h = refl
+none-called Return h = refl
+
+pub none-ensured : (x : Point) → OneOf (0 ∷ 1 ∷ 2 ∷ 4 ∷ 5 ∷ 6 ∷ []) (tagOf P.the-type x) → false ≡ present (ensured x)
+none-ensured (Load o) h = refl
+none-ensured (Store o) h = refl
+none-ensured (Call g) h = refl
+none-ensured (Ensure k) h = absurd (miss (0 ∷ 1 ∷ 2 ∷ 4 ∷ 5 ∷ 6 ∷ []) 3 tt h)
+none-ensured (Goto p) h = refl
+none-ensured (Either p q) h = refl
+none-ensured Return h = refl
+
+-- by the branches
+module _ (w : List ℕ) (h : Header) (s : Span) (p : ℕ) where
+  pub fill-other : ensureAt w s p ≡ false → 0 ≡ filledAt w h s p
+  unfolding filledAt
+  fill-other e = rw e
+
+  pub fill-call : {g a r : ℕ} → ensureAt w s p ≡ true → g ≡ calleeAt w s (p - 1) → g < mostFuncs → a ≡ h .stack - item w (longestColumn + g)
+      → r ≡ s .frame - a → r ≡ filledAt w h s p
+  unfolding filledAt
+  fill-call {g} e i k b c = rw (e, ← i, lt-ltb g mostFuncs k, ← b) c
+
+  pub fill-past : {g : ℕ} → ensureAt w s p ≡ true → g ≡ calleeAt w s (p - 1) → mostFuncs ≤ g → 0 ≡ filledAt w h s p
+  unfolding filledAt
+  fill-past {g} e i k = rw (e, ← i, le-ltb g mostFuncs k)
+
+  pub kept-by : {a r : ℕ} → a ≡ item w (fillColumn + s .base + p) → r ≡ s .frame - a → r ≡ keptAt w s p
+  unfolding keptAt
+  kept-by e c = rw (← e) c
+
+  pub cut-call : {g r : ℕ} → g ≡ calleeAt w s p → g < mostFuncs → r ≡ h .stack - item w (shortestColumn + g) → r ≡ cutAt w h s p
+  unfolding cutAt
+  cut-call {g} i k c = rw (← i, lt-ltb g mostFuncs k) c
+
+  pub cut-stack : cutAt w h s p ≤ h .stack
+  unfolding cutAt
+  cut-stack = by-test (λ m. m ≤ h .stack) (ltb (calleeAt w s p) mostFuncs) (λ t. omega arith) (λ t. omega arith)
+
+  pub cut-past : {g : ℕ} → g ≡ calleeAt w s p → mostFuncs ≤ g → 0 ≡ cutAt w h s p
+  unfolding cutAt
+  cut-past {g} i k = rw (← i, le-ltb g mostFuncs k)
+
+module _ (w : List ℕ) (s : Span) (own p : ℕ) where
+  pub kept-frame : keptAt w s p ≤ s .frame
+  unfolding keptAt
+  kept-frame = omega arith
+
+  pub chained-more : {a : ℕ} → p + 1 < s .size → a ≡ keptAt w s (p + 1) → own + a ≡ chainedAt w s own p
+  unfolding chainedAt
+  chained-more k e = rw (lt-ltb (p + 1) (s .size) k, e)
+
+  pub chained-last : s .size ≤ p + 1 → 0 ≡ chainedAt w s own p
+  unfolding chainedAt
+  chained-last k = rw (le-ltb (p + 1) (s .size) k)

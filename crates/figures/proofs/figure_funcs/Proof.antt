@@ -1,0 +1,42 @@
+-- The loop works out the figures of one function a turn.
+use Prim.Native.Nat.{ℕ, _-_, _≤_}
+use native.Mathlib.Omega.{arith}
+use mathlib.Core.Path.{_≡_, subst}
+use Rattle.columns.specs.Columns.{Within}
+use Rattle.columns.proofs.Writes.{changed-none, changed-on}
+use Rattle.figures.specs.Steps.{pointColumns, Worked}
+use Rattle.figures.proofs.figure_funcs.Statement.{statement}
+use Rattle.figures.proofs.figure_funcs.Tie as tie
+
+abbrev Inv-loop : tie.InvT-loop
+Inv-loop work₀ h values₀ gens₀ kills₀ sets₀ state₀ out₀ n f₀ work values gens kills sets state out f =
+    (f ≤ n) × Worked work h f pointColumns × Within work₀ work
+
+abbrev μ-loop : tie.MeasureT-loop
+μ-loop work₀ h values₀ gens₀ kills₀ sets₀ state₀ out₀ n f₀ work values gens kills sets state out f = n - f
+
+loop-again : tie.Need-loop-again Inv-loop μ-loop
+loop-again c =
+    let d = c .before .before .figure-func .ensures in
+    (omega (arith, c .before .before .before .before .before .before .before .before .before .before .loop-test .taken), d .0, changed-on (c .before .before .before .before .before .before .before .before .before .before .before .loop .inv .2) (d .1))
+
+returns : tie.Need-returns Inv-loop μ-loop
+returns c =
+    let l = c .before .loop in
+    let h = c .before .before .before .args .h in
+    let e : l .f ≡ h .funcs = omega arith in
+    (subst (λ (n : ℕ). Worked (l .work) h n pointColumns) e (l .inv .1), l .inv .2)
+
+pub figure-funcs-spec : {M : Type 1} → statement M
+figure-funcs-spec =
+    tie.close
+    (tie.spec
+    Inv-loop
+    μ-loop
+    (λ c. (omega arith, c .before .pre, changed-none _ _ _))
+    (λ c κs. (c .before .before .before .before .before .before .before .before .loop .inv .1, omega (arith, c .before .before .before .before .before .before .before .loop-test .taken)))
+    (λ c. omega (arith, c .before .before .before .before .before .before .before .before .before .before .loop-test .taken, c .before .before .before .before .before .before .before .before .before .before .before .loop .inv .1 .ready .settled .holds .few))
+    (λ c. omega (arith, c .before .before .before .before .before .before .before .before .before .before .loop-test .taken))
+    loop-again
+    (λ c. c .before .loop .inv .2 .size)
+    returns)

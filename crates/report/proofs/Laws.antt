@@ -1,0 +1,125 @@
+-- The lines of the report by the figures that are read back, and the points of all functions together.
+use Prim.Native.Nat.{ℕ, zero, suc, _+_, _-_, _≤_, _<_, zero-le}
+use native.Mathlib.Omega.{arith}
+use native.Mathlib.Numerals.{add-one}
+use native.Mathlib.Nat.{add-zero}
+use mathlib.Core.Path.{_≡_, refl, ap, sym, _∙_}
+use mathlib.Core.List.{List, [], _∷_, _++_, map, append-assoc}
+use lib.ListN.{length, length-append}
+use Rattle.model.specs.Limits.{mostPoints, mostInAll}
+use Rattle.model.specs.Basic.{joined, upTo}
+use Rattle.model.specs.Text.{bytes}
+use Rattle.model.specs.Task.{Task}
+use Rattle.model.specs.Sheet as sheet
+use Rattle.model.specs.Sheet.{row, sheetOf, Record, recordAt, recordsIn, funcRow, pointRow, funcRows, reportWith, reportText}
+use Rattle.model.specs.Services.{over}
+use Rattle.tables.specs.declared.Header.{Header}
+use Rattle.tables.specs.declared.Span.{Span}
+use Rattle.tables.specs.Tables.{sizeAt, spanAt, taskOf, sum, Stacked, none, more}
+use Rattle.tables.specs.Valid.{Holds}
+use Rattle.tables.proofs.Laws.{size-is, count-is}
+use Rattle.tables.proofs.Valid.{settled-fits}
+use Rattle.print.specs.Print.{Wrote}
+use Rattle.print.proofs.Laws.{pasted-start, wrote-on}
+use Rattle.figures.specs.declared.PointFigures.{PointFigures}
+use Rattle.figures.specs.declared.FuncFigures.{FuncFigures}
+use Rattle.figures.specs.Figured.{Figured, figuredOf, funcFigures}
+use Rattle.report.specs.Report.{pointText, pointsText, headText, funcText, funcsText, InFunc}
+
+-- the line of a point, and of a function
+pub point-row : (t : Task) (f p : ℕ) (r : PointFigures) → figuredOf r ≡ sheetOf t .at f p
+    → row (bytes "  (at") (p ∷ r .high ∷ r .dead ∷ r .need ∷ r .save ∷ r .reload ∷ r .later ∷ r .chain ∷ r .cost ∷ r .fill ∷ []) ≡ pointText t f p
+unfolding pointRow
+point-row t f p r e = ap (λ (x : sheet.Figured). pointRow (record { fn = f; at = p; figures = x })) e
+
+pub func-row : (t : Task) (f : ℕ) (r : FuncFigures) → r ≡ funcFigures t f
+    → row (bytes "  (func") (f ∷ r .frame ∷ r .shortest ∷ r .longest ∷ r .spill ∷ r .chain ∷ []) ≡ headText t f
+unfolding funcRow funcFigures
+func-row t f r e = ap (λ (x : FuncFigures). row (bytes "  (func") (f ∷ x .frame ∷ x .shortest ∷ x .longest ∷ x .spill ∷ x .chain ∷ [])) e
+
+-- the lines of a function: its own, and those of its points
+joined-map : (g : Record → List ℕ) (k : ℕ → Record) (l : List ℕ) → joined g (map k l) ≡ joined (λ n. g (k n)) l
+unfolding joined
+joined-map g k [] = refl
+joined-map g k (n ∷ l) = ap (λ (r : List ℕ). g (k n) ++ r) (joined-map g k l)
+
+pub func-lines : (w : List ℕ) (h : Header) (f : ℕ) → f < h .funcs
+    → funcText (taskOf w h) f
+    ≡ headText (taskOf w h) f ++ pointsText (taskOf w h) f (sizeAt w f)
+unfolding funcRows recordsIn
+func-lines w h f l =
+    let t = taskOf w h in
+    ap
+    (λ (r : List ℕ). headText t f ++ r)
+    (joined-map pointRow (recordAt (sheetOf t) f) _ ∙ ap (pointsText t f) (size-is w h f l))
+
+-- the report: its first line, those of the functions, and its last
+pub report-lines : (w : List ℕ) (h : Header) → reportText (taskOf w h) ≡ bytes "(report\n" ++ funcsText (taskOf w h) (h .funcs) ++ bytes ")\n"
+unfolding reportWith
+report-lines w h =
+    let t = taskOf w h in
+    ap (λ (n : ℕ). bytes "(report\n" ++ (funcsText t n ++ bytes ")\n")) (count-is w h)
+    ∙ sym (append-assoc (bytes "(report\n") (funcsText t (h .funcs)) (bytes ")\n"))
+
+pub report-size : (w : List ℕ) (h : Header) → length (reportText (taskOf w h)) ≡ 10 + length (funcsText (taskOf w h) (h .funcs))
+report-size w h =
+    let l = funcsText (taskOf w h) (h .funcs) in
+    omega (arith, ap length (report-lines w h), length-append (bytes "(report\n" ++ l) (bytes ")\n"), length-append (bytes "(report\n") l)
+
+-- the points of the functions below f
+pub points-none : (w : List ℕ) → sum (sizeAt w) 0 ≡ 0
+unfolding sum
+points-none w = refl
+
+pub points-next : (w : List ℕ) (f : ℕ) → sum (sizeAt w) (f + 1) ≡ sum (sizeAt w) f + sizeAt w f
+unfolding sum
+points-next w f = rw add-one
+
+points-further : (w : List ℕ) (f n : ℕ) → sum (sizeAt w) f ≤ sum (sizeAt w) (f + n)
+points-further w f zero = rw (add-zero f) (omega arith)
+points-further w f (suc n) =
+    let e : f + suc n ≡ f + n + 1 = omega arith in
+    rw e (omega (arith, points-further w f n, points-next w (f + n)))
+
+points-all : {w : List ℕ} {n m : ℕ} → Stacked w n m → sum (sizeAt w) n ≡ m
+unfolding sum
+points-all none = refl
+points-all {w} (more {n} {m} k e) = ap (λ (x : ℕ). x + sizeAt w n) (points-all k)
+
+pub points-most : {w : List ℕ} {h : Header} → Holds w h → (f : ℕ) → f ≤ h .funcs → sum (sizeAt w) f ≤ mostInAll
+points-most {w} {h} k f l =
+    let e : f + (h .funcs - f) ≡ h .funcs = omega arith in
+    omega (arith, rw e at (points-further w f (h .funcs - f)), points-all (k .stacked), k .all)
+
+-- function f as it is read
+pub there : {w : List ℕ} {h : Header} {f : ℕ} {s : Span} → Figured w h → f < h .funcs → s ≡ spanAt w f → InFunc w h f s
+there k l e = record { figured = k; low = l; span = e }
+
+-- a function has few points
+pub size-low : {w : List ℕ} {h : Header} {f : ℕ} {s : Span} → InFunc w h f s → s .size ≤ mostPoints
+size-low {f = f} k = omega (arith, ap (λ (s : Span). s .size) (k .span), settled-fits (k .figured .settled) f (k .low) .small)
+
+-- the lines of a function, printed or counted as its own and those of its points
+module _ {w : List ℕ} {h : Header} {f : ℕ} {s : Span} (k : InFunc w h f s) where
+  lines-are : headText (taskOf w h) f ++ pointsText (taskOf w h) f (s .size) ≡ funcText (taskOf w h) f
+  lines-are =
+      let t = taskOf w h in
+      ap (λ (s : Span). headText t f ++ pointsText t f (s .size)) (k .span) ∙ sym (func-lines w h f (k .low))
+
+  pub func-size : length (funcText (taskOf w h) f)
+      ≡ length (headText (taskOf w h) f) + length (pointsText (taskOf w h) f (s .size))
+  func-size =
+      sym (ap length lines-are) ∙ length-append (headText (taskOf w h) f) (pointsText (taskOf w h) f (s .size))
+
+  pub func-wrote : {at e r : ℕ} {out o o′ : List ℕ} → at ≤ length out → Wrote at (headText (taskOf w h) f) out e o
+      → Wrote e (pointsText (taskOf w h) f (s .size)) o r o′ → Wrote at (funcText (taskOf w h) f) out r o′
+  func-wrote l a b = rw (← lines-are) (wrote-on l a b)
+
+-- the report, printed as its first line, those of the functions, and its last
+pub report-wrote : (w : List ℕ) (h : Header) {e r z : ℕ} {out o o′ o″ : List ℕ} → Wrote 0 (bytes "(report\n") out e o
+    → Wrote e (funcsText (taskOf w h) (h .funcs)) o r o′ → Wrote r (bytes ")\n") o′ z o″
+    → (z ≡ length (reportText (taskOf w h))) × (o″ ≡ over (reportText (taskOf w h)) out)
+report-wrote w h {z = z} {out = out} {o″ = o″} a b d =
+    let l = reportText (taskOf w h) in
+    let x : Wrote 0 l out z o″ = rw (report-lines w h) (wrote-on zero-le (wrote-on zero-le a b) d) in
+    (omega (arith, x .end), x .buffer ∙ pasted-start l out)

@@ -1,0 +1,68 @@
+-- The loop's invariant: the lines of the first p points are written, and end at byte end.
+use native.Mathlib.Omega.{arith}
+use Prim.Native.Nat.{_+_, _-_, _*_, _≤_}
+use mathlib.Core.Path.{_≡_, refl}
+use lib.ListN.{length}
+use Rattle.tables.specs.Tables.{taskOf}
+use Rattle.print.specs.Print.{Wrote}
+use Rattle.print.proofs.Laws.{none-wrote, next-wrote, next-room}
+use Rattle.report.specs.Report.{pointText, pointsText}
+use Rattle.report.proofs.Laws.{size-low}
+use borrow.Author.Needs.{needs}
+use Rattle.report.proofs.put_points.Statement.{statement}
+use Rattle.report.proofs.put_points.Tie as tie
+
+abbrev Inv-loop : tie.InvT-loop
+Inv-loop out₀ at work h f s size end₀ p₀ out end p =
+    (p ≤ s .size) × (length out ≡ length out₀) × Wrote at (pointsText (taskOf work h) f p) out₀ end out
+
+abbrev μ-loop : tie.MeasureT-loop
+μ-loop out₀ at work h f s size end₀ p₀ out end p = s .size - p
+
+loop-holds : tie.Need-loop-holds Inv-loop μ-loop
+loop-holds c =
+    let a = c .before .before .args in
+    (omega arith, refl, none-wrote (pointText (taskOf (a .work .now) (a .h)) (a .f)) (a .at) (a .out .now))
+
+put-point-requires : tie.Need-put-point-requires Inv-loop μ-loop
+put-point-requires c κs =
+    let start = c .before .before .before .before .before in
+    let a = start .args in
+    let g = pointText (taskOf (a .work .now) (a .h)) (a .f) in
+    (start .pre .0, omega arith, omega (arith, next-room g (c .before .before .loop .p) (a .s .size) (omega arith)))
+
+add-p : tie.Need-add-p Inv-loop μ-loop
+add-p c = omega (arith, size-low (c .before .before .before .before .before .before .before .before .pre .0))
+
+loop-less : tie.Need-loop-less Inv-loop μ-loop
+loop-less c = omega arith
+
+loop-again : tie.Need-loop-again Inv-loop μ-loop
+loop-again c =
+    let a = c .before .before .before .before .before .before .before .before .args in
+    let l = c .before .before .before .before .before .loop in
+    let g = pointText (taskOf (a .work .now) (a .h)) (a .f) in
+    (omega arith, omega arith, next-wrote g (l .p) (omega arith) (l .inv .2) (c .before .before .put-point .ensures))
+
+same-length : tie.Need-same-length Inv-loop μ-loop
+same-length c = omega arith
+
+returns : tie.Need-returns Inv-loop μ-loop
+returns c =
+    let l = c .before .loop in
+    let e : l .p ≡ c .before .before .before .before .args .s .size = omega arith in
+    rw e at (l .inv .2)
+
+pub put-points-spec : {M : Type 1} → statement M
+put-points-spec =
+    tie.close
+    (tie.spec
+    Inv-loop
+    μ-loop
+    loop-holds
+    put-point-requires
+    add-p
+    loop-less
+    loop-again
+    same-length
+    returns)

@@ -1,0 +1,29 @@
+-- By what the judgement is.
+use Rattle.services.proofs.Laws.{none-reported}
+use borrow.Author.Needs.{needs}
+use Rattle.services.proofs.reporting.report_judged.Statement.{statement}
+use Rattle.services.proofs.reporting.report_judged.Tie as tie
+
+report-task-requires : tie.Need-report-task-requires
+report-task-requires c κs = rw (c .before .before .before .judgement2 .given .1) at (c .before .before .before .before .before .before .before .pre)
+
+returns : tie.Need-returns
+returns c = rw (c .before .before .judgement .given .1, c .refused .ensures) (none-reported _ _ _)
+
+returns-2 : tie.Need-returns-2
+returns-2 c =
+    let e = c .before .before .before .before .before .before .before .before .judgement2 .given .1 in
+    rw e (c .before .before .before .before .report-task .ensures)
+
+pub report-judged-spec : {M : Type 1} → statement M
+report-judged-spec =
+    tie.close
+    (tie.spec
+    (λ c. search needs)
+    (λ c κs. search needs)
+    (λ c. search needs)
+    report-task-requires
+    returns
+    (λ c. search needs)
+    (λ c. search needs)
+    returns-2)

@@ -1,0 +1,108 @@
+-- The length of the line of a refusal, and what report returns and leaves as the answer to a text.
+use Prim.Native.Nat.{ℕ, zero, suc, _+_, _^_, _≤_, _<_}
+use mathlib.Core.Path.{_≡_, refl, ap, sym, _∙_}
+use mathlib.Core.List.{List, [], _∷_, _++_}
+use native.Mathlib.Decide.{decLe}
+use native.Mathlib.Omega.{arith}
+use native.Mathlib.Nat.{zero-add}
+use lib.ListN.{length, getD, drop, length-append, length-drop}
+use lib.Seq.{length-take-le}
+use Rattle.io.specs.Counts.{Counts}
+use borrow.Author.Tests.{lt-leb, le-leb}
+use Rattle.model.specs.declared.Refusal.{Refusal}
+use Rattle.model.specs.declared.Verdict.the-variants.{Accepted, Refused}
+use Rattle.model.specs.declared.WriteResult.{WriteResult}
+use Rattle.model.specs.Limits.{workLength}
+use Rattle.model.specs.Task.{Judged, refused, task}
+use Rattle.model.specs.Sheet.{row, reportText}
+use Rattle.model.specs.Refusal.{judged, withRows, judge, workRow, outputRows}
+use Rattle.model.specs.Services.{over, cleared, writtenAs, writtenOf, reportOf}
+use Rattle.print.specs.Print.{Wrote}
+use Rattle.print.proofs.Laws.{row-most, pasted-start}
+use Rattle.sheet.specs.Answer.{refusalLine, answered, answerOf, Answers, mostLine}
+
+-- a row of a word of eight bytes and two numbers of 32 bits
+
+numbers-small : (a b : ℕ) → a < 2 ^ 32 → b < 2 ^ 32 → (i : ℕ) → getD (a ∷ b ∷ []) i 0 < 2 ^ 32
+numbers-small a b h k zero = h
+numbers-small a b h k (suc zero) = k
+numbers-small a b h k (suc (suc i)) = omega arith
+
+pub row-fits : (w : List ℕ) (a b n : ℕ) → length w ≤ 8 → a < 2 ^ 32 → b < 2 ^ 32 → mostLine ≤ n → 0 + length (row w (a ∷ b ∷ [])) ≤ n
+row-fits w a b n l h k m = omega (arith, row-most w (a ∷ b ∷ []) (numbers-small a b h k))
+
+-- bytes written over the front of a buffer that is long enough leave its length
+pub length-over : (l out : List ℕ) → length l ≤ length out → length (over l out) ≡ length out
+unfolding over
+length-over l out h = omega (arith, length-append l (drop (length l) out), length-drop (length l) out)
+
+pub counts : (n : ℕ) (l : List ℕ) → n ≤ length l → Counts n l
+counts n l h = (h, sym (length-take-le n l h))
+
+-- a report that is not refused fits the output
+abbrev Fits : ℕ → Judged → Type 0
+Fits n (refused r) = Unit {0}
+Fits n (task t) = length (reportText t) ≤ n
+
+rows-fit : (n : ℕ) (j : Judged) → Fits n (withRows (outputRows reportText n) j)
+unfolding outputRows
+rows-fit n (refused r) = tt
+rows-fit n (task t) =
+    elim (decLe (length (reportText t)) n) [
+      | yes h ↦ rw (le-leb (length (reportText t)) n h) h
+      | no h ↦ rw (lt-leb (length (reportText t)) n (omega arith)) tt
+    ]
+
+report-fits : (text work output : List ℕ) → Fits (length output) (judge (workRow (length work)) (outputRows reportText (length output)) text)
+unfolding judge workRow
+report-fits text work output =
+    elim (decLe workLength (length work)) [
+      | yes h ↦ rw (le-leb workLength (length work) h) (rows-fit (length output) (judged text))
+      | no h ↦ rw (lt-leb workLength (length work) (omega arith)) tt
+    ]
+
+-- report leaves the answer that it judged, unless it is a refusal, which it says and leaves to be written
+module _ (work output : List ℕ) where
+  pub accepted-as : (j : Judged) → Fits (length output) j → writtenAs reportText j work output .result .verdict ≡ Accepted
+      → (writtenAs reportText j work output .result .written ≡ length (answered j))
+      × (writtenAs reportText j work output .output ≡ over (answered j) output)
+      × (length (answered j) ≤ length output)
+  unfolding answered
+  accepted-as (refused r) h e = let z : _≡_ {A = ℕ} 0 1 = cc in absurd (omega arith)
+  accepted-as (task t) h e = (refl, refl, h)
+
+  pub refused-as : (j : Judged) {q : Refusal} → writtenAs reportText j work output .result .verdict ≡ Refused q
+      → (refusalLine q ≡ answered j) × (writtenAs reportText j work output .output ≡ output)
+  unfolding answered
+  refused-as (refused r) {q} e = let z : q ≡ r = cc in (ap refusalLine z, refl)
+  refused-as (task t) e = let z : _≡_ {A = ℕ} 0 1 = cc in absurd (omega arith)
+
+-- the same of what report returns, r, and leaves
+module _ (text work output : List ℕ) {r : WriteResult} {o w : List ℕ}
+    (a : r ≡ reportOf text work output .result) (b : o ≡ reportOf text work output .output) (c : w ≡ reportOf text work output .work) where
+  work-as : (j : Judged) → writtenAs reportText j (cleared work) output .work ≡ cleared work
+  work-as (refused q) = refl
+  work-as (task t) = refl
+
+  pub report-answers : r .verdict ≡ Accepted → Answers text output work (r .written) o w × Counts (r .written) o
+  unfolding writtenOf answerOf
+  report-answers e =
+      let j = judge (workRow (length work)) (outputRows reportText (length output)) text in
+      let k = accepted-as (cleared work) output j (report-fits text work output) (sym (ap (λ (x : WriteResult). x .verdict) a) ∙ e) in
+      let n = ap (λ (x : WriteResult). x .written) a ∙ k .0 in
+      let s = ap length (b ∙ k .1) ∙ length-over (answered j) output (k .2) in
+      (record { size = n; buffer = b ∙ k .1; emptied = c ∙ work-as j }, counts (r .written) o (omega (arith, k .2)))
+
+  pub refusal-answers : {q : Refusal} {n : ℕ} {o′ : List ℕ} → r .verdict ≡ Refused q → Wrote 0 (refusalLine q) o n o′ → n ≤ length o′
+      → Answers text output work n o′ w × Counts n o′
+  unfolding writtenOf answerOf
+  refusal-answers {q} {n} {o′} e p h =
+      let j = judge (workRow (length work)) (outputRows reportText (length output)) text in
+      let k = refused-as (cleared work) output j (sym (ap (λ (x : WriteResult). x .verdict) a) ∙ e) in (
+        record {
+          size = p .end ∙ zero-add (length (refusalLine q)) ∙ ap length (k .0);
+          buffer = p .buffer ∙ pasted-start (refusalLine q) o ∙ rw (k .0, b ∙ k .1);
+          emptied = c ∙ work-as j;
+        },
+        counts n o′ h,
+      )

@@ -1,0 +1,26 @@
+-- A report stands in the output already; the line of a refusal is written over its front.
+use borrow.Author.Needs.{needs}
+use Rattle.sheet.proofs.Laws.{report-answers, refusal-answers}
+use Rattle.sheet.proofs.answer.Statement.{statement}
+use Rattle.sheet.proofs.answer.Tie as tie
+
+pub answer-spec : {M : Type 1} → statement M
+answer-spec =
+    tie.close
+    (tie.spec
+    (λ c κs. search needs)
+    (λ c. search needs)
+    (λ c. search needs)
+    (λ c. search needs)
+    (λ c κs. search needs)
+    (λ c. search needs)
+    (λ c. search needs)
+    (λ c.
+    let e = c .before .before .before .before .before .before .before .report .ensures in
+    report-answers _ _ _ (e .0) (e .1 .1) (e .1 .0) (c .before .enum-told .given .1))
+    (λ c. search needs)
+    (λ c. search needs)
+    (λ c.
+    let e = c .before .before .before .before .before .before .before .before .before .before .before .report .ensures in
+    let p = c .before .before .put-refusal .ensures in
+    refusal-answers _ _ _ (e .0) (e .1 .1) (e .1 .0) (c .before .before .before .before .before .verdict .given .1) (p .0) (p .1)))
