@@ -2,33 +2,29 @@
 use Prim.Native.Nat.{ℕ, zero, suc, _-_, _≤_, _<_}
 use mathlib.Core.Bool.{Bool, true, false, not, _||_}
 use mathlib.Core.List.{List, _∷_}
-use mathlib.Core.Option.{Option, some}
-use mathlib.Core.Path.{_≡_, refl, ap, sym, subst, _∙_}
+use mathlib.Core.Option.{some}
+use mathlib.Core.Path.{_≡_, refl, ap, sym, _∙_}
 use native.Mathlib.Omega.{arith}
 use lib.Dec.{eqb, leb}
-use lib.ListN.{length, replicate}
 use borrow.Author.Tests.{eq-eqb, ne-eqb, le-leb, lt-leb}
 use Rattle.model.specs.declared.Point.{Point}
 use Rattle.model.specs.declared.Verdict.{Verdict}
 use Rattle.model.specs.declared.Verdict.the-variants as verdict
 use Rattle.model.specs.declared.Row.the-variants.{AfterFinish, Kind, Choice}
-use Rattle.model.specs.Basic.{if_then_else_, unless, _orElse_}
 use Rattle.model.specs.Rows.{refuse, rowVerdict}
 use Rattle.model.specs.Task.{Task, func, point}
 use Rattle.model.specs.Core.{Core}
 use Rattle.model.specs.Refusal.{isEither, eventRows}
 use Rattle.model.specs.Sheet.{sheetOf}
 use Rattle.model.specs.Plain.{Frame, Act, takes, preempted, act}
-use Rattle.model.specs.Run as run
-use Rattle.model.specs.Run.{Place, runningPlace, stepTurn, preemptTurn, stepBound, turnAt, turn, eventBound}
-use Rattle.theory.proofs.Frames.{places}
+use Rattle.model.specs.Run.{Place, runningPlace, stepTurn, stepBound, turnAt, turn, eventBound}
 use Rattle.tables.specs.declared.Header.{Header}
 use Rattle.tables.specs.Tables.{taskOf}
 use Rattle.machine.specs.Moves.{coreOf}
 use Rattle.turns.specs.declared.State.{State}
 use Rattle.turns.specs.declared.Turned.{Turned}
 use Rattle.turns.specs.Frames.{placesIn, framesFrom, framesOf, stateOf}
-use Rattle.turns.specs.Turns.{Stays, Does, Steps, Preempts, Turns, actOf}
+use Rattle.turns.specs.Turns.{Stays, Steps, Preempts, Turns, actOf}
 use Rattle.turns.proofs.Laws.{frames-some, stays-same}
 use Rattle.turns.proofs.Given.{top-of}
 
@@ -53,7 +49,9 @@ module _ (w : List ℕ) (h : Header) (x : State) (cache memory : List ℕ) (some
   turn-of a =
       ap (λ (fs : List Place). turnAt t (sheetOf t) fs (coreOf (x .machine) cache memory) a) (frames-some w (x .depth) (x .f) (x .p) some)
 
-  pub step-turns : {r : Turned} {w′ cache′ memory′ : List ℕ} (y : Point) (k v : ℕ) → point (func t (x .f)) (x .p) ≡ y → k ≡ 0 → Steps t x y v w cache memory r w′ cache′ memory′ → Stays w w′
+  pub step-turns : {r : Turned} {w′ cache′ memory′ : List ℕ} (y : Point) (k v : ℕ) → point (func t (x .f)) (x .p) ≡ y → k ≡ 0
+      → Steps t x y v w cache memory r w′ cache′ memory′
+      → Stays w w′
       → Turns w h x cache memory (actOf k v) r w′ cache′ memory′
   unfolding eventBound
   step-turns y k v i e d s =
@@ -70,7 +68,9 @@ module _ (w : List ℕ) (h : Header) (x : State) (cache memory : List ℕ) (some
         stays = s;
       })
 
-  pub preempt-turns : {r : Turned} {cache′ memory′ : List ℕ} (k v : ℕ) → (k ≡ 0 → ⊥) → Preempts t x v w cache memory r cache′ memory′ → Turns w h x cache memory (actOf k v) r w cache′ memory′
+  pub preempt-turns : {r : Turned} {cache′ memory′ : List ℕ} (k v : ℕ) → (k ≡ 0 → ⊥)
+      → Preempts t x v w cache memory r cache′ memory′
+      → Turns w h x cache memory (actOf k v) r w cache′ memory′
   unfolding eventBound
   preempt-turns k v n d =
       rw (act-preempt k v n)

@@ -10,7 +10,7 @@ use lib.ListN.{length}
 use Rattle.model.specs.declared.Point.{Point}
 use Rattle.model.specs.declared.Point.the-variants.{Load, Store, Call, Ensure}
 use Rattle.model.specs.Limits.{mostFuncs, mostPoints, mostInAll}
-use Rattle.model.specs.Task.{Task, size, count, func, point}
+use Rattle.model.specs.Task.{Task, size, func, point}
 use Rattle.model.specs.Walk.{called, touches}
 use Rattle.model.specs.Sheet.{sheetOf}
 use Rattle.model.specs.Plain.{Frame}
@@ -29,7 +29,7 @@ use Rattle.tables.proofs.Laws.{size-is, frame-is, point-is, count-is, stacked-w
 use Rattle.machine.specs.Moves.{coreOf, mostAddress, Good}
 use Rattle.machine.proofs.Kept.{window-good, window-frame}
 use Rattle.turns.specs.declared.State.{State}
-use Rattle.turns.specs.Frames.{framesEnd, placesIn, framesFrom, framesOf}
+use Rattle.turns.specs.Frames.{placesIn, framesFrom}
 use Rattle.turns.specs.Turns.{Runs, Placed, Reaches, Inside, Enters, Leaves, Stands}
 use Rattle.turns.proofs.Laws.{inside-small}
 
@@ -165,19 +165,22 @@ module _ {w : List ℕ} {h : Header} {x : State} {cache memory : List ℕ} {s : 
 
   pub call-given : {g : ℕ} → y ≡ Call g → Enters w h x cache memory g
   call-given {g} e =
+      let r = k .runs in
       let some = k .inside .some in
+      let t = taskOf w h in
+      let m = formed r some in
       let i = k .here ∙ e in
-      let j = top-in (k .runs) some in
-      let l = callee-later (formed (k .runs) some .linked) (x .f) (x .p) g (j .fn-in) (j .at-in) (ap called i) in
+      let j = top-in r some in
+      let l = callee-later (m .linked) (x .f) (x .p) g (j .fn-in) (j .at-in) (ap called i) in
       record {
-        figured = k .runs .figured;
+        figured = r .figured;
         some = some;
-        few = depth-few (k .runs) some;
-        fn-in = omega (arith, k .inside .fn-in, k .runs .figured .settled .holds .few);
+        few = depth-few r some;
+        fn-in = k .inside .fn-in;
         small = inside-small (k .inside);
         callee = omega (arith, l .1, count-is w h);
-        good = runs-good (k .runs) some;
-        room = room-below (taskOf w h) _ (formed (k .runs) some) (k .runs .sound) (frame (k .runs) some) _ _ g j (top-below (k .runs) some) i (runs-top (k .runs) some .window);
+        good = runs-good r some;
+        room = room-below t (sheetOf t) m (r .sound) (frame r some) _ _ g j (top-below r some) i (runs-top r some .window);
       }
 
   -- the frame that runs lies in the memory

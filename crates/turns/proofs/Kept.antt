@@ -1,5 +1,5 @@
 -- What an event keeps: the task, its figures, and a state that a run can be in. A loop over events cites these laws.
-use Prim.Native.Nat.{ℕ, zero, suc, _+_, _-_, _≤_, _<_}
+use Prim.Native.Nat.{ℕ, zero, suc, _+_, _≤_, _<_}
 use mathlib.Core.List.{List, [], _∷_}
 use mathlib.Core.Option.{none}
 use mathlib.Core.Path.{_≡_, refl, ap, sym, subst, _∙_}
@@ -9,7 +9,7 @@ use Rattle.model.specs.Limits.{mostStack, mostFuncs, mostInAll}
 use Rattle.model.specs.declared.Point.{Point}
 use Rattle.model.specs.declared.Point.the-variants.{Load, Store, Call, Ensure, Goto, Either, Return}
 use Rattle.model.specs.Refusal.{eventRows}
-use Rattle.model.specs.Task.{Task, size, count, func, point}
+use Rattle.model.specs.Task.{Task, size, func, point}
 use Rattle.model.specs.Walk.{called}
 use Rattle.model.specs.Core.{Core, idle}
 use Rattle.model.specs.Figures as model
@@ -27,9 +27,9 @@ use Rattle.theory.proofs.Lawful.{sound}
 use Rattle.theory.proofs.Prices.{price-blocks}
 use Rattle.tables.specs.declared.Header.{Header}
 use Rattle.tables.specs.Layout.{firstTable, secondTable, frameTable, baseTable, sizeTable}
-use Rattle.tables.specs.Tables.{item, pointOf, pointAt, frameAt, baseAt, sizeAt, taskOf}
-use Rattle.tables.specs.Valid.{Holds, Settled}
-use Rattle.tables.proofs.Laws.{size-is, count-is, stacked-within}
+use Rattle.tables.specs.Tables.{item, pointOf, baseAt, sizeAt, taskOf}
+use Rattle.tables.specs.Valid.{Holds}
+use Rattle.tables.proofs.Laws.{stacked-within}
 use Rattle.tables.proofs.Writes.{Agree}
 use Rattle.tables.proofs.Valid.{task-same, settled-same}
 use Rattle.figures.specs.Columns.{columnsEnd, Points, Funcs}
@@ -156,15 +156,15 @@ module _ {w : List ℕ} {h : Header} {x : State} {cache memory : List ℕ} (k : 
   -- after an event that no row refuses a run can go on
   pub goes-on : Goes k a r w′ cache′ memory′
   goes-on =
-      let f = fair-event t (sheetOf t) (k .figured .settled .formed) (k .sound) (k .frames) (coreOf (x .machine) cache memory) a (k .running .standing) (k .running) in
+      let m = k .figured .settled .formed in
+      let o = coreOf (x .machine) cache memory in
+      let f = fair-event t (sheetOf t) m (k .sound) (k .frames) o a (k .running .standing) (k .running) in
+      let n = few-event t (sheetOf t) m (k .frames) o a (k .running .standing) (k .running .window) in
+      let e = task-stays (k .figured .settled .holds) (u .stays) in
       let fs = afterEvent t (k .frames) a in
       let c = coreOf (r .state .machine) cache′ memory′ in
-      let e = task-stays (k .figured .settled .holds) (u .stays) in
-      let here : Running t (sheetOf t) (k .sound .ground) fs c
-      = subst (λ (z : Core). Running t (sheetOf t) (k .sound .ground) fs z) (sym (ap (λ (z : run.Turn). z .state .core) turn-plain)) (f .runs) in
+      let here = subst (Running t (sheetOf t) (k .sound .ground) fs) (sym (ap (λ (z : run.Turn). z .state .core) turn-plain)) (f .runs) in
       let there = subst (λ (z : Task). (i : Sound z (sheetOf z)) × Running z (sheetOf z) (i .ground) fs c) (sym e) (k .sound, here) in
-      let n = few-event t (sheetOf t) (k .figured .settled .formed) (k .frames) (coreOf (x .machine) cache memory) a (k .running .standing) (k .running .window) in
-      let small = k .figured .settled .formed .shaped .stack-high in
       record {
         runs = record {
           figured = figured-same (k .figured) (u .stays);
@@ -176,8 +176,8 @@ module _ {w : List ℕ} {h : Header} {x : State} {cache memory : List ℕ} (k : 
         frames = refl;
         task = e;
         bound = u .bound (k .frames) (k .same);
-        out-few = omega (arith, ap (λ (z : run.Turn). z .out) turn-plain, n .out, small);
-        back-few = omega (arith, ap (λ (z : run.Turn). z .back) turn-plain, n .back, small);
+        out-few = omega (arith, ap (λ (z : run.Turn). z .out) turn-plain, n .out, m .shaped .stack-high);
+        back-few = omega (arith, ap (λ (z : run.Turn). z .back) turn-plain, n .back, m .shaped .stack-high);
       }
 
 -- ---- the first state

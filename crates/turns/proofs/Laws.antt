@@ -17,7 +17,6 @@ use Rattle.model.specs.Task.{Task, count, func}
 use Rattle.model.specs.Core.{Core, reserve, idle, ensure, preempt, filledWith, saveMoves, resumeMoves}
 use Rattle.model.specs.Figures.{longest}
 use Rattle.model.specs.Sheet.{Figured, sheetOf}
-use Rattle.model.specs.Run as run
 use Rattle.model.specs.Run.{Place, onwards}
 use Rattle.theory.proofs.Window.{frame-room}
 use Rattle.tables.specs.declared.Header.{Header}
@@ -84,22 +83,26 @@ moved-does x r p o b n w cache memory c h d e f k a i j l =
 
 -- a caller written behind n others
 module _ (w : List ℕ) (n f p : ℕ) where
+  abbrev first : ℕ
+  first = framesAt + 2 * n
+
+  unwritten : (j : ℕ) → (j ≡ first → ⊥) → (j ≡ first + 1 → ⊥) → item (putCaller w n f p) j ≡ item w j
+  unwritten j h k = elsewhere (set w first f) (first + 1) j p k ∙ elsewhere w first j f h
+
   places-below : (m : ℕ) → m ≤ n → placesIn (putCaller w n f p) m ≡ placesIn w m
   unfolding placesIn
   places-below zero h = refl
   places-below (suc m) h =
-      let apart : (j : ℕ) → j < framesAt + 2 * n → item (putCaller w n f p) j ≡ item w j
-      = λ j l. elsewhere (set w (framesAt + 2 * n) f) (framesAt + 2 * n + 1) j p (λ e. omega arith) ∙ elsewhere w (framesAt + 2 * n) j f (λ e. omega arith) in
-      let a = apart (framesAt + 2 * m) (omega arith) in
-      let b = apart (framesAt + 2 * m + 1) (omega arith) in
+      let a = unwritten (framesAt + 2 * m) (λ e. omega arith) (λ e. omega arith) in
+      let b = unwritten (framesAt + 2 * m + 1) (λ e. omega arith) (λ e. omega arith) in
       let r = places-below m (omega arith) in
       λ i. record { fn = a i; at = b i } ∷ r i
 
-  pub caller-put : framesAt + 2 * n + 1 < length w → placesIn (putCaller w n f p) (suc n) ≡ record { fn = f; at = p } ∷ placesIn w n
+  caller-put : first + 1 < length w → placesIn (putCaller w n f p) (suc n) ≡ record { fn = f; at = p } ∷ placesIn w n
   unfolding placesIn
   caller-put h =
-      let a = elsewhere (set w (framesAt + 2 * n) f) (framesAt + 2 * n + 1) (framesAt + 2 * n) p (λ e. omega arith) ∙ here w (framesAt + 2 * n) f (omega arith) in
-      let b = here (set w (framesAt + 2 * n) f) (framesAt + 2 * n + 1) p (simp length-set h) in
+      let a = elsewhere (set w first f) (first + 1) first p (λ e. omega arith) ∙ here w first f (omega arith) in
+      let b = here (set w first f) (first + 1) p (simp length-set h) in
       let r = places-below n (omega arith) in
       λ i. record { fn = a i; at = b i } ∷ r i
 
@@ -108,14 +111,10 @@ module _ (w : List ℕ) (n f p : ℕ) where
   caller-stays h w′ e =
       rw e
       (record {
-        below = λ i l.
-            elsewhere (set w (framesAt + 2 * n) f) (framesAt + 2 * n + 1) i p (λ j. omega arith)
-            ∙ elsewhere w (framesAt + 2 * n) i f (λ j. omega arith);
+        below = λ i l. unwritten i (λ j. omega arith) (λ j. omega arith);
         kept = record {
           size = simp length-set;
-          past =
-              drop-set-lt framesEnd (set w (framesAt + 2 * n) f) (framesAt + 2 * n + 1) p (omega arith)
-              ∙ drop-set-lt framesEnd w (framesAt + 2 * n) f (omega arith);
+          past = drop-set-lt framesEnd (set w first f) (first + 1) p (omega arith) ∙ drop-set-lt framesEnd w first f (omega arith);
         };
       })
 
@@ -171,15 +170,15 @@ unfolding funcFigures
 callee-is t r f g e j = (ap (λ (z : FuncFigures). z .frame) e ∙ ap (λ z. func t z .frame) j, ap (λ (z : FuncFigures). z .spill) e ∙ ap (sheetOf t .spill) j)
 
 -- the running frame of a call goes on behind the callee, which is entered
-pub enters-does : (t : Task) (x : State) (q : FuncFigures) (e : Moved) (w w′ cache memory memory′ : List ℕ) (i f g v : ℕ) → 0 < x .depth → x .depth ≤ mostFuncs
-    → framesEnd ≤ length w → q ≡ funcFigures t i → i ≡ g → f ≡ g → w′ ≡ putCaller w (x .depth - 1) (x .f) (x .p + 1)
+pub enters-does : (t : Task) (x : State) (q : FuncFigures) (e : Moved) (w w′ cache memory memory′ : List ℕ) (f g v : ℕ) → 0 < x .depth → x .depth ≤ mostFuncs
+    → framesEnd ≤ length w → q ≡ funcFigures t f → f ≡ g → w′ ≡ putCaller w (x .depth - 1) (x .f) (x .p + 1)
     → machine.Does e cache memory′ (reserve (q .frame) (coreOf (x .machine) cache memory))
     → Steps t x (Call g) v w cache memory
     (record { state = record { depth = x .depth + 1; f = f; p = 0; machine = e .machine }; answer = 0; out = e .blocks; back = 0; bound = q .spill })
     w′ cache memory′
-enters-does t x q e w w′ cache memory memory′ i f g v h l u b j k a d =
+enters-does t x q e w w′ cache memory memory′ f g v h l u b k a d =
     let c = coreOf (x .machine) cache memory in
-    let n = callee-is t q i g b j in
+    let n = callee-is t q f g b k in
     call-does x _ w w′ cache memory′ g _ _ _ h l u a refl k refl
     (d .core ∙ ap (λ (z : ℕ). reserve z c .core) (n .0)) refl (d .blocks ∙ ap (λ (z : ℕ). reserve z c .blocks) (n .0)) refl (n .1)
 

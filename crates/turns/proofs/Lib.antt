@@ -1,4 +1,5 @@
--- Laws: what the functions of this crate return, by the model's turns. Kept: what an event keeps, and what a loop over events cites.
+-- Laws: what the functions of this crate return, by the model's turns. Given: what each asks, from a state that a run can be in. Events: from a step
+-- and a preemption to an event, and its rows. Kept: what a loop over events cites.
 pub mod Laws
 pub mod Given
 pub mod Events

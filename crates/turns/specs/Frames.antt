@@ -3,9 +3,11 @@
 use Prim.Native.Nat.{ℕ, zero, suc, _+_, _*_}
 use mathlib.Core.List.{List, [], _∷_}
 use lib.ListN.{set}
+use Rattle.model.specs.Limits.{mostFuncs}
 use Rattle.model.specs.Run as run
 use Rattle.model.specs.Run.{Place}
 use Rattle.tables.specs.Tables.{item}
+use Rattle.figures.specs.Columns.{columnsEnd}
 use Rattle.machine.specs.Moves.{coreOf}
 use Rattle.turns.specs.declared.State.{State}
 use Rattle.turns.specs.declared.Turned.{Turned}
@@ -13,10 +15,10 @@ use Rattle.turns.specs.declared.Turned.{Turned}
 -- where the callers begin, and where there are no more: two numbers for each, its function and its point. The code has the first as a constant of
 -- Frames
 abbrev pub framesAt : ℕ
-framesAt = 8640
+framesAt = columnsEnd
 
 abbrev pub framesEnd : ℕ
-framesEnd = 8768
+framesEnd = framesAt + 2 * mostFuncs
 
 -- caller n of the working space, the space with another one there, and the first n callers, the last called one first
 abbrev pub callerAt : List ℕ → ℕ → Place

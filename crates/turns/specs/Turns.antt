@@ -102,7 +102,7 @@ pub record Enters (w : List ℕ) (h : Header) (x : State) (cache memory : List �
   pub figured : Figured w h
   pub some : 0 < x .depth
   pub few : x .depth ≤ mostFuncs
-  pub fn-in : x .f < mostFuncs
+  pub fn-in : x .f < h .funcs
   pub small : x .p < mostPoints
   pub callee : g < h .funcs
   pub good : Good (coreOf (x .machine) cache memory)

@@ -178,14 +178,15 @@ fn call_step(
     ensures { λ r. ⌜ ((v : ℕ) → Steps (taskOf (now (work .entry)) h) x (Call g) v (now (work .entry)) (now (cache .entry)) (now (memory .entry))
         r (now (work .exit)) (now (cache .entry)) (now (memory .exit))) × Stays (now (work .entry)) (now (work .exit)) ⌝ }
 {
-    let callee = figures::func_figures(work, h, wide(g));
+    let f = wide(g);
+    let callee = figures::func_figures(work, h, f);
     put_caller(work, x.depth - 1, x.f, x.p + 1);
     let machine = x.machine;
     let moved = machine.reserve(cache, memory, callee.frame);
     let entered = moved.machine;
     let state = State {
         depth: x.depth + 1,
-        f: wide(g),
+        f,
         p: 0,
         machine: entered,
     };

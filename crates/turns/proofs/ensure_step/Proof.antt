@@ -6,14 +6,17 @@ use Rattle.turns.proofs.ensure_step.Statement.{statement}
 use Rattle.turns.proofs.ensure_step.Tie as tie
 
 returns : tie.Need-returns
-returns c = λ v. ensure-does _ _ _ _ _ _ _ v (c .before .before .before .before .before .before .before .before .before .before .before .pre .0 .some) (c .before .before .before .before .before .before .before .point-figures .ensures) _ _ _ (omega arith) (c .before .before .before .before .ensure .ensures)
+returns c =
+    let e = c .before .before .before .before in
+    let f = e .before .before .before in
+    let s = f .before .before .before .before in
+    λ v. ensure-does _ _ (f .point-figures .result) _ _ _ _ v (s .pre .0 .some) (f .point-figures .ensures) _ _ _ (omega arith) (e .ensure .ensures)
+
+add-t15 : tie.Need-add-t15
+add-t15 c =
+    let f = c .before .before .before .before .before .before .before in
+    let s = f .before .before .before .before in
+    omega (arith, inside-small (s .pre .0))
 
 pub ensure-step-spec : {M : Type 1} → statement M
-ensure-step-spec =
-    tie.close
-    (tie.spec
-    (λ c κs. search needs)
-    (λ c κs. search needs)
-    (λ c. omega (arith, inside-small (c .before .before .before .before .before .before .before .before .before .before .before .pre .0)))
-    (λ c. search needs)
-    returns)
+ensure-step-spec = tie.close (tie.spec (λ c κs. search needs) (λ c κs. search needs) add-t15 (λ c. search needs) returns)

@@ -10,16 +10,31 @@ use Rattle.turns.proofs.event_row.Tie as tie
 
 returns-5 : tie.Need-returns-5
 returns-5 c =
-    let s = c .before .before .before .before .before .before .before .before .before .before .before in
-    let e = placed-is (s .pre) (omega arith) _ _ (c .before .before .before .before .span-at .ensures) (c .before .before .point-at .ensures) in
+    let f = c .before .before .before .before in
+    let s = f .before .before .before .before .before .before .before in
+    let e = placed-is (s .pre) (omega arith) _ _ (f .span-at .ensures) (c .before .before .point-at .ensures) in
     row-at _ _ (s .args .x) _ _ _ _ (omega arith)
-    (row-choice _ _ _ _ (omega arith) (c .before .before .before .before .before .before .if3 .left) (omega arith) (ap isEither e ∙ sym (c .before .is-either .ensures) ∙ c .if5 .taken))
+    (row-choice _ _ _ _ (omega arith) (f .before .before .if3 .left) (omega arith) (ap isEither e ∙ sym (c .before .is-either .ensures) ∙ c .if5 .taken))
 
 returns-6 : tie.Need-returns-6
 returns-6 c =
-    let s = c .before .before .before .before .before .before .before .before .before .before .before in
-    let e = placed-is (s .pre) (omega arith) _ _ (c .before .before .before .before .span-at .ensures) (c .before .before .point-at .ensures) in
-    row-at _ _ (s .args .x) _ _ _ _ (omega arith) (row-other _ _ _ _ (omega arith) (ap isEither e ∙ sym (c .before .is-either .ensures) ∙ c .if5 .left))
+    let f = c .before .before .before .before in
+    let s = f .before .before .before .before .before .before .before in
+    let e = placed-is (s .pre) (omega arith) _ _ (f .span-at .ensures) (c .before .before .point-at .ensures) in
+    row-at _ _ (s .args .x) _ _ _ _ (omega arith)
+    (row-other _ _ _ _ (omega arith) (ap isEither e ∙ sym (c .before .is-either .ensures) ∙ c .if5 .left))
+
+point-at-requires : tie.Need-point-at-requires
+point-at-requires c κs =
+    let f = c .before in
+    let s = f .before .before .before .before .before .before .before in
+    (placed-point (s .pre) (omega arith) _ (f .span-at .ensures), placed-few (s .pre) (omega arith) .1)
+
+add-point-at : tie.Need-add-point-at
+add-point-at c =
+    let f = c .before in
+    let s = f .before .before .before .before .before .before .before in
+    let l = placed-point (s .pre) (omega arith) _ (f .span-at .ensures) in omega arith
 
 pub event-row-spec : {M : Type 1} → statement M
 event-row-spec =
@@ -30,8 +45,8 @@ event-row-spec =
     (λ c. row-at _ _ (c .before .before .before .before .before .args .x) _ _ _ _ (omega arith) (row-preempts _ _ _ _ (c .if3 .taken)))
     (λ c. row-at _ _ (c .before .before .before .before .before .before .args .x) _ _ _ _ (omega arith) (row-value _ _ _ _ (omega arith) (c .if4 .taken)))
     (λ c κs. placed-few (c .before .before .before .before .before .before .pre) (omega arith))
-    (λ c. let l = placed-point (c .before .before .before .before .before .before .before .before .pre) (omega arith) _ (c .before .span-at .ensures) in omega arith)
-    (λ c κs. (placed-point (c .before .before .before .before .before .before .before .before .pre) (omega arith) _ (c .before .span-at .ensures), placed-few (c .before .before .before .before .before .before .before .before .pre) (omega arith) .1))
+    add-point-at
+    point-at-requires
     (λ c κs. search needs)
     returns-5
     returns-6)

@@ -6,7 +6,10 @@ use Rattle.turns.proofs.goto_step.Statement.{statement}
 use Rattle.turns.proofs.goto_step.Tie as tie
 
 returns : tie.Need-returns
-returns c = λ t v w cache memory. plain-does (c .before .before .args .x) _ _ _ _ _ w cache memory _ (c .before .before .pre) (c .onwards .ensures) (c .before .wide .ensures) refl refl
+returns c =
+    let s = c .before .before in
+    λ t v w cache memory.
+    plain-does (s .args .x) _ _ _ _ _ w cache memory _ (s .pre) (c .onwards .ensures) (c .before .wide .ensures) refl refl
 
 pub goto-step-spec : {M : Type 1} → statement M
 goto-step-spec = tie.close (tie.spec (λ c κs. search needs) (λ c κs. search needs) returns)

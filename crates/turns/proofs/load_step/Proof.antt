@@ -7,7 +7,10 @@ use Rattle.turns.proofs.load_step.Statement.{statement}
 use Rattle.turns.proofs.load_step.Tie as tie
 
 returns : tie.Need-returns
-returns c = λ t v w memory. plain-does (c .before .before .before .before .before .args .x) _ _ _ _ _ w _ memory _ (c .before .before .before .before .before .pre .some) (c .onwards .ensures) (omega arith) (c .before .before .load .ensures memory) refl
+returns c =
+    let l = c .before .before in
+    let s = l .before .before .before in
+    λ t v w memory. plain-does (s .args .x) _ _ _ _ _ w _ memory _ (s .pre .some) (c .onwards .ensures) (omega arith) (l .load .ensures memory) refl
 
 pub load-step-spec : {M : Type 1} → statement M
 load-step-spec = tie.close (tie.spec (λ c κs. search needs) (λ c. search needs) (λ c κs. search needs) returns)

@@ -5,8 +5,11 @@ use Rattle.turns.proofs.preempt.Statement.{statement}
 use Rattle.turns.proofs.preempt.Tie as tie
 
 returns : tie.Need-returns
-returns c = preempt-does _ _ _ _ _ _ _ _ (c .before .before .before .before .before .before .before .before .before .before .before .before .before .pre .0 .some) (c .before .before .before .before .before .before .before .before .before .point-figures .ensures) _ _ (c .before .before .before .before .before .preempt .ensures)
+returns c =
+    let e = c .before .before .before .before .before in
+    let f = e .before .before .before .before in
+    let s = f .before .before .before .before in
+    preempt-does _ _ (f .point-figures .result) _ _ _ _ _ (s .pre .0 .some) (f .point-figures .ensures) _ _ (e .preempt .ensures)
 
 pub preempt-spec : {M : Type 1} → statement M
-preempt-spec =
-    tie.close (tie.spec (λ c κs. search needs) (λ c κs. search needs) (λ c. search needs) (λ c. search needs) returns)
+preempt-spec = tie.close (tie.spec (λ c κs. search needs) (λ c κs. search needs) (λ c. search needs) (λ c. search needs) returns)

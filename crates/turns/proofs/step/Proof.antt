@@ -7,51 +7,94 @@ use Rattle.turns.proofs.Given.{load-given, store-given, call-given, ens
 use Rattle.turns.proofs.step.Statement.{statement}
 use Rattle.turns.proofs.step.Tie as tie
 
-ensure-step-requires : tie.Need-ensure-step-requires
-ensure-step-requires c κs =
-    let s = c .before .before .before .before .before .before .before .before .before in let g = ensure-given (s .pre) (c .before .before .before .before .y4 .given .1) in (s .pre .inside, g .0, g .1)
-
 returns : tie.Need-returns
 returns c =
-    let a = c .before .before .before .before .before .before .before .before .args in
-    let t = taskOf (a .work .now) (a .h) in
-    (steps-at t (a .x) (a .y) _ (a .v) (a .work .now) (a .cache .now) (a .memory .now) (c .before .before .before .y .given .1) (c .load-step .ensures t (a .v) (a .work .now) (a .memory .now)), stays-same (a .work .now))
+    let y = c .before .before .before in
+    let s = y .before .before .before .before .before in
+    let a = s .args in
+    let t = taskOf (a .work .now) (a .h) in (
+      steps-at t (a .x) (a .y) _ (a .v) (a .work .now) (a .cache .now) (a .memory .now) (y .y .given .1)
+          (c .load-step .ensures t (a .v) (a .work .now) (a .memory .now)),
+      stays-same (a .work .now),
+    )
 
 returns-2 : tie.Need-returns-2
 returns-2 c =
-    let a = c .before .before .before .before .before .before .before .before .before .before .args in
-    let t = taskOf (a .work .now) (a .h) in
-    (steps-at t (a .x) (a .y) _ (a .v) (a .work .now) (a .cache .now) (a .memory .now) (c .before .before .before .before .before .y2 .given .1) (c .before .before .store-step .ensures t (a .work .now) (a .memory .now)), stays-same (a .work .now))
+    let y = c .before .before .before .before .before in
+    let s = y .before .before .before .before .before in
+    let a = s .args in
+    let t = taskOf (a .work .now) (a .h) in (
+      steps-at t (a .x) (a .y) _ (a .v) (a .work .now) (a .cache .now) (a .memory .now) (y .y2 .given .1)
+          (c .before .before .store-step .ensures t (a .work .now) (a .memory .now)),
+      stays-same (a .work .now),
+    )
 
 returns-3 : tie.Need-returns-3
 returns-3 c =
-    let a = c .before .before .before .before .before .before .before .before .before .before .before .before .before .before .args in
-    let t = taskOf (a .work .now) (a .h) in
-    (steps-at t (a .x) (a .y) _ (a .v) (a .work .now) (a .cache .now) (a .memory .now) (c .before .before .before .before .before .before .before .before .before .y3 .given .1) (c .before .before .before .before .call-step .ensures .0 (a .v)), c .before .before .before .before .call-step .ensures .1)
+    let y = c .before .before .before .before .before .before .before .before .before in
+    let s = y .before .before .before .before .before in
+    let a = s .args in
+    let t = taskOf (a .work .now) (a .h) in (
+      steps-at t (a .x) (a .y) _ (a .v) (a .work .now) (a .cache .now) (a .memory .now) (y .y3 .given .1)
+          (c .before .before .before .before .call-step .ensures .0 (a .v)),
+      c .before .before .before .before .call-step .ensures .1,
+    )
 
 returns-4 : tie.Need-returns-4
 returns-4 c =
-    let a = c .before .before .before .before .before .before .before .before .before .before .before .before .args in
-    let t = taskOf (a .work .now) (a .h) in
-    (steps-at t (a .x) (a .y) _ (a .v) (a .work .now) (a .cache .now) (a .memory .now) (c .before .before .before .before .before .before .before .y4 .given .1) (c .before .before .ensure-step .ensures (a .v)), stays-same (a .work .now))
+    let y = c .before .before .before .before .before .before .before in
+    let s = y .before .before .before .before .before in
+    let a = s .args in
+    let t = taskOf (a .work .now) (a .h) in (
+      steps-at t (a .x) (a .y) _ (a .v) (a .work .now) (a .cache .now) (a .memory .now) (y .y4 .given .1)
+          (c .before .before .ensure-step .ensures (a .v)),
+      stays-same (a .work .now),
+    )
 
 returns-5 : tie.Need-returns-5
 returns-5 c =
-    let a = c .before .before .before .before .before .before .before .args in
-    let t = taskOf (a .work .now) (a .h) in
-    (steps-at t (a .x) (a .y) _ (a .v) (a .work .now) (a .cache .now) (a .memory .now) (c .before .before .y5 .given .1) (c .goto-step .ensures t (a .v) (a .work .now) (a .cache .now) (a .memory .now)), stays-same (a .work .now))
+    let y = c .before .before in
+    let s = y .before .before .before .before .before in
+    let a = s .args in
+    let t = taskOf (a .work .now) (a .h) in (
+      steps-at t (a .x) (a .y) _ (a .v) (a .work .now) (a .cache .now) (a .memory .now) (y .y5 .given .1)
+          (c .goto-step .ensures t (a .v) (a .work .now) (a .cache .now) (a .memory .now)),
+      stays-same (a .work .now),
+    )
 
 returns-6 : tie.Need-returns-6
 returns-6 c =
-    let a = c .before .before .before .before .before .before .before .args in
-    let t = taskOf (a .work .now) (a .h) in
-    (steps-at t (a .x) (a .y) _ (a .v) (a .work .now) (a .cache .now) (a .memory .now) (c .before .before .y6 .given .1) (c .either-step .ensures t (a .work .now) (a .cache .now) (a .memory .now)), stays-same (a .work .now))
+    let y = c .before .before in
+    let s = y .before .before .before .before .before in
+    let a = s .args in
+    let t = taskOf (a .work .now) (a .h) in (
+      steps-at t (a .x) (a .y) _ (a .v) (a .work .now) (a .cache .now) (a .memory .now) (y .y6 .given .1)
+          (c .either-step .ensures t (a .work .now) (a .cache .now) (a .memory .now)),
+      stays-same (a .work .now),
+    )
 
 returns-7 : tie.Need-returns-7
 returns-7 c =
-    let a = c .before .before .before .before .before .before .before .args in
-    let t = taskOf (a .work .now) (a .h) in
-    (steps-at t (a .x) (a .y) _ (a .v) (a .work .now) (a .cache .now) (a .memory .now) (c .before .before .enum-told .given .1) (c .return-step .ensures t (a .v) (a .cache .now) (a .memory .now) (frame-same (c .before .before .before .before .before .before .before .pre))), stays-same (a .work .now))
+    let y = c .before .before in
+    let s = y .before .before .before .before .before in
+    let a = s .args in
+    let t = taskOf (a .work .now) (a .h) in (
+      steps-at t (a .x) (a .y) _ (a .v) (a .work .now) (a .cache .now) (a .memory .now) (y .enum-told .given .1)
+          (c .return-step .ensures t (a .v) (a .cache .now) (a .memory .now) (frame-same (s .pre))),
+      stays-same (a .work .now),
+    )
+
+call-step-requires : tie.Need-call-step-requires
+call-step-requires c κs =
+    let y = c .before .before .before .before in
+    let s = y .before .before .before .before .before in
+    call-given (s .pre) (y .y3 .given .1)
+
+ensure-step-requires : tie.Need-ensure-step-requires
+ensure-step-requires c κs =
+    let y = c .before .before .before .before in
+    let s = y .before .before .before .before .before in
+    let g = ensure-given (s .pre) (y .y4 .given .1) in (s .pre .inside, g .0, g .1)
 
 pub step-spec : {M : Type 1} → statement M
 step-spec =
@@ -62,7 +105,7 @@ step-spec =
     (λ c. search needs)
     (λ c κs. store-given (c .before .before .before .before .before .before .before .pre) (c .before .before .y2 .given .1) (omega arith))
     (λ c. search needs)
-    (λ c κs. call-given (c .before .before .before .before .before .before .before .before .before .pre) (c .before .before .before .before .y3 .given .1))
+    call-step-requires
     (λ c. search needs)
     ensure-step-requires
     (λ c. search needs)

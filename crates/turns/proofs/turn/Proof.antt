@@ -6,37 +6,68 @@ use Rattle.turns.proofs.Events.{step-turns, preempt-turns}
 use Rattle.turns.proofs.turn.Statement.{statement}
 use Rattle.turns.proofs.turn.Tie as tie
 
+returns : tie.Need-returns
+returns c =
+    let r = c .before .before .before .before .before .before in
+    let y = r .before .before .before .before in
+    let i = y .before .before .before in
+    let f = i .before in
+    let s = f .before .before .before .before .before in
+    let e = placed-is (runs-placed (s .pre .0)) (s .pre .1) _ _ (f .span-at .ensures) (y .point-at .ensures) in
+    step-turns _ _ (s .args .x) _ _ (s .pre .1) _ _ _ e (i .if1 .taken) (r .step .ensures .0) (r .step .ensures .1)
+
+returns-2 : tie.Need-returns-2
+returns-2 c =
+    let r = c .before .before .before .before in
+    let i = r .before .before .before .before in
+    let s = i .before .before .before .before .before .before in
+    preempt-turns _ _ (s .args .x) _ _ (s .pre .1) _ _ (i .if1 .left) (r .preempt .ensures)
+
 step-requires : tie.Need-step-requires
 step-requires c κs =
-    let s = c .before .before .before .before .before .before .before .before .before .before .before .before in
-    let e = c .before .before .before .before .before .before .before .span-at .ensures in
+    let y = c .before .before .before in
+    let f = y .before .before .before .before in
+    let s = f .before .before .before .before .before in
+    let e = f .span-at .ensures in
     record {
       runs = s .pre .0;
       inside = runs-inside (s .pre .0) (s .pre .1) _ e;
-      here = placed-is (runs-placed (s .pre .0)) (s .pre .1) _ _ e (c .before .before .before .point-at .ensures);
+      here = placed-is (runs-placed (s .pre .0)) (s .pre .1) _ _ e (y .point-at .ensures);
     }
 
-returns : tie.Need-returns
-returns c =
-    let s = c .before .before .before .before .before .before .before .before .before .before .before .before .before .before .before .before .before .before .before in
-    let r = c .before .before .before .before .before .before .step .ensures in
-    step-turns _ _ (s .args .x) _ _ (s .pre .1) _ _ _
-    (placed-is (runs-placed (s .pre .0)) (s .pre .1) _ _ (c .before .before .before .before .before .before .before .before .before .before .before .before .before .before .span-at .ensures) (c .before .before .before .before .before .before .before .before .before .before .point-at .ensures)) (c .before .before .before .before .before .before .before .before .before .before .before .before .before .if1 .taken) (r .0) (r .1)
+preempt-requires : tie.Need-preempt-requires
+preempt-requires c κs =
+    let f = c .before .before .before .before in
+    let s = f .before .before .before .before .before in
+    (runs-inside (s .pre .0) (s .pre .1) _ (f .span-at .ensures), runs-good (s .pre .0) (s .pre .1))
+
+point-at-requires : tie.Need-point-at-requires
+point-at-requires c κs =
+    let f = c .before .before .before in
+    let s = f .before .before .before .before .before in
+    let k = runs-placed (s .pre .0) in
+    (placed-point k (s .pre .1) _ (f .span-at .ensures), placed-few k (s .pre .1) .1)
+
+add-point-at : tie.Need-add-point-at
+add-point-at c =
+    let f = c .before .before .before in
+    let s = f .before .before .before .before .before in
+    let l = placed-point (runs-placed (s .pre .0)) (s .pre .1) _ (f .span-at .ensures) in omega arith
 
 pub turn-spec : {M : Type 1} → statement M
 turn-spec =
     tie.close
     (tie.spec
     (λ c κs. let s = c .before .before .before .before in placed-few (runs-placed (s .pre .0)) (s .pre .1))
-    (λ c. let s = c .before .before .before .before .before .before .before .before in let l = placed-point (runs-placed (s .pre .0)) (s .pre .1) _ (c .before .before .before .span-at .ensures) in omega arith)
-    (λ c κs. let s = c .before .before .before .before .before .before .before .before in let k = runs-placed (s .pre .0) in (placed-point k (s .pre .1) _ (c .before .before .before .span-at .ensures), placed-few k (s .pre .1) .1))
+    add-point-at
+    point-at-requires
     step-requires
     (λ c. search needs)
     (λ c. search needs)
     (λ c. search needs)
     returns
-    (λ c κs. let s = c .before .before .before .before .before .before .before .before .before in (runs-inside (s .pre .0) (s .pre .1) _ (c .before .before .before .before .span-at .ensures), runs-good (s .pre .0) (s .pre .1)))
+    preempt-requires
     (λ c. search needs)
     (λ c. search needs)
     (λ c. search needs)
-    (λ c. let s = c .before .before .before .before .before .before .before .before .before .before .before .before .before .before in preempt-turns _ _ (s .args .x) _ _ (s .pre .1) _ _ (c .before .before .before .before .before .before .before .before .if1 .left) (c .before .before .before .before .preempt .ensures)))
+    returns-2)
