@@ -1,0 +1,141 @@
+-- What the loop over the events keeps, and what each way out of it gives.
+use Prim.Native.Nat.{ℕ, _+_, _*_, _/_, _%_, _≤_, _<_}
+use mathlib.Core.List.{List}
+use mathlib.Core.Option.{Option, none, some}
+use mathlib.Core.Path.{_≡_, refl, ap, sym, subst, _∙_}
+use native.Mathlib.Omega.{arith}
+use lib.ListN.{length, drop, getD, set}
+use Rattle.model.specs.declared.Refusal.{Refusal}
+use Rattle.model.specs.declared.Verdict.{Verdict}
+use Rattle.model.specs.declared.Verdict.the-variants as verdict
+use Rattle.model.specs.declared.Ending.{Ending}
+use Rattle.model.specs.declared.Ending.the-variants.{AllDone, Refused}
+use Rattle.model.specs.declared.RunResult.{RunResult}
+use Rattle.model.specs.Limits.{mostStack}
+use Rattle.model.specs.Rows.{rowVerdict}
+use Rattle.model.specs.Task.{Task}
+use Rattle.model.specs.Core.{Core}
+use Rattle.model.specs.Sheet.{sheetOf}
+use Rattle.model.specs.Refusal.{eventRows}
+use Rattle.model.specs.Plain.{eventsOf, running, afterEvent}
+use Rattle.model.specs.Run.{runningPlace, turn, eventBound}
+use Rattle.theory.proofs.Frames.{running-same}
+use Rattle.tables.specs.declared.Header.{Header}
+use Rattle.tables.specs.Tables.{taskOf}
+use Rattle.tables.specs.Valid.{Kept}
+use Rattle.tables.proofs.Valid.{kept-on}
+use Rattle.turns.specs.declared.State.{State}
+use Rattle.turns.specs.declared.Turned.{Turned}
+use Rattle.turns.specs.Frames.{framesEnd, framesOf, stateOf, turnOf}
+use Rattle.turns.specs.Turns.{Runs, Turns, actOf, Started}
+use Rattle.turns.proofs.Kept.{goes-on, begins, accepted-runs}
+use Rattle.run.specs.Events.{Fitting, ranOn, allowedOn, endedWith, Serves}
+use Rattle.run.proofs.Going.{next-event, no-event, Ended, Going, going-start, going-end, going-off, going-on}
+
+-- the most that a turn can be allowed: its bound is a number of 32 bits
+abbrev pub mostBound : ℕ
+mostBound = 4294967295
+
+-- w₀, buffer, cache₀ and memory₀ as they were lent; after i events the state is x, m blocks have moved and a are allowed. m and a fit 64 bits
+pub record Loops (h : Header) (events buffer cache₀ memory₀ w₀ : List ℕ) (i : ℕ) (x : State) (m a : ℕ) (answers cache memory w : List ℕ) : Type 0 where
+  pub runs : Runs w h x cache memory
+  pub task : taskOf w h ≡ taskOf w₀ h
+  pub kept : Kept framesEnd w₀ w
+  pub going : Going (taskOf w₀ h) (sheetOf (taskOf w₀ h)) (ranOn (taskOf w₀ h) events cache₀ memory₀) (allowedOn (taskOf w₀ h) events) buffer i
+      (stateOf w x cache memory) (runs .frames) (eventsOf (drop (2 * i) events)) m a answers
+  pub small : m ≤ 2 * mostStack * i
+  pub little : a ≤ mostBound * i
+
+-- ---- a row as a verdict
+
+row-none : (o : Option Refusal) → rowVerdict o ≡ verdict.Accepted → o ≡ none
+row-none none e = refl
+row-none (some r) e = let z : _≡_ {A = ℕ} 0 1 = cc in absurd (omega arith)
+
+row-some : (o : Option Refusal) (r : Refusal) → rowVerdict o ≡ verdict.Refused r → o ≡ some r
+row-some none r e = let z : _≡_ {A = ℕ} 0 1 = cc in absurd (omega arith)
+row-some (some q) r e = cc
+
+module _ {h : Header} {events buffer cache₀ memory₀ w₀ : List ℕ} where
+  -- function 0 has been entered
+  pub loops-start : {x : State} → Fitting w₀ h events buffer cache₀ memory₀ → Started w₀ h (length memory₀) x
+      → Loops h events buffer cache₀ memory₀ w₀ 0 x 0 0 buffer cache₀ memory₀ w₀
+  loops-start {x} f s =
+      let j = begins cache₀ memory₀ (f .figured) s (f .blocks) (f .room) in
+      record {
+        runs = j .runs;
+        task = refl;
+        kept = record { size = refl; past = refl };
+        going = rw (s cache₀ memory₀ (f .blocks) refl, j .frames) (going-start (taskOf w₀ h) (sheetOf (taskOf w₀ h)) buffer _ _ (eventsOf events));
+        small = omega arith;
+        little = omega arith;
+      }
+
+  module _ {i : ℕ} {x : State} {m a : ℕ} {answers cache memory w : List ℕ} (l : Loops h events buffer cache₀ memory₀ w₀ i x m a answers cache memory w) where
+    -- the point that runs is that of the plain stack
+    place-same : runningPlace (taskOf w₀ h) (framesOf w x) ≡ running (taskOf w₀ h) (l .runs .frames)
+    place-same = ap (runningPlace (taskOf w₀ h)) (l .runs .same) ∙ running-same (taskOf w₀ h) (l .runs .frames)
+
+    -- the row of an event, in the task as it was lent
+    row-lent : (kind value : ℕ) (o : Option Refusal) → eventRows i kind value (runningPlace (taskOf w h) (framesOf w x)) ≡ o
+        → eventRows i kind value (runningPlace (taskOf w₀ h) (framesOf w x)) ≡ o
+    row-lent kind value o e = subst (λ (t : Task). eventRows i kind value (runningPlace t (framesOf w x)) ≡ o) (l .task) e
+
+    served : {q : RunResult} {z : Ending} → q ≡ endedWith z i m a
+        → Ended (ranOn (taskOf w₀ h) events cache₀ memory₀) (allowedOn (taskOf w₀ h) events) buffer z i m a answers (stateOf w x cache memory .core)
+        → Serves (taskOf w₀ h) events buffer cache₀ memory₀ w₀ q answers cache memory w
+    served e d = record {
+      returned = e ∙ d .result;
+      answered = d .written;
+      cached = ap (λ (c : Core). c .cache) (d .core);
+      stored = ap (λ (c : Core). c .memory) (d .core);
+      kept = l .kept;
+    }
+
+    -- no event is left
+    pub loops-end : {q : RunResult} → length events % 2 ≡ 0 → length events / 2 ≤ length buffer → i ≡ length events / 2 → q ≡ endedWith AllDone i m a
+        → Serves (taskOf w₀ h) events buffer cache₀ memory₀ w₀ q answers cache memory w
+    loops-end p b e k =
+        served k
+        (going-end (taskOf w₀ h) (sheetOf (taskOf w₀ h)) _ _ _ _ _ _ _ _ _ (omega arith) (rw (no-event events i p (omega arith)) at (l .going)))
+
+    -- a row refuses the next event
+    pub loops-off : {q : RunResult} {v : Verdict} (r : Refusal) → i < length events / 2 → length events / 2 ≤ length buffer
+        → v ≡ verdict.Refused r
+        → v ≡ rowVerdict (eventRows i (getD events (2 * i) 0) (getD events (2 * i + 1) 0) (runningPlace (taskOf w h) (framesOf w x)))
+        → q ≡ endedWith (Refused r) i m a
+        → Serves (taskOf w₀ h) events buffer cache₀ memory₀ w₀ q answers cache memory w
+    loops-off r b k n e j =
+        served j
+        (going-off (taskOf w₀ h) (sheetOf (taskOf w₀ h)) _ _ _ _ _ _ _ _ _ _ _ place-same (omega arith) r
+        (row-lent (getD events (2 * i) 0) (getD events (2 * i + 1) 0) (some r) (row-some _ r (sym e ∙ n)))
+        (rw (next-event events i b) at (l .going)))
+
+    -- the next event can be done
+    pub loops-more : (kind value : ℕ) {v : Verdict} → v ≡ verdict.Accepted → v ≡ rowVerdict (eventRows i kind value (runningPlace (taskOf w h) (framesOf w x)))
+        → Runs w h x cache memory × (0 < x .depth)
+    loops-more kind value n e = (l .runs, accepted-runs (taskOf w h) w (x .depth) (x .f) (x .p) i kind value (row-none _ (sym e ∙ n)))
+
+    -- the next event is done
+    pub loops-on : {v : Verdict} {r : Turned} {w′ cache′ memory′ : List ℕ} → i < length events / 2 → length events / 2 ≤ length buffer → r .bound ≤ mostBound
+        → v ≡ verdict.Accepted
+        → v ≡ rowVerdict (eventRows i (getD events (2 * i) 0) (getD events (2 * i + 1) 0) (runningPlace (taskOf w h) (framesOf w x)))
+        → Turns w h x cache memory (actOf (getD events (2 * i) 0) (getD events (2 * i + 1) 0)) r w′ cache′ memory′
+        → Loops h events buffer cache₀ memory₀ w₀ (i + 1) (r .state) (m + (r .out + r .back)) (a + r .bound) (set answers i (r .answer)) cache′ memory′ w′
+    loops-on {r = r} {w′ = w′} {cache′ = cache′} {memory′ = memory′} b k f o e u =
+        let t = taskOf w₀ h in
+        let d = actOf (getD events (2 * i) 0) (getD events (2 * i + 1) 0) in
+        let n = row-lent (getD events (2 * i) 0) (getD events (2 * i + 1) 0) none (row-none _ (sym e ∙ o)) in
+        let j = goes-on (l .runs) u in
+        let fs : j .runs .frames ≡ afterEvent t (l .runs .frames) d = j .frames ∙ ap (λ (z : Task). afterEvent z (l .runs .frames) d) (l .task) in
+        let p = subst (λ (z : Task). turnOf w′ r cache′ memory′ ≡ turn z (sheetOf z) (stateOf w x cache memory) d) (l .task) (u .turn) in
+        let q = subst (λ (z : Task). r .bound ≡ eventBound z (sheetOf z) (l .runs .frames) d) (l .task) (j .bound) in
+        let g = rw (next-event events i b) at (l .going) in
+        record {
+          runs = j .runs;
+          task = j .task ∙ l .task;
+          kept = kept-on (l .kept) (u .stays .kept);
+          going = rw fs (going-on t (sheetOf t) _ _ _ _ _ _ _ _ _ _ _ place-same n (omega arith) g (turnOf w′ r cache′ memory′) (r .bound) p q);
+          small = omega (arith, l .small, j .out-few, j .back-few);
+          little = omega (arith, l .little);
+        }

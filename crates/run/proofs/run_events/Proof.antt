@@ -1,0 +1,102 @@
+-- The loop keeps what is done and what is left of the run; its measure is the number of events left.
+use Prim.Native.Nat.{_-_, _*_, _/_, _≤_, _<_}
+use mathlib.Core.Path.{_≡_, refl}
+use native.Mathlib.Omega.{arith}
+use lib.ListN.{length}
+use borrow.Author.Needs.{needs}
+use Rattle.model.specs.Limits.{mostStack, mostEventNumbers}
+use Rattle.turns.proofs.Given.{runs-placed}
+use Rattle.turns.proofs.Kept.{goes-on}
+use Rattle.run.proofs.Loop.{mostBound, Loops, loops-start, loops-end, loops-off, loops-more, loops-on}
+use Rattle.run.proofs.run_events.Statement.{statement}
+use Rattle.run.proofs.run_events.Tie as tie
+
+abbrev Inv-loop : tie.InvT-loop
+Inv-loop events answers₀ cache₀ memory₀ work₀ h x₀ count moved₀ allowed₀ i₀ answers cache memory work x moved allowed i =
+    Loops h events answers₀ cache₀ memory₀ work₀ i x moved allowed answers cache memory work
+    × (i ≤ count)
+    × (length cache ≡ length cache₀)
+    × (length memory ≡ length memory₀)
+
+abbrev μ-loop : tie.MeasureT-loop
+μ-loop events answers₀ cache₀ memory₀ work₀ h x₀ count moved₀ allowed₀ i₀ answers cache memory work x moved allowed i = count - i
+
+-- an event is left, its answer has a place, and the counts before it are small
+bounds : (l : tie.In-loop Inv-loop μ-loop)
+    → let s = l .before .before .before .before .before .before .before .before .before in
+    let x = l .before .loop in
+    (x .i < length (s .args .events .now) / 2) × (length (s .args .events .now) ≤ mostEventNumbers) × (x .i < length (x .answers))
+    × (x .moved ≤ 2 * mostStack * x .i)
+    × (x .allowed ≤ mostBound * x .i)
+bounds l =
+    let p = l .before .before .before .before .before .before .before .before .before .pre in
+    let j = l .before .loop .inv .0 in
+    let t = l .loop-test .taken in
+    (omega (arith, t), p .few, omega (arith, p .answered, j .going .size, t), j .small, j .little)
+
+returns : tie.Need-returns Inv-loop μ-loop
+returns c =
+    loops-off (c .before .before .before .before .before .before .before .before .before .loop .inv .0) _ (bounds (c .before .before .before .before .before .before .before .before) .0) (c .before .before .before .before .before .before .before .before .before .before .before .before .before .before .before .before .before .pre .answered) (c .before .before .r .given .1) (c .before .before .before .before .event-row .ensures) (c .ended .ensures)
+
+turn-requires : tie.Need-turn-requires Inv-loop μ-loop
+turn-requires c κs = loops-more (c .before .before .before .before .before .before .before .before .before .before .loop .inv .0) _ _ (c .before .before .before .enum-told .given .1) (c .before .before .before .before .before .event-row .ensures)
+
+loop-again : tie.Need-loop-again Inv-loop μ-loop
+loop-again c =
+    let l = c .before .before .before .before .before .before .before .before .before .before .before .before .before .before .before .before .before .before .before in
+    let k = l .before .loop .inv in
+    let t = c .before .before .before .before .before .before .before .before .before .turn in (
+      loops-on (k .0) {r = t .result} (bounds l .0) (l .before .before .before .before .before .before .before .before .before .pre .answered) (omega (arith, c .before .struct-known2 .given)) (c .before .before .before .before .before .before .before .before .before .before .before .before .before .enum-told .given .1) (c .before .before .before .before .before .before .before .before .before .before .before .before .before .before .before .event-row .ensures) (t .ensures),
+      omega (arith, bounds l),
+      omega (arith, k .2, t .kept),
+      omega (arith, k .3, t .kept),
+    )
+
+returns-2 : tie.Need-returns-2 Inv-loop μ-loop
+returns-2 c =
+    let k = c .before .before .loop .inv in
+    let p = c .before .before .before .before .before .before .before .before .before .before .pre in
+    loops-end (k .0) (p .paired) (p .answered) (omega (arith, k .1, c .before .loop-test .left)) (c .ended2 .ensures)
+
+pub run-events-spec : {M : Type 1} → statement M
+run-events-spec =
+    tie.close
+    (tie.spec
+    Inv-loop
+    μ-loop
+    (λ c κs. (c .before .before .before .before .before .before .pre .figured, c .before .before .before .before .before .before .pre .room))
+    (λ c. (loops-start (c .before .before .before .before .before .before .before .pre) (c .start .ensures), omega arith, refl, refl))
+    (λ c. omega arith)
+    (λ c. omega arith)
+    (λ c. omega arith)
+    (λ c. omega arith)
+    (λ c. omega arith)
+    (λ c. omega arith)
+    (λ c. omega arith)
+    (λ c. omega arith)
+    (λ c κs. runs-placed (c .before .before .before .before .loop .inv .0 .runs))
+    (λ c. search needs)
+    (λ c κs. search needs)
+    (λ c. c .before .before .before .before .before .before .before .before .before .loop .inv .0 .going .size)
+    (λ c. c .before .before .before .before .before .before .before .before .before .loop .inv .2)
+    (λ c. c .before .before .before .before .before .before .before .before .before .loop .inv .3)
+    (λ c. c .before .before .before .before .before .before .before .before .before .loop .inv .0 .kept .size)
+    returns
+    (λ c. search needs)
+    turn-requires
+    (λ c. omega (arith, bounds (c .before .before .before .before .before .before .before .before .before .before .before .before .before .before .before .before)))
+    (λ c. omega (arith, bounds (c .before .before .before .before .before .before .before .before .before .before .before .before .before .before .before .before)))
+    (λ c. omega (arith, goes-on (c .before .before .before .before .before .before .before .before .before .before .before .before .before .before .before .before .before .before .loop .inv .0 .runs) (c .before .before .before .before .before .before .before .turn .ensures)))
+    (λ c. omega (arith, bounds (c .before .before .before .before .before .before .before .before .before .before .before .before .before .before .before .before .before), goes-on (c .before .before .before .before .before .before .before .before .before .before .before .before .before .before .before .before .before .before .loop .inv .0 .runs) (c .before .before .before .before .before .before .before .turn .ensures)))
+    (λ c. omega arith)
+    (λ c. omega (arith, bounds (c .before .before .before .before .before .before .before .before .before .before .before .before .before .before .before .before .before .before)))
+    (λ c. omega (arith, bounds (c .before .before .before .before .before .before .before .before .before .before .before .before .before .before .before .before .before .before .before)))
+    (λ c. omega (arith, bounds (c .before .before .before .before .before .before .before .before .before .before .before .before .before .before .before .before .before .before .before)))
+    loop-again
+    (λ c. omega arith)
+    (λ c κs. search needs)
+    (λ c. c .before .before .loop .inv .0 .going .size)
+    (λ c. c .before .before .loop .inv .2)
+    (λ c. c .before .before .loop .inv .3)
+    (λ c. c .before .before .loop .inv .0 .kept .size)
+    returns-2)
