@@ -3,7 +3,7 @@
  *
  * felknost_check judges a task text, given as its bytes; felknost_report writes its preemption sheet. Both return for every byte string and every
  * length of the buffers, and touch nothing but the buffers that they are lent and their own stack. Threads may call them at the same time, each
- * with buffers of its own. Link with libfelknost.a and a C library for memset.
+ * with buffers of its own. Link with libfelknost.a and a C library for memset and memcpy.
  */
 #ifndef FELKNOST_H
 #define FELKNOST_H
@@ -39,13 +39,6 @@ extern "C" {
 uint32_t felknost_check(const uint8_t *text, size_t length);
 
 /*
- * The stack that a call of felknost_check takes, in bytes, measured and rounded up: its own, and what memset takes, which it calls, with the
- * dynamic linker's look-up of memset at the first call. A thread with a stack of the second size has room for the call.
- */
-#define FELKNOST_CHECK_STACK 24576
-#define FELKNOST_THREAD_STACK 32768
-
-/*
  * Writes the preemption sheet of a task text to the front of output. result gets three numbers: CODE, PLACE and how many bytes were written. CODE and
  * PLACE are 0 where the text is accepted; else they are as above, and two rows are new:
  *
@@ -62,6 +55,13 @@ uint32_t felknost_check(const uint8_t *text, size_t length);
 
 uint32_t felknost_report(const uint8_t *text, size_t text_length, uint8_t *output, size_t output_length, uint32_t *work, size_t work_length,
                          uint64_t *result, size_t result_length);
+
+/*
+ * The stack that a call takes, in bytes, measured and rounded up: its own, and what memset and memcpy take, which it calls, with the dynamic
+ * linker's look-up of these at the first call. A thread with a stack of the second size has room for the call.
+ */
+#define FELKNOST_STACK 24576
+#define FELKNOST_THREAD_STACK 32768
 
 #define FELKNOST_CODE(answer) ((uint32_t)(answer) >> 16)
 #define FELKNOST_PLACE(answer) ((uint32_t)(answer) & 0xffffu)

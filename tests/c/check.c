@@ -7,12 +7,12 @@
 #endif
 #include "felknost.h"
 #include "room.h"
+#include "stack.h"
 
 #include <pthread.h>
 #include <stdio.h>
 #include <stdlib.h>
 #include <string.h>
-#include <ucontext.h>
 
 #define LONGEST 32768
 #define CODES 13
@@ -247,57 +247,16 @@ static int answered(void)
     return good;
 }
 
-/* On a stack of exactly the bytes that the header states, between pages that may not be touched. */
-static void stated_stack(const char *name)
-{
-    static ucontext_t here, there;
-    struct room stack = room_of(FELKNOST_CHECK_STACK);
-    room_case = name;
-    for (size_t i = 0; i < stack.size; i++)
-        ((volatile uint8_t *)stack.start)[i] = 0xa5;
-    getcontext(&there);
-    there.uc_stack.ss_sp = stack.start;
-    there.uc_stack.ss_size = stack.size;
-    there.uc_link = &here;
-    makecontext(&there, answer_samples, 0);
-    swapcontext(&here, &there);
-    size_t untouched = 0;
-    while (untouched < stack.size && stack.start[untouched] == 0xa5)
-        untouched++;
-    printf("%s: %zu bytes of %d used\n", name, stack.size - untouched, FELKNOST_CHECK_STACK);
-    room_free(&stack);
-    count(answered());
-}
-
-static void *answer_in_thread(void *unused)
-{
-    answer_samples();
-    return unused;
-}
-
-static void stated_thread(void)
-{
-    struct room stack = room_of(FELKNOST_THREAD_STACK);
-    pthread_attr_t attributes;
-    pthread_t thread;
-    room_case = "a thread with the stack stated";
-    pthread_attr_init(&attributes);
-    pthread_attr_setstack(&attributes, stack.start, stack.size);
-    if (pthread_create(&thread, &attributes, answer_in_thread, NULL) != 0)
-        abort();
-    pthread_join(thread, NULL);
-    pthread_attr_destroy(&attributes);
-    room_free(&stack);
-    count(answered());
-}
-
 int main(void)
 {
     room_report_traps();
     /* First of all, so that the dynamic linker looks memset up on this stack too. */
-    stated_stack("stack, first call");
-    stated_stack("stack, later call");
-    stated_thread();
+    on_stated_stack("stack of check, first call", answer_samples);
+    count(answered());
+    on_stated_stack("stack of check, later call", answer_samples);
+    count(answered());
+    in_stated_thread(answer_samples);
+    count(answered());
     texts = room_of(2 * LONGEST);
     refusals();
     limits();

@@ -1,11 +1,13 @@
 /*
  * Tests of felknost_report, built as C and as C++: the bytes of a report, outputs of every length around the one wanted, refusals, buffers between
- * pages that may not be touched and with contents that are not zero, a result that is too short, and threads. The last line counts them.
+ * pages that may not be touched and with contents that are not zero, a result that is too short, threads, and the stack that the header states. The
+ * last line counts them.
  */
 #ifndef _GNU_SOURCE
 #define _GNU_SOURCE 1
 #endif
 #include "lent.h"
+#include "stack.h"
 
 #include <pthread.h>
 #include <stdlib.h>
@@ -131,9 +133,32 @@ static void threads(void)
     }
 }
 
+/* ---- the stack */
+
+static uint8_t stack_output[WANTED];
+static uint32_t stack_work[FELKNOST_WORK];
+static uint64_t stack_result[3];
+
+static void report_task(void)
+{
+    static const char task[] = TASK;
+    felknost_report((const uint8_t *)task, sizeof task - 1, stack_output, WANTED, stack_work, FELKNOST_WORK, stack_result, 3);
+}
+
+static void stacks(void)
+{
+    on_stated_stack("stack of report, first call", report_task);
+    count(room_case, memcmp(stack_output, SHEET, WANTED) == 0);
+    memset(stack_output, FILLER, WANTED);
+    in_stated_thread(report_task);
+    count(room_case, memcmp(stack_output, SHEET, WANTED) == 0);
+}
+
 int main(void)
 {
     room_report_traps();
+    /* First of all, so that the dynamic linker looks memset up on this stack too. */
+    stacks();
     texts.room = room_of(PAGE);
     outputs.room = room_of(PAGE);
     works.room = room_of(20 * PAGE);

@@ -1,14 +1,13 @@
 -- The functions that a function calls, from its last point to its first, and what D and d are of theirs.
-use Prim.Native.Nat.{ℕ, zero, suc, _+_, _-_, _≤_, _<_, min, max}
+use Prim.Native.Nat.{ℕ, _+_, _≤_, _<_, min, max}
 use native.Mathlib.Omega.{arith}
 use native.Mathlib.Numerals.{add-one}
 use mathlib.Core.Bool.{Bool, true, false}
 use mathlib.Core.List.{List, [], _∷_, _++_}
 use mathlib.Core.Option.{Option, none, some}
 use mathlib.Core.Path.{_≡_, refl, ap, sym, _∙_}
-use lib.ListN.{length, drop, getD}
+use lib.ListN.{drop}
 use lib.Seq.{drop-cons, drop-length}
-use Rattle.model.specs.declared.Point.{Point}
 use Rattle.model.specs.declared.Point.the-variants.{Return}
 use Rattle.model.specs.Basic.{if_then_else_, joined, largest, smallest}
 use Rattle.model.specs.Limits.{mostFuncs}
@@ -17,7 +16,6 @@ use Rattle.model.specs.Figures.{theCalled, callees}
 use Rattle.tables.specs.declared.Span.{Span}
 use Rattle.tables.specs.Tables.{item, pointAt, pointsOf, funcIn}
 use Rattle.tables.proofs.Laws.{length-points, point-there}
-use Rattle.columns.specs.declared.Bounds.{Bounds}
 use Rattle.columns.specs.Columns.{longestColumn, shortestColumn}
 use Rattle.columns.specs.Values.{numbered, calleeAt, CallFits, Bounded}
 

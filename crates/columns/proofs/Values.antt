@@ -70,11 +70,11 @@ module _ (w : List ℕ) (h : Header) (s : Span) (p : ℕ) where
   unfolding cutAt
   cut-past {g} i k = rw (← i, le-ltb g mostFuncs k)
 
-module _ (w : List ℕ) (s : Span) (own p : ℕ) where
-  pub kept-frame : keptAt w s p ≤ s .frame
-  unfolding keptAt
-  kept-frame = omega arith
+pub kept-low : (w : List ℕ) (s : Span) (p : ℕ) {r : ℕ} → r ≡ keptAt w s p → r ≤ s .frame
+unfolding keptAt
+kept-low w s p e = omega arith
 
+module _ (w : List ℕ) (s : Span) (own p : ℕ) where
   pub chained-more : {a : ℕ} → p + 1 < s .size → a ≡ keptAt w s (p + 1) → own + a ≡ chainedAt w s own p
   unfolding chainedAt
   chained-more k e = rw (lt-ltb (p + 1) (s .size) k, e)

@@ -1,5 +1,5 @@
 // The columns of figures behind the tables: where each begins, the numbers that the points of a function are given from the tables and the columns,
-// and the writes into one column.
+// the writes into one column, and D and d of every function.
 ghost use mathlib.Core.Path.{_≡_};
 ghost use Prim.Native.Nat.{ℕ, _+_, _-_, _<_, _≤_, min, max};
 ghost use lib.ListN.{length};
@@ -9,9 +9,10 @@ ghost use Rattle.model.specs.Walk.{called, ensured, present};
 ghost use Rattle.tables.specs.Tables.{item};
 ghost use Rattle.tables.specs.Valid.{Lies};
 ghost use Rattle.problems.specs.Problems.{Filled};
-ghost use Rattle.columns.specs.Columns.{columnsEnd, entryColumn, chainColumn, fillColumn, Funcs, Changed};
+ghost use Rattle.columns.specs.Columns.{columnsEnd, entryColumn, chainColumn, fillColumn, Funcs, Changed, Within};
 ghost use Rattle.columns.specs.Values.{mostChain, numbered, calleeAt, ensureAt, filledAt, keptAt, cutAt, chainedAt, valueAt, Adds, CallFits};
 ghost use Rattle.columns.specs.Values.{Put, Raised, Bounded};
+ghost use Rattle.columns.specs.Displaced.{Ready, Displacing};
 use model::Limits;
 use model::Point;
 use tables::Header;
@@ -265,7 +266,8 @@ pub fn raise(work: &mut [u32], s: Span, at: usize, values: &[u32])
         let v = values[p];
         p += 1;
         if g < Limits::FUNCS {
-            work[at + g] = larger(work[at + g], v);
+            let old = work[at + g];
+            work[at + g] = larger(old, v);
         }
     }
 }
@@ -289,4 +291,51 @@ pub fn callee_bounds(work: &[u32], s: Span) -> Bounds
         }
     }
     Bounds { most, least }
+}
+
+// 0 where the test holds, and else n.
+fn unless(test: bool, n: u32) -> u32
+    ensures { λ r. ⌜ (r ≡ (if test then 0 else n)) × (r ≤ n) ⌝ }
+{
+    if test {
+        return 0;
+    }
+    n
+}
+
+// D and d of function f, whose callees have theirs.
+fn displace(
+    work: &mut [u32],
+    h: Header,
+    f: usize,
+    gens: &mut [u64; Limits::POINTS],
+    kills: &mut [u64; Limits::POINTS],
+    sets: &mut [u64; Limits::POINTS],
+)
+    requires { ⌜ Displacing (now work) h (f + 1) × (f < h .funcs) ⌝ }
+    ensures { λ r. ⌜ Displacing (now (work .exit)) h f × Within (now (work .entry)) (now (work .exit)) ⌝ }
+{
+    let s = tables::span_at(work, f);
+    let b = callee_bounds(work, s);
+    let free = problems::call_free(work, s, gens, kills, sets);
+    work[Columns::LONGEST + f] = s.frame + b.most;
+    work[Columns::SHORTEST + f] = s.frame + unless(free, b.least);
+}
+
+// D and d of every function, from the last to the first: calls lead to later functions.
+pub fn displacements(
+    work: &mut [u32],
+    h: Header,
+    gens: &mut [u64; Limits::POINTS],
+    kills: &mut [u64; Limits::POINTS],
+    sets: &mut [u64; Limits::POINTS],
+)
+    requires { ⌜ Ready (now work) h ⌝ }
+    ensures { λ r. ⌜ Displacing (now (work .exit)) h 0 × Within (now (work .entry)) (now (work .exit)) ⌝ }
+{
+    let mut f = h.funcs;
+    while 0 < f {
+        f -= 1;
+        displace(work, h, f, gens, kills, sets);
+    }
 }

@@ -5,7 +5,7 @@ use mathlib.Core.List.{List}
 use mathlib.Core.Option.{some}
 use mathlib.Core.Path.{_≡_, ap, sym, _∙_}
 use Rattle.model.specs.Limits.{mostFuncs}
-use Rattle.model.specs.Task.{Task, func, point}
+use Rattle.model.specs.Task.{Task, point}
 use Rattle.model.specs.Walk.{called, calls}
 use Rattle.model.specs.Figures as model
 use Rattle.model.specs.Sheet.{inBlocks}
@@ -17,8 +17,8 @@ use Rattle.tables.specs.Tables.{item, pointAt, baseAt, sizeAt, funcOf, taskOf}
 use Rattle.tables.proofs.Laws.{func-is, count-is, length-points, point-there}
 use Rattle.columns.specs.Columns.{entryColumn, chainColumn, Funcs}
 use Rattle.columns.specs.Values.{raisedBy}
-use Rattle.figures.specs.Figured.{Ready}
-use Rattle.figures.specs.Steps.{Gathered, chainFigure, soFar}
+use Rattle.columns.specs.Displaced.{Ready}
+use Rattle.figures.specs.Steps.{Gathered, chainFigure}
 use Rattle.figures.proofs.Callers.{so-far-none, so-far-more, so-far-all}
 
 pub gathered-none : (t : Task) (figure : ℕ → ℕ → ℕ) (a n : ℕ) (w : List ℕ) → n ≤ mostFuncs → Funcs (λ g. 0) a 0 mostFuncs w → Gathered t figure a n 0 w

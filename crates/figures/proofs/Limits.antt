@@ -1,27 +1,16 @@
 -- How large the figures of a task can be.
-use Prim.Native.Nat.{ℕ, zero, suc, pred, _+_, _-_, _*_, _≤_, _<_, min, max}
+use Prim.Native.Nat.{ℕ, zero, suc, pred, _+_, _*_, _≤_, min, max}
 use native.Mathlib.Omega.{arith}
-use native.Mathlib.Decide.{decLt}
-use mathlib.Core.List.{List, [], _∷_}
-use mathlib.Core.Bool.{Bool, true, false}
 use mathlib.Core.Option.{Option, none, some}
-use mathlib.Core.Path.{_≡_, refl, ap}
 use lib.Dec.{eqb}
-use lib.ListN.{List·getD-eq-default}
-use Rattle.model.specs.Basic.{if_then_else_, largest, smallest, upTo}
-use Rattle.model.specs.Limits.{mostStack, mostFuncs}
-use Rattle.model.specs.Task.{Func, Task, size, count, func, point, empty}
+use Rattle.model.specs.Basic.{upTo}
+use Rattle.model.specs.Limits.{mostStack}
+use Rattle.model.specs.Task.{Task, size, count, func, point}
 use Rattle.model.specs.Walk.{carried, arrival, sources, leads, called, isEnsure}
-use Rattle.model.specs.Figures.{callees, callFree, longestTo, longest, shortestTo, shortest, fillAfter, fill, cutBy, after, highFrom, callPoints}
-use Rattle.model.specs.Figures.{overCalls, entryTo, entry, high, kept, chainTo, chain, keptNext}
+use Rattle.model.specs.Figures.{cutBy, after, highFrom, callPoints, overCalls, entryTo, entry, high, kept, chainTo, chain, keptNext}
 use Rattle.model.specs.WellFormed.{Shaped}
 use Rattle.theory.proofs.Lists.{by-test, by-max, by-largest}
-
-pub smallest-low : {A : Type 0} (f : A → ℕ) (l : List A) (n : ℕ) → ((a : A) → f a ≤ n) → smallest f l ≤ n
-unfolding smallest
-smallest-low f [] n e = omega arith
-smallest-low f (a ∷ []) n e = e a
-smallest-low f (a ∷ b ∷ l) n e = omega (arith, e a)
+use Rattle.columns.proofs.Limits.{frame-low}
 
 pred-low : (n m k : ℕ) → n ≤ suc m → m ≤ k → pred n ≤ k
 pred-low n m k h l = omega arith
@@ -33,41 +22,9 @@ over-low t g figure n e =
     (λ h k. by-largest _ (λ m. m ≤ n) (callPoints (func t h) g) (omega arith) (λ p l. e h p))
 
 module _ {t : Task} (s : Shaped t) where
-  -- frames, past the last function too
-  pub frame-low : (f : ℕ) → func t f .frame ≤ t .stack
-  frame-low f =
-      elim (decLt f (count t)) [
-        | yes h ↦ s .frames f h
-        | no h ↦ let e : func t f ≡ empty = List·getD-eq-default (t .funcs) empty (omega arith) in omega (arith, ap (λ (x : Func). x .frame) e)
-      ]
-
-  longest-to : (n f : ℕ) → longestTo t n f ≤ mostStack * n
-  unfolding longestTo
-  longest-to zero f = omega arith
-  longest-to (suc n) f =
-      let l = by-largest _ (λ m. m ≤ mostStack * n) (callees (func t f)) (omega arith) (λ g k. longest-to n g) in
-      omega (arith, frame-low f, s .stack-high, l)
-
-  -- D and d
-  pub longest-low : (f : ℕ) → longest t f ≤ mostStack * mostFuncs
-  unfolding longest
-  longest-low f = omega (arith, longest-to (count t) f, s .few)
-
-  shortest-to : (n f : ℕ) → shortestTo t n f ≤ mostStack * n
-  unfolding shortestTo
-  shortest-to zero f = omega arith
-  shortest-to (suc n) f =
-      let l = smallest-low (shortestTo t n) (callees (func t f)) (mostStack * n) (λ g. shortest-to n g) in
-      by-test (λ m. m ≤ mostStack * suc n) (callFree (func t f))
-      (λ h. omega (arith, frame-low f, s .stack-high)) (λ h. omega (arith, frame-low f, s .stack-high, l))
-
-  pub shortest-low : (f : ℕ) → shortest t f ≤ mostStack * mostFuncs
-  unfolding shortest
-  shortest-low f = omega (arith, shortest-to (count t) f, s .few)
-
   -- the chain
   kept-low : (f p : ℕ) → kept t f p ≤ mostStack
-  kept-low f p = omega (arith, frame-low f, s .stack-high)
+  kept-low f p = omega (arith, frame-low s f, s .stack-high)
 
   chain-to : (n f : ℕ) → chainTo (λ m. m) t n f ≤ mostStack * n
   unfolding chainTo
@@ -93,7 +50,7 @@ module _ {t : Task} (s : Shaped t) where
   after-low : (f p h : ℕ) → h ≤ t .stack → after t f p h ≤ t .stack
   unfolding after
   after-low f p h k =
-      by-test (λ m. m ≤ t .stack) (isEnsure (func t f) p) (λ i. omega (arith, frame-low f)) (λ i. cut-low h (called (point (func t f) p)) k)
+      by-test (λ m. m ≤ t .stack) (isEnsure (func t f) p) (λ i. omega (arith, frame-low s f)) (λ i. cut-low h (called (point (func t f) p)) k)
 
   carried-low : (f q n : ℕ) → n ≤ suc (t .stack) → carried (after t f q) n ≤ suc (t .stack)
   carried-low f q zero k = omega arith

@@ -1,11 +1,12 @@
 -- One function of the task: the numbers that its points are given are its figures, and so are what the kernels answer.
-use Prim.Native.Nat.{ℕ, zero, suc, _+_, _-_, _≤_, _<_, min}
+use Prim.Native.Nat.{ℕ, suc, _+_, _-_, _≤_, _<_, min}
 use native.Mathlib.Omega.{arith}
 use native.Mathlib.Numerals.{add-one}
 use mathlib.Core.List.{List}
 use mathlib.Core.Option.{Option, none, some}
 use mathlib.Core.Path.{_≡_, refl, ap, sym, subst, _∙_}
 use lib.Dec.{T, ltb}
+use lib.ListN.{length}
 use borrow.Author.Tests.{lt-ltb}
 use Rattle.model.specs.Basic.{if_then_else_}
 use Rattle.model.specs.Limits.{mostStack, mostFuncs, mostPoints}
@@ -13,38 +14,34 @@ use Rattle.model.specs.Task.{Func, Task, size, func}
 use Rattle.model.specs.Walk.{called}
 use Rattle.model.specs.Figures as model
 use Rattle.model.specs.Figures.{longest, shortest, fillAfter, fill, kept}
-use Rattle.theory.proofs.Links.{callee-later, ensure-after-call}
+use Rattle.theory.proofs.Links.{ensure-after-call}
 use Rattle.tables.specs.declared.Header.{Header}
 use Rattle.tables.specs.declared.Span.{Span}
 use Rattle.tables.specs.Tables.{item, pointAt, baseAt, sizeAt, spanAt, funcIn, taskOf}
-use Rattle.tables.specs.Valid.{Fits}
+use Rattle.tables.specs.Valid.{Lies, Fits}
+use Rattle.flow.specs.Flow.{Given}
 use Rattle.tables.proofs.Laws.{func-is, size-is, frame-is, point-is, count-is, point-there, length-points}
 use Rattle.tables.proofs.Valid.{settled-fits}
 use Rattle.problems.specs.Problems.{Filled, KeptIn, CutIn}
 use Rattle.problems.proofs.Laws.{filled-as}
-use Rattle.columns.specs.Columns.{longestColumn, shortestColumn, fillColumn, entryColumn, Funcs}
+use Rattle.columns.specs.Columns.{columnsEnd, longestColumn, shortestColumn, fillColumn, entryColumn, Funcs}
 use Rattle.columns.specs.Values.{numbered, ensureAt, filledAt, keptAt, cutAt, chainedAt}
-use Rattle.columns.proofs.Values.{kept-frame, cut-stack}
+use Rattle.columns.specs.Displaced.{Ready}
+use Rattle.columns.proofs.Values.{kept-low, cut-stack}
+use Rattle.columns.proofs.Displaces.{callee-in}
 use Rattle.figures.specs.declared.Figure.{Figure}
 use Rattle.figures.specs.declared.Figure.the-variants.{High, Dead, Need, Next, Fill}
-use Rattle.figures.specs.Figured.{Ready}
 use Rattle.figures.specs.Steps.{Figures, Turn, Due}
 use Rattle.figures.proofs.Limits.{entry-low}
 use Rattle.figures.proofs.Gathers.{entry-of}
 
 module _ {w : List ℕ} {h : Header} {f : ℕ} (r : Ready w h) (k : f < h .funcs) where
-  -- what a point calls is a later function
-  pub callee-in : (p g : ℕ) → p < sizeAt w f → called (pointAt w (baseAt w f + p)) ≡ some g → (f < g) × (g < h .funcs)
-  callee-in p g l e =
-      let c = callee-later (r .settled .formed .linked) f p g (rw (count-is w h) k) (rw (size-is w h f k) l) (rw (point-is w h f k p l) e) in
-      (c .0, rw (count-is w h) at (c .1))
-
   left-is : (p q : ℕ) → q < sizeAt w f → Funcs (longest (taskOf w h)) longestColumn 0 (h .funcs) w → (o : Option ℕ)
       → called (pointAt w (baseAt w f + q)) ≡ o → (frame : ℕ)
       → (if ltb (numbered o) mostFuncs then frame - (h .stack - item w (longestColumn + numbered o)) else 0) ≡ fillAfter (taskOf w h) frame o
   left-is p q l d none e frame = refl
   left-is p q l d (some g) e frame =
-      let c = callee-in q g l e in
+      let c = callee-in r k q g l e in
       rw (lt-ltb g mostFuncs (omega (arith, c .1, r .settled .holds .few)), d .each g (omega arith) (c .1))
 
   pub fill-is : Funcs (longest (taskOf w h)) longestColumn 0 (h .funcs) w → (p : ℕ) → p < sizeAt w f → filledAt w h (spanAt w f) p ≡ fill (taskOf w h) f p
@@ -62,7 +59,7 @@ module _ {w : List ℕ} {h : Header} {f : ℕ} (r : Ready w h) (k : f < h .funcs
       → called (pointAt w (baseAt w f + p)) ≡ some g → cutAt w h (spanAt w f) p ≡ h .stack - shortest (taskOf w h) g
   unfolding cutAt
   cut-is d p g l e =
-      let c = callee-in p g l e in
+      let c = callee-in r k p g l e in
       rw (e, lt-ltb g mostFuncs (omega (arith, c .1, r .settled .holds .few)), d .each g (omega arith) (c .1))
 
   pub chained-is : ((p : ℕ) → p < sizeAt w f → item w (fillColumn + baseAt w f + p) ≡ fill (taskOf w h) f p) → (own p g : ℕ) → p < sizeAt w f
@@ -76,7 +73,7 @@ module _ {w : List ℕ} {h : Header} {f : ℕ} (r : Ready w h) (k : f < h .funcs
 -- numbers of blocks
 pub kept-blocks : (w : List ℕ) (s : Span) {l l′ : List ℕ} → s .frame ≤ mostStack → Filled (λ p v. v ≡ keptAt w s p) (s .size) l l′
     → (p : ℕ) → p < s .size → item l′ p ≤ mostStack
-kept-blocks w s h k p l = omega (arith, k .each p l, kept-frame w s 0 p)
+kept-blocks w s h k p l = omega (arith, kept-low w s p (k .each p l))
 
 pub cut-blocks : (w : List ℕ) (h : Header) (s : Span) {l l′ : List ℕ} → h .stack ≤ mostStack → Filled (λ p v. v ≡ cutAt w h s p) (s .size) l l′
     → (p : ℕ) → p < s .size → item l′ p ≤ mostStack
@@ -84,24 +81,35 @@ cut-blocks w h s i k p l = omega (arith, k .each p l, cut-stack w h s p)
 
 module _ {w : List ℕ} {h : Header} {f k : ℕ} {s : Span} (x : Turn w h f k s) where
   pub turn-fits : Fits w s
-  turn-fits = let e = x .same in rw e (settled-fits (x .worked .ready .settled) f (x .below))
+  turn-fits = let e = x .same in rw e (settled-fits (x .begun .worked .ready .settled) f (x .begun .below))
+
+  pub turn-room : {n : ℕ} → mostPoints ≤ n → s .size ≤ n
+  turn-room h = omega (arith, turn-fits .small)
+
+  pub turn-kernel : {gens kills : List ℕ} → mostPoints ≤ length gens → mostPoints ≤ length kills → Given w s gens kills
+  turn-kernel g k = record { fits = turn-fits; gens-long = turn-room g; kills-long = turn-room k }
+
+  -- what a value that carries no number asks
+  pub turn-values : {n : ℕ} → mostPoints ≤ n → Lies w s × (columnsEnd ≤ length w) × (s .frame ≤ mostStack) × Unit {0} × (s .size ≤ n)
+  turn-values h = (turn-fits .lies, omega (arith, x .begun .worked .ready .room), turn-fits .frame, tt, turn-room h)
 
   same-func : func (taskOf w h) f ≡ funcIn w s
-  same-func = func-is w h f (x .below) ∙ ap (funcIn w) (sym (x .same))
+  same-func = func-is w h f (x .begun .below) ∙ ap (funcIn w) (sym (x .same))
 
   same-size : s .size ≡ sizeAt w f
   same-size = ap (λ (s : Span). s .size) (x .same)
 
   own-entry : item w (entryColumn + f) ≡ model.entry (taskOf w h) f
-  own-entry = entry-of (x .worked .ready) (x .worked .stands .entry) f (x .below) (omega arith) (omega (arith, x .below))
+  own-entry = entry-of (x .begun .worked .ready) (x .begun .worked .stands .entry) f (x .begun .below) (omega arith) (omega (arith, x .begun .below))
 
   pub turn-entry : item w (entryColumn + f) ≤ mostStack
-  turn-entry = omega (arith, own-entry, entry-low (x .worked .ready .settled .formed .shaped) f)
+  turn-entry = omega (arith, own-entry, entry-low (x .begun .worked .ready .settled .formed .shaped) f)
 
   pub turn-reached : (p : ℕ) → p < s .size → T (model.reached (funcIn w s) p)
   turn-reached p l =
       subst (λ (x : Func). T (model.reached x p)) same-func
-      (x .worked .ready .settled .formed .reach f p (rw (count-is w h) (x .below)) (omega (arith, ap size same-func, length-points w (s .base) (s .size))))
+      (x .begun .worked .ready .settled .formed .reach f p (rw (count-is w h) (x .begun .below))
+      (omega (arith, ap size same-func, length-points w (s .base) (s .size))))
 
   -- what the points are given and what the kernels answer, as figures of the task
   pub of-dead : {l l′ : List ℕ} → Filled (λ p v. v ≡ model.dead (funcIn w s) p) (s .size) l l′ → Figures Dead (taskOf w h) f (s .size) l l′
@@ -116,7 +124,7 @@ module _ {w : List ℕ} {h : Header} {f k : ℕ} {s : Span} (x : Turn w h f k s)
         filled = filled-as
             (λ p v i e.
             e ∙ (ap (λ (s : Span). filledAt w h s p) (x .same)
-            ∙ fill-is (x .worked .ready) (x .below) (x .worked .stands .away .longest) p (omega (arith, same-size)))) y;
+            ∙ fill-is (x .begun .worked .ready) (x .begun .below) (x .begun .worked .stands .away .longest) p (omega (arith, same-size)))) y;
       }
 
   module _ {c c′ : List ℕ} where
@@ -127,7 +135,7 @@ module _ {w : List ℕ} {h : Header} {f k : ℕ} {s : Span} (x : Turn w h f k s)
           at-ensures = λ p l e.
               y .each p l
               ∙ (ap (λ (s : Span). keptAt w s p) (x .same)
-              ∙ kept-is (x .worked .ready) (x .below) p (x .worked .stands .own Fill n p (omega (arith, same-size))));
+              ∙ kept-is (x .begun .worked .ready) (x .begun .below) p (x .begun .worked .stands .own Fill n p (omega (arith, same-size))));
         }
 
     pub of-next : {l l′ : List ℕ} → k ≤ 4 → Filled (λ p v. v ≡ keptAt w s p) (s .size) c c′
@@ -145,7 +153,7 @@ module _ {w : List ℕ} {h : Header} {f k : ℕ} {s : Span} (x : Turn w h f k s)
               let d : called (pointAt w (baseAt w f + p)) ≡ some g =
               ap (λ (s : Span). called (pointAt w (s .base + p))) (sym (x .same)) ∙ (sym (ap called (point-there w (s .base) (s .size) p l)) ∙ c) in
               y .each p l ∙ (ap (λ (s : Span). cutAt w h s p) (x .same)
-              ∙ cut-is (x .worked .ready) (x .below) (x .worked .stands .away .shortest) p g (omega (arith, same-size)) d);
+              ∙ cut-is (x .begun .worked .ready) (x .begun .below) (x .begun .worked .stands .away .shortest) p g (omega (arith, same-size)) d);
         }
 
     pub of-high : {start : ℕ} {l l′ : List ℕ} → Filled (λ p v. v ≡ cutAt w h s p) (s .size) c c′ → start ≡ min (h .stack) (item w (entryColumn + f) + s .frame)

@@ -1,12 +1,13 @@
 -- The figures as they are read back.
-use Prim.Native.Nat.{ℕ, _+_, _-_, _*_, _≤_, _<_}
+use Prim.Native.Nat.{ℕ, _+_, _-_, _≤_, _<_}
 use native.Mathlib.Omega.{arith}
 use mathlib.Core.List.{List}
-use mathlib.Core.Path.{_≡_, refl, ap, sym, subst, _∙_}
-use Rattle.model.specs.Limits.{mostStack, mostFuncs}
-use Rattle.model.specs.Task.{Func, Task, func}
+use lib.ListN.{length}
+use mathlib.Core.Path.{_≡_, ap, sym, subst, _∙_}
+use Rattle.model.specs.Limits.{mostStack}
+use Rattle.model.specs.Task.{func}
 use Rattle.model.specs.Figures as model
-use Rattle.model.specs.Sheet.{inBlocks, costed, sheetOf}
+use Rattle.model.specs.Sheet.{costed, sheetOf}
 use Rattle.theory.proofs.Rules.{need-frame}
 use Rattle.tables.specs.declared.Header.{Header}
 use Rattle.tables.specs.declared.Span.{Span}
@@ -15,13 +16,19 @@ use Rattle.tables.specs.Valid.{Lies}
 use Rattle.tables.proofs.Laws.{frame-is}
 use Rattle.tables.proofs.Valid.{lies-in}
 use Rattle.columns.specs.Columns.{highColumn, deadColumn, needColumn, nextColumn, fillColumn, longestColumn, shortestColumn, entryColumn}
-use Rattle.columns.specs.Columns.{chainColumn, Points}
+use Rattle.columns.specs.Columns.{chainColumn, columnsEnd, Points}
 use Rattle.figures.specs.Figured.{Figured, figuredOf, funcFigures}
-use Rattle.figures.proofs.Limits.{frame-low, high-low, next-low, chain-low, entry-low}
+use Rattle.columns.specs.Values.{mostChain}
+use Rattle.columns.proofs.Limits.{frame-low}
+use Rattle.figures.proofs.Limits.{high-low, next-low, chain-low, entry-low}
 
 module _ {w : List ℕ} {h : Header} {f : ℕ} {s : Span} (k : Figured w h) (l : f < h .funcs) (e : s ≡ spanAt w f) where
-  pub lies-there : Lies w s
+  lies-there : Lies w s
   lies-there = subst (λ (s : Span). Lies w s) (sym e) (lies-in (k .settled .holds) f l)
+
+  pub read-there : {column p : ℕ} → p < s .size → column ≤ fillColumn
+      → Lies w s × (p < s .size) × (column ≤ fillColumn) × (columnsEnd ≤ length w)
+  read-there i c = (lies-there, i, c, omega (arith, k .room))
 
   column-there : {figure : ℕ → ℕ → ℕ} {a : ℕ} → Points figure a (h .funcs) w → (p : ℕ) → p < s .size → item w (a + s .base + p) ≡ figure f p
   column-there {figure} {a} x p i =
@@ -45,12 +52,13 @@ module _ {w : List ℕ} {h : Header} {f : ℕ} {s : Span} (k : Figured w h) (l :
     pub small-next : item w (nextColumn + s .base + p) ≤ mostStack
     small-next = omega (arith, column-there (k .next) p i, next-low (k .settled .formed .shaped) f p)
 
-    pub small-chain : item w (chainColumn + f) ≤ mostStack * mostFuncs
+    pub small-chain : item w (chainColumn + f) ≤ mostChain
     small-chain = omega (arith, k .chain .each f (omega arith) l, chain-low (k .settled .formed .shaped) f, k .settled .holds .few)
 
-    pub figures-are : {high dead need next fill save reload later : ℕ} → high ≡ item w (highColumn + s .base + p) → dead ≡ item w (deadColumn + s .base + p)
+    pub figures-are : {high dead need next fill save reload later cost : ℕ} → high ≡ item w (highColumn + s .base + p)
+        → dead ≡ item w (deadColumn + s .base + p)
         → need ≡ item w (needColumn + s .base + p) → next ≡ item w (nextColumn + s .base + p) → fill ≡ item w (fillColumn + s .base + p)
-        → save ≡ high - dead → reload ≡ need - dead → later ≡ next - need
+        → save ≡ high - dead → reload ≡ need - dead → later ≡ next - need → cost ≡ save + reload + later + item w (chainColumn + f)
         → figuredOf (record {
           high = high;
           dead = dead;
@@ -59,12 +67,12 @@ module _ {w : List ℕ} {h : Header} {f : ℕ} {s : Span} (k : Figured w h) (l :
           reload = reload;
           later = later;
           chain = item w (chainColumn + f);
-          cost = save + reload + later + item w (chainColumn + f);
+          cost = cost;
           fill = fill;
         })
         ≡ sheetOf (taskOf w h) .at f p
     unfolding costed
-    figures-are a b c d x y z q =
+    figures-are a b c d x y z q m =
         let high-is = a ∙ column-there (k .high) p i in
         let dead-is = b ∙ column-there (k .dead) p i in
         let need-is = c ∙ column-there (k .need) p i in
@@ -74,6 +82,7 @@ module _ {w : List ℕ} {h : Header} {f : ℕ} {s : Span} (k : Figured w h) (l :
         let save-is = y ∙ (λ j. high-is j - dead-is j) in
         let reload-is = z ∙ (λ j. need-is j - dead-is j) in
         let later-is = q ∙ (λ j. next-is j - need-is j) in
+        let cost-is = m ∙ (λ j. save-is j + reload-is j + later-is j + chain-is j) in
         λ j. record {
           high = high-is j;
           dead = dead-is j;
@@ -82,7 +91,7 @@ module _ {w : List ℕ} {h : Header} {f : ℕ} {s : Span} (k : Figured w h) (l :
           reload = reload-is j;
           later = later-is j;
           chain = chain-is j;
-          cost = save-is j + reload-is j + later-is j + chain-is j;
+          cost = cost-is j;
           fill = fill-is j;
         }
 

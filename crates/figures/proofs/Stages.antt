@@ -20,10 +20,11 @@ use Rattle.columns.specs.Values.{mostChain, chainedAt, Put, raisedBy, Raised}
 use Rattle.columns.proofs.Writes.{changed-on, changed-wider, changed-agree, points-kept, funcs-kept, stacked-order, changed-past}
 use Rattle.figures.specs.declared.Figure.{Figure}
 use Rattle.figures.specs.declared.Figure.the-variants.{High, Dead, Need, Next, Fill}
-use Rattle.figures.specs.Figured.{Ready, Figured}
-use Rattle.figures.specs.Steps.{figureOf, placeOf, columnOf, pointColumns, Figures, Displaced, Displacing, Stands, Worked, Turn}
+use Rattle.columns.specs.Displaced.{Ready, Displaced, Displacing}
+use Rattle.figures.specs.Figured.{Figured}
+use Rattle.figures.specs.Steps.{figureOf, placeOf, columnOf, pointColumns, Figures, Stands, Worked, Begun, Turn}
 use Rattle.figures.proofs.Limits.{chain-low}
-use Rattle.figures.proofs.Within.{within-ready, within-task}
+use Rattle.columns.proofs.Within.{within-ready, within-task}
 use Rattle.figures.proofs.Gathers.{gathered-none, gathered-kept, gathered-more, chain-of, entry-of}
 use Rattle.figures.proofs.Points.{chained-is}
 
@@ -133,16 +134,17 @@ module _ {w w′ v : List ℕ} {h : Header} {f : ℕ} (which : Figure) (x : Work
         put-within,
       )
 
-pub turn-of : {w : List ℕ} {h : Header} {f k : ℕ} {s : Span} → Worked w h f k → f < h .funcs → s ≡ spanAt w f → Turn w h f k s
-turn-of x l e = record { worked = x; below = l; same = e }
+pub turn-of : {w : List ℕ} {h : Header} {f k : ℕ} {s : Span} → Begun w h f k → s ≡ spanAt w f → Turn w h f k s
+turn-of x e = record { begun = x; same = e }
 
 pub worked-put : (which : Figure) {w w′ v v₀ : List ℕ} {h : Header} {f column : ℕ} {s : Span} → Turn w h f (suc (placeOf which)) s
     → column ≡ columnOf which → Figures which (taskOf w h) f (s .size) v₀ v → Put (column + s .base) (s .size) v w w′
-    → Worked w′ h f (placeOf which) × Within w w′
+    → Begun w′ h f (placeOf which) × Within w w′
 worked-put which {w} {w′} {v} {f = f} {s = s} x n y put =
-    worked-more which (x .worked) (x .below)
+    let r = worked-more which (x .begun .worked) (x .begun .below)
     (subst (λ (s : Span). Put (columnOf which + s .base) (s .size) v w w′) (x .same) (subst (λ (m : ℕ). Put (m + s .base) (s .size) v w w′) n put))
-    (λ p i. y .filled .each p (omega (arith, ap (λ (s : Span). s .size) (x .same))))
+    (λ p i. y .filled .each p (omega (arith, ap (λ (s : Span). s .size) (x .same)))) in
+    (record { worked = r .0; below = x .begun .below }, r .1)
 
 -- function f has all its figures, and its callees are raised
 module _ {w v w′ c e : List ℕ} {h : Header} {f : ℕ} (x : Worked w h f 0) (l : f < h .funcs)
@@ -208,19 +210,21 @@ pub worked-raised : {w v w′ c c₀ e e₀ : List ℕ} {h : Header} {f : ℕ} {
     → Raised entryColumn s e v w′ → Filled (λ p n. n ≡ chainedAt w s (item w (chainColumn + f)) p) (s .size) c₀ c
     → Filled (λ p n. n ≡ item w (highColumn + s .base + p)) (s .size) e₀ e → Worked w′ h (f + 1) pointColumns × Within w w′
 worked-raised {w} {v} {w′} {c} {c₀} {e} {e₀} {f = f} x raised last y z =
-    worked-next (x .worked) (x .below) (subst (λ (s : Span). Raised chainColumn s c w v) (x .same) raised)
+    worked-next (x .begun .worked) (x .begun .below) (subst (λ (s : Span). Raised chainColumn s c w v) (x .same) raised)
     (subst (λ (s : Span). Raised entryColumn s e v w′) (x .same) last)
     (subst (λ (s : Span). Filled (λ p n. n ≡ chainedAt w s (item w (chainColumn + f)) p) (s .size) c₀ c) (x .same) y)
     (subst (λ (s : Span). Filled (λ p n. n ≡ item w (highColumn + s .base + p)) (s .size) e₀ e) (x .same) z)
 
 -- the chain of function f, from which it raises those of its callees
-pub own-chain : {w : List ℕ} {h : Header} {f k : ℕ} → Worked w h f k → (f < h .funcs) → item w (chainColumn + f) ≤ mostChain
-own-chain {f = f} x l =
+pub own-chain : {w : List ℕ} {h : Header} {f k : ℕ} → Begun w h f k → item w (chainColumn + f) ≤ mostChain
+own-chain {f = f} x =
+    let r = x .worked .ready in
     omega (
       arith,
-      chain-of (x .ready) (x .stands .chain) f l (omega arith) (omega arith),
-      chain-low (x .ready .settled .formed .shaped) f,
-      x .ready .settled .holds .few,
+      chain-of r (x .worked .stands .chain) f (x .below) (omega arith) (omega (arith, x .below)),
+      chain-low (r .settled .formed .shaped) f,
+      r .settled .holds .few,
+      x .below,
     )
 
 -- every function has all its figures

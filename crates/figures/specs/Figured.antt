@@ -13,11 +13,7 @@ use Rattle.figures.specs.declared.PointFigures.{PointFigures}
 use Rattle.figures.specs.declared.FuncFigures.{FuncFigures}
 use Rattle.columns.specs.Columns.{highColumn, deadColumn, needColumn, nextColumn, fillColumn, longestColumn, shortestColumn, entryColumn}
 use Rattle.columns.specs.Columns.{chainColumn, Points, Funcs}
-
--- the working space holds an accepted task and has room for all columns: what the figures are worked out from
-pub record Ready (w : List ℕ) (h : Header) : Type 0 where
-  pub settled : Settled w h
-  pub room : workLength ≤ length w
+pub use Rattle.columns.specs.Displaced.{Ready}
 
 -- every column has the figure of each function and of each point: what a service reads figures from
 pub record Figured (w : List ℕ) (h : Header) : Type 0 where

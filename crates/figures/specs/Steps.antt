@@ -11,11 +11,11 @@ use Rattle.tables.specs.declared.Header.{Header}
 use Rattle.tables.specs.declared.Span.{Span}
 use Rattle.tables.specs.Tables.{item, baseAt, sizeAt, spanAt, taskOf}
 use Rattle.problems.specs.Problems.{Filled}
-use Rattle.columns.specs.Columns.{highColumn, longestColumn, shortestColumn, entryColumn, chainColumn, Points, Funcs}
+use Rattle.columns.specs.Columns.{highColumn, entryColumn, chainColumn, Points}
+use Rattle.columns.specs.Displaced.{Ready, Displaced}
 use Rattle.columns.specs.Values.{raisedBy}
 use Rattle.figures.specs.declared.Figure.{Figure}
 use Rattle.figures.specs.declared.Figure.the-variants.{High, Dead, Need, Next, Fill}
-use Rattle.figures.specs.Figured.{Ready}
 
 -- a figure of the points; the place of its column among those of the points, and how many these are
 abbrev pub figureOf : Figure → Task → ℕ → ℕ → ℕ
@@ -42,16 +42,6 @@ columnOf which = highColumn + mostInAll * placeOf which
 pub record Figures (which : Figure) (t : Task) (f n : ℕ) (l l′ : List ℕ) : Type 0 where
   pub filled : Filled (λ p v. v ≡ figureOf which t f p) n l l′
 
--- D and d of the functions from m on and below n
-pub record Displaced (t : Task) (m n : ℕ) (w : List ℕ) : Type 0 where
-  pub longest : Funcs (model.longest t) longestColumn m n w
-  pub shortest : Funcs (model.shortest t) shortestColumn m n w
-
--- the tables hold an accepted task, and the functions from f on have D and d
-pub record Displacing (w : List ℕ) (h : Header) (f : ℕ) : Type 0 where
-  pub ready : Ready w h
-  pub away : Displaced (taskOf w h) f (h .funcs) w
-
 -- the largest over the points of the functions below n that call g
 unfoldable pub soFar : Task → (ℕ → ℕ → ℕ) → ℕ → ℕ → ℕ
 soFar t figure zero g = 0
@@ -77,10 +67,14 @@ pub record Worked (w : List ℕ) (h : Header) (f k : ℕ) : Type 0 where
   pub ready : Ready w h
   pub stands : Stands (taskOf w h) (h .funcs) f k w
 
--- the turn of function f, which is s, when it has the figures whose place is k or more
-pub record Turn (w : List ℕ) (h : Header) (f k : ℕ) (s : Span) : Type 0 where
+-- function f is being worked on
+pub record Begun (w : List ℕ) (h : Header) (f k : ℕ) : Type 0 where
   pub worked : Worked w h f k
   pub below : f < h .funcs
+
+-- and is s
+pub record Turn (w : List ℕ) (h : Header) (f k : ℕ) (s : Span) : Type 0 where
+  pub begun : Begun w h f k
   pub same : s ≡ spanAt w f
 
 -- this figure is the next

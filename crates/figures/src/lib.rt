@@ -1,17 +1,18 @@
 // The figures of a task that judge accepted, for every function and point: worked out in columns behind the tables, and read back as one record.
 // What costs work to find has a column; what is a difference or a sum is computed where it is read.
 ghost use mathlib.Core.Path.{_≡_};
-ghost use Prim.Native.Nat.{ℕ, suc, _+_, _<_, _≤_};
+ghost use Prim.Native.Nat.{suc, _+_, _<_, _≤_};
 ghost use lib.ListN.{length};
-ghost use Rattle.model.specs.Limits.{workLength};
-ghost use Rattle.model.specs.Basic.{if_then_else_};
+ghost use Rattle.model.specs.Limits.{workLength, mostStack};
 ghost use Rattle.model.specs.Sheet.{sheetOf};
 ghost use Rattle.tables.specs.Tables.{spanAt, taskOf};
 ghost use Rattle.tables.specs.Valid.{Kept, Settled};
 ghost use Rattle.columns.specs.Columns.{columnsEnd, Within};
 ghost use Rattle.figures.specs.declared.Figure.the-variants.{Next, High};
-ghost use Rattle.figures.specs.Figured.{Ready, Figured, figuredOf, funcFigures};
-ghost use Rattle.figures.specs.Steps.{placeOf, columnOf, pointColumns, Figures, Displacing, Worked, Due};
+ghost use Rattle.columns.specs.Values.{mostChain};
+ghost use Rattle.columns.specs.Displaced.{Ready};
+ghost use Rattle.figures.specs.Figured.{Figured, figuredOf, funcFigures};
+ghost use Rattle.figures.specs.Steps.{placeOf, columnOf, pointColumns, Figures, Worked, Begun, Due};
 pub use columns::Columns;
 use columns::Value;
 use model::Limits;
@@ -47,53 +48,6 @@ enum Figure {
     Need,
     Next,
     Fill,
-}
-
-// The number, but nothing where there is none of it.
-fn unless(no: bool, n: u32) -> u32
-    ensures { λ r. ⌜ r ≡ (if no then 0 else n) ⌝ }
-{
-    if no {
-        return 0;
-    }
-    n
-}
-
-// D and d of function f, whose callees have theirs.
-fn displace(
-    work: &mut [u32],
-    h: Header,
-    f: usize,
-    gens: &mut [u64; Limits::POINTS],
-    kills: &mut [u64; Limits::POINTS],
-    sets: &mut [u64; Limits::POINTS],
-)
-    requires { ⌜ Displacing (now work) h (f + 1) × (f < h .funcs) ⌝ }
-    ensures { λ r. ⌜ Displacing (now (work .exit)) h f × Within (now (work .entry)) (now (work .exit)) ⌝ }
-{
-    let s = tables::span_at(work, f);
-    let b = columns::callee_bounds(work, s);
-    let free = problems::call_free(work, s, gens, kills, sets);
-    work[Columns::LONGEST + f] = s.frame + b.most;
-    work[Columns::SHORTEST + f] = s.frame + unless(free, b.least);
-}
-
-// D and d of every function, from the last to the first: calls lead to later functions.
-fn displacements(
-    work: &mut [u32],
-    h: Header,
-    gens: &mut [u64; Limits::POINTS],
-    kills: &mut [u64; Limits::POINTS],
-    sets: &mut [u64; Limits::POINTS],
-)
-    requires { ⌜ Ready (now work) h ⌝ }
-    ensures { λ r. ⌜ Displacing (now (work .exit)) h 0 × Within (now (work .entry)) (now (work .exit)) ⌝ }
-{
-    let mut f = h.funcs;
-    while 0 < f {
-        f -= 1;
-        displace(work, h, f, gens, kills, sets);
-    }
 }
 
 fn column_of(which: Figure) -> usize
@@ -187,8 +141,8 @@ fn write_figure(
     state: &mut [u8; Limits::POINTS],
     out: &mut [u32; Limits::POINTS],
 )
-    requires { ⌜ Worked (now work) h f (suc (placeOf which)) × (f < h .funcs) ⌝ }
-    ensures { λ r. ⌜ Worked (now (work .exit)) h f (placeOf which) × Within (now (work .entry)) (now (work .exit)) ⌝ }
+    requires { ⌜ Begun (now work) h f (suc (placeOf which)) ⌝ }
+    ensures { λ r. ⌜ Begun (now (work .exit)) h f (placeOf which) × Within (now (work .entry)) (now (work .exit)) ⌝ }
 {
     let s = tables::span_at(work, f);
     figure_points(which, work, h, f, s, values, gens, kills, sets, state, out);
@@ -204,7 +158,7 @@ fn raise_callees(
     values: &mut [u32; Limits::POINTS],
     out: &mut [u32; Limits::POINTS],
 )
-    requires { ⌜ Worked (now work) h f 0 × (f < h .funcs) ⌝ }
+    requires { ⌜ Begun (now work) h f 0 ⌝ }
     ensures { λ r. ⌜ Worked (now (work .exit)) h (f + 1) pointColumns × Within (now (work .entry)) (now (work .exit)) ⌝ }
 {
     let s = tables::span_at(work, f);
@@ -227,7 +181,7 @@ fn figure_func(
     state: &mut [u8; Limits::POINTS],
     out: &mut [u32; Limits::POINTS],
 )
-    requires { ⌜ Worked (now work) h f pointColumns × (f < h .funcs) ⌝ }
+    requires { ⌜ Begun (now work) h f pointColumns ⌝ }
     ensures { λ r. ⌜ Worked (now (work .exit)) h (f + 1) pointColumns × Within (now (work .entry)) (now (work .exit)) ⌝ }
 {
     write_figure(
@@ -330,7 +284,7 @@ fn figure_with(
     ensures { λ r. ⌜ Figured (now (work .exit)) h × (taskOf (now (work .exit)) h ≡ taskOf (now (work .entry)) h)
         × Kept columnsEnd (now (work .entry)) (now (work .exit)) ⌝ }
 {
-    displacements(work, h, gens, kills, sets);
+    columns::displacements(work, h, gens, kills, sets);
     columns::clear_column(work, Columns::CHAIN);
     columns::clear_column(work, Columns::ENTRY);
     figure_funcs(work, h, values, gens, kills, sets, state, out);
@@ -360,6 +314,13 @@ pub fn figure_task(work: &mut [u32], h: Header)
     );
 }
 
+fn cost_of(save: u32, reload: u32, later: u32, chain: u32) -> u32
+    requires { ⌜ (save ≤ mostStack) × (reload ≤ mostStack) × (later ≤ mostStack) × (chain ≤ mostChain) ⌝ }
+    ensures { λ r. ⌜ r ≡ save + reload + later + chain ⌝ }
+{
+    save + reload + later + chain
+}
+
 // The figures of point p of function f, which is s.
 pub fn point_figures(work: &[u32], h: Header, f: usize, s: Span, p: usize) -> PointFigures
     requires { ⌜ Figured (now work) h × (f < h .funcs) × (s ≡ spanAt (now work) f) × (p < s .size) ⌝ }
@@ -374,7 +335,7 @@ pub fn point_figures(work: &[u32], h: Header, f: usize, s: Span, p: usize) -> Po
     let save = columns::above(high, dead);
     let reload = columns::above(need, dead);
     let later = columns::above(next, need);
-    let cost = save + reload + later + chain;
+    let cost = cost_of(save, reload, later, chain);
     PointFigures {
         high,
         dead,

@@ -261,3 +261,6 @@ unfolding joined
 spaced-most [] h = zero-le
 spaced-most (a ∷ l) h =
     omega (arith, length-append (bytes " " ++ decimal a) (spaced l), decimal-most a (h 0), spaced-most l (λ i. h (suc i)))
+
+pub row-most : (w l : List ℕ) → ((i : ℕ) → getD l i 0 < 2 ^ 32) → length (row w l) ≤ length w + 11 * length l + 2
+row-most w l h = omega (arith, length-row w l, spaced-most l h)

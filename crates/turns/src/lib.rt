@@ -16,6 +16,7 @@ ghost use Rattle.figures.specs.Figured.{Figured};
 ghost use Rattle.machine.specs.Moves.{coreOf, Good};
 ghost use Rattle.turns.specs.Frames.{framesEnd, placesIn, putCaller, framesOf, plainTurn};
 ghost use Rattle.turns.specs.Turns.{Runs, Placed, Stays, Steps, Preempts, Turns, actOf, Started, Reaches, Inside, Enters, Leaves, Stands};
+use figures::Columns;
 use machine::Machine;
 use model::Point;
 use model::Refusal;
@@ -28,7 +29,7 @@ use tables::Span;
 pub struct Frames;
 
 impl Frames {
-    pub const AT: usize = 8640;
+    pub const AT: usize = Columns::END;
 }
 
 // How many frames there are, function and point of the running one, and where the stack stands. A finished task has no frames.

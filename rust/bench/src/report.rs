@@ -22,10 +22,11 @@ fn proved(text: &[u8], output: &mut [u8], work: &mut [u32]) -> u64 {
     felknost::report(text, output, work).map_or(0, |written| written as u64)
 }
 
-fn second(text: &[u8], output: &mut [u8]) -> u64 {
-    second::report(text, second::WORK_MIN, output)
-        .written
-        .into()
+/// The second implementation is lent no working space. What the rules ask a service to leave in it is timed here too.
+fn second(text: &[u8], output: &mut [u8], work: &mut [u32]) -> u64 {
+    let result = second::report(text, work.len(), output);
+    work.fill(0);
+    result.written.into()
 }
 
 /// The second table of docs/BENCHMARKS.md.
@@ -37,10 +38,11 @@ pub fn table() {
     let mut work = vec![0; felknost::WORK];
     let mut output = vec![0; OUTPUT];
     let mut other = vec![0; OUTPUT];
+    let mut space = vec![0; felknost::WORK];
     for (name, text) in report_texts() {
         let [proved, second] = ROUNDS.times([
             &mut || proved(black_box(&text), &mut output, &mut work),
-            &mut || second(black_box(&text), &mut other),
+            &mut || second(black_box(&text), &mut other, &mut space),
         ]);
         let [check] = check::ROUNDS.times([&mut || check::proved(black_box(&text))]);
         println!(

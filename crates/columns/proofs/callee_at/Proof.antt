@@ -7,14 +7,9 @@ use Rattle.columns.specs.Values.{numbered}
 use Rattle.columns.proofs.callee_at.Statement.{statement}
 use Rattle.columns.proofs.callee_at.Tie as tie
 
-returns : tie.Need-returns
-returns c =
-    c .callee-of .ensures ∙ ap (λ (x : Point). numbered (called x)) (c .before .point-at .ensures)
-
 pub callee-at-spec : {M : Type 1} → statement M
-callee-at-spec = tie.close
+callee-at-spec =
+    tie.close
     (tie.spec
-    (λ c. search needs)
-    (λ c κs. search needs)
-    (λ c κs. search needs)
-    returns)
+    (λ c. search needs) (λ c κs. search needs) (λ c κs. search needs)
+    (λ c. c .callee-of .ensures ∙ ap (λ (x : Point). numbered (called x)) (c .before .point-at .ensures)))

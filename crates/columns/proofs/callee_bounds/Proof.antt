@@ -37,21 +37,6 @@ pub callee-bounds-spec : {M : Type 1} → statement M
 callee-bounds-spec =
     tie.close
     (tie.spec
-    Inv-loop
-    μ-loop
-    (λ c. (omega arith, seen-none _ _))
-    (λ c. omega arith)
-    (λ c κs. search needs)
-    (λ c. omega arith)
-    (λ c. omega arith)
-    (λ c. omega arith)
-    (λ c κs. omega arith)
-    (λ c. omega arith)
-    (λ c. omega arith)
-    (λ c. omega arith)
-    (λ c κs. search needs)
-    (λ c. omega arith)
-    loop-again
-    (λ c. omega arith)
-    loop-again-2
-    (λ c. seen-all _ _ (omega arith) (c .before .loop .inv .1)))
+    Inv-loop μ-loop (λ c. (omega arith, seen-none _ _)) (λ c. omega arith) (λ c κs. search needs) (λ c. omega arith) (λ c. omega arith)
+    (λ c. omega arith) (λ c κs. omega arith) (λ c. omega arith) (λ c. omega arith) (λ c. omega arith) (λ c κs. search needs) (λ c. omega arith)
+    loop-again (λ c. omega arith) loop-again-2 (λ c. seen-all _ _ (omega arith) (c .before .loop .inv .1)))

@@ -5,8 +5,7 @@ use Rattle.columns.proofs.is_ensure.Statement.{statement}
 use Rattle.columns.proofs.is_ensure.Tie as tie
 
 pub is-ensure-spec : {M : Type 1} → statement M
-is-ensure-spec = tie.close
+is-ensure-spec =
+    tie.close
     (tie.spec
-    (λ c. search needs)
-    (λ c. search needs)
-    (λ c. none-ensured (c .before .args .x) (c .match .keys2)))
+    (λ c. search needs) (λ c. search needs) (λ c. none-ensured (c .before .args .x) (c .match .keys2)))

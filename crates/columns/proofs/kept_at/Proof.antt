@@ -9,8 +9,7 @@ returns c =
     kept-by _ record { stack = 0; funcs = 0; points = 0 } _ _ (c .before .figure-at .ensures) (c .above .ensures)
 
 pub kept-at-spec : {M : Type 1} → statement M
-kept-at-spec = tie.close
+kept-at-spec =
+    tie.close
     (tie.spec
-    (λ c κs. search needs)
-    (λ c κs. search needs)
-    returns)
+    (λ c κs. search needs) (λ c κs. search needs) returns)

@@ -4,8 +4,7 @@ use Rattle.columns.proofs.least_with.Statement.{statement}
 use Rattle.columns.proofs.least_with.Tie as tie
 
 pub least-with-spec : {M : Type 1} → statement M
-least-with-spec = tie.close
+least-with-spec =
+    tie.close
     (tie.spec
-    (λ c κs. search needs)
-    (λ c. rw (c .before .if1 .taken) (c .smaller .ensures))
-    (λ c. search needs))
+    (λ c κs. search needs) (λ c. rw (c .before .if1 .taken) (c .smaller .ensures)) (λ c. search needs))

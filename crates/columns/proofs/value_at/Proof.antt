@@ -16,18 +16,7 @@ pub value-at-spec : {M : Type 1} → statement M
 value-at-spec =
     tie.close
     (tie.spec
-    (λ c. search needs)
-    (λ c κs. search needs)
-    (λ c. search needs)
-    (λ c κs. search needs)
-    (λ c. search needs)
-    (λ c κs. search needs)
-    (λ c. search needs)
-    (λ c κs. search needs)
-    (λ c. search needs)
-    chained-at-requires
-    (λ c. rw (c .before .enum-told .given .1) (c .fill-at .ensures))
-    (λ c. rw (c .before .enum-told2 .given .1) (c .kept-at .ensures))
-    (λ c. rw (c .before .enum-told3 .given .1) (c .cut-at .ensures))
-    (λ c. rw (c .before .enum-told4 .given .1) (c .figure-at .ensures))
-    returns-5)
+    (λ c. search needs) (λ c κs. search needs) (λ c. search needs) (λ c κs. search needs) (λ c. search needs) (λ c κs. search needs)
+    (λ c. search needs) (λ c κs. search needs) (λ c. search needs) chained-at-requires
+    (λ c. rw (c .before .enum-told .given .1) (c .fill-at .ensures)) (λ c. rw (c .before .enum-told2 .given .1) (c .kept-at .ensures))
+    (λ c. rw (c .before .enum-told3 .given .1) (c .cut-at .ensures)) (λ c. rw (c .before .enum-told4 .given .1) (c .figure-at .ensures)) returns-5)

@@ -34,14 +34,5 @@ pub value-points-spec : {M : Type 1} → statement M
 value-points-spec =
     tie.close
     (tie.spec
-    Inv-loop
-    μ-loop
-    (λ c. (omega arith, filled-none _))
-    (λ c κs. search needs)
-    (λ c. omega arith)
-    (λ c. omega arith)
-    (λ c. omega arith)
-    (λ c. omega arith)
-    loop-again
-    (λ c. c .before .loop .inv .1 .kept .size)
-    returns)
+    Inv-loop μ-loop (λ c. (omega arith, filled-none _)) (λ c κs. search needs) (λ c. omega arith) (λ c. omega arith) (λ c. omega arith)
+    (λ c. omega arith) loop-again (λ c. c .before .loop .inv .1 .kept .size) returns)

@@ -15,10 +15,26 @@ Inv-loop work₀ h values₀ gens₀ kills₀ sets₀ state₀ out₀ n f₀ wor
 abbrev μ-loop : tie.MeasureT-loop
 μ-loop work₀ h values₀ gens₀ kills₀ sets₀ state₀ out₀ n f₀ work values gens kills sets state out f = n - f
 
+figure-func-requires : tie.Need-figure-func-requires Inv-loop μ-loop
+figure-func-requires c κs =
+    let l = c .before .before .before .before .before .before .before .before .loop in
+    record { worked = l .inv .1; below = omega (arith, c .before .before .before .before .before .before .before .loop-test .taken) }
+
+add-f : tie.Need-add-f Inv-loop μ-loop
+add-f c =
+    let c10 = c .before .before .before .before .before .before .before .before .before .before in
+    omega (arith, c10 .loop-test .taken, c10 .before .loop .inv .1 .ready .settled .holds .few)
+
+loop-less : tie.Need-loop-less Inv-loop μ-loop
+loop-less c =
+    let c10 = c .before .before .before .before .before .before .before .before .before .before in
+    omega (arith, c10 .loop-test .taken)
+
 loop-again : tie.Need-loop-again Inv-loop μ-loop
 loop-again c =
+    let c10 = c .before .before .before .before .before .before .before .before .before .before in
     let d = c .before .before .figure-func .ensures in
-    (omega (arith, c .before .before .before .before .before .before .before .before .before .before .loop-test .taken), d .0, changed-on (c .before .before .before .before .before .before .before .before .before .before .before .loop .inv .2) (d .1))
+    (omega (arith, c10 .loop-test .taken), d .0, changed-on (c10 .before .loop .inv .2) (d .1))
 
 returns : tie.Need-returns Inv-loop μ-loop
 returns c =
@@ -31,12 +47,5 @@ pub figure-funcs-spec : {M : Type 1} → statement M
 figure-funcs-spec =
     tie.close
     (tie.spec
-    Inv-loop
-    μ-loop
-    (λ c. (omega arith, c .before .pre, changed-none _ _ _))
-    (λ c κs. (c .before .before .before .before .before .before .before .before .loop .inv .1, omega (arith, c .before .before .before .before .before .before .before .loop-test .taken)))
-    (λ c. omega (arith, c .before .before .before .before .before .before .before .before .before .before .loop-test .taken, c .before .before .before .before .before .before .before .before .before .before .before .loop .inv .1 .ready .settled .holds .few))
-    (λ c. omega (arith, c .before .before .before .before .before .before .before .before .before .before .loop-test .taken))
-    loop-again
-    (λ c. c .before .loop .inv .2 .size)
-    returns)
+    Inv-loop μ-loop (λ c. (omega arith, c .before .pre, changed-none _ _ _)) figure-func-requires add-f loop-less loop-again
+    (λ c. c .before .loop .inv .2 .size) returns)

@@ -1,58 +1,52 @@
 -- The callees have one caller more.
 use native.Mathlib.Omega.{arith}
 use borrow.Author.Needs.{needs}
-use Rattle.figures.proofs.Points.{turn-fits}
+use Rattle.figures.proofs.Points.{turn-fits, turn-room, turn-values}
 use Rattle.figures.proofs.Stages.{turn-of, own-chain, worked-raised}
 use Rattle.figures.proofs.raise_callees.Statement.{statement}
 use Rattle.figures.proofs.raise_callees.Tie as tie
 
 value-points-requires : tie.Need-value-points-requires
 value-points-requires c κs =
-    let a = c .before .before .before .before .before .before .pre in
-    let i = turn-fits (turn-of (a .0) (a .1) (c .before .before .before .span-at .ensures)) in
-    (i .lies, omega (arith, a .0 .ready .room), i .frame, own-chain (a .0) (a .1), omega (arith, i .small))
+    let b = c .before .before .before .before .before .before .pre in
+    let a = turn-of b (c .before .before .before .span-at .ensures) in
+    let i = turn-fits a in
+    (i .lies, omega (arith, b .worked .ready .room), i .frame, own-chain b, turn-room a (omega arith))
 
 value-points-requires-2 : tie.Need-value-points-requires-2
 value-points-requires-2 c κs =
-    let a = c .before .before .before .before .before .before .before .before .before .pre in
-    let i = turn-fits (turn-of (a .0) (a .1) (c .before .before .before .before .before .before .span-at .ensures)) in
-    (i .lies, omega (arith, a .0 .ready .room), i .frame, tt, omega (arith, i .small))
+    let b = c .before .before .before .before .before .before .before .before .before .pre in
+    turn-values (turn-of b (c .before .before .before .before .before .before .span-at .ensures)) (omega arith)
 
 raise-requires : tie.Need-raise-requires
 raise-requires c κs =
-    let a = c .before .before .before .before .before .before .before .before .before .before .before .before .before .pre in
-    let i = turn-fits (turn-of (a .0) (a .1) (c .before .before .before .before .before .before .before .before .before .before .span-at .ensures)) in
-    (i .lies, omega (arith, a .0 .ready .room), omega arith, omega arith, omega (arith, i .small))
+    let c10 = c .before .before .before .before .before .before .before .before .before .before in
+    let b = c10 .before .before .before .pre in
+    let a = turn-of b (c10 .span-at .ensures) in
+    (turn-fits a .lies, omega (arith, b .worked .ready .room), omega arith, omega arith, turn-room a (omega arith))
 
 raise-requires-2 : tie.Need-raise-requires-2
 raise-requires-2 c κs =
-    let a = c .before .before .before .before .before .before .before .before .before .before .before .before .before .before .before .before .before .before .before .pre in
-    let i = turn-fits (turn-of (a .0) (a .1) (c .before .before .before .before .before .before .before .before .before .before .before .before .before .before .before .before .span-at .ensures)) in
-    let z = c .before .before .before .before .before .raise .ensures .changed .size in (
-      record { room = omega (arith, z, i .lies .room); within = i .lies .within },
-      omega (arith, z, a .0 .ready .room),
-      omega arith,
-      omega arith,
-      omega (arith, i .small),
-    )
+    let c10 = c .before .before .before .before .before .before .before .before .before .before in
+    let b = c10 .before .before .before .before .before .before .before .before .before .pre in
+    let a = turn-of b (c10 .before .before .before .before .before .before .span-at .ensures) in
+    let r = b .worked .ready .room in
+    let z = c .before .before .before .before .before .raise .ensures .changed .size in
+    let i = turn-fits a .lies .within in
+    (record { room = omega (arith, z, r); within = i }, omega (arith, z, r), omega arith, omega arith, turn-room a (omega arith))
 
 returns : tie.Need-returns
 returns c =
-    let a = c .before .before .before .before .before .before .before .before .before .before .before .before .before .before .before .before .before .before .before .before .before .before .pre in
-    worked-raised (turn-of (a .0) (a .1) (c .before .before .before .before .before .before .before .before .before .before .before .before .before .before .before .before .before .before .before .span-at .ensures)) (c .before .before .before .before .before .before .before .before .raise .ensures) (c .before .before .raise2 .ensures) (c .before .before .before .before .before .before .before .before .before .before .before .before .before .before .before .value-points .ensures)
-    (c .before .before .before .before .before .before .before .before .before .before .before .before .value-points2 .ensures)
+    let c10 = c .before .before .before .before .before .before .before .before .before .before in
+    let c20 = c10 .before .before .before .before .before .before .before .before .before .before in
+    let a = turn-of (c20 .before .before .pre) (c10 .before .before .before .before .before .before .before .before .before .span-at .ensures) in
+    let r = c .before .before .before .before .before .before .before .before .raise .ensures in
+    let k = c10 .before .before .before .before .before .value-points .ensures in
+    worked-raised a r (c .before .before .raise2 .ensures) k (c10 .before .before .value-points2 .ensures)
 
 pub raise-callees-spec : {M : Type 1} → statement M
 raise-callees-spec =
     tie.close
     (tie.spec
-    (λ c κs. search needs)
-    (λ c. search needs)
-    (λ c. search needs)
-    (λ c. search needs)
-    value-points-requires
-    value-points-requires-2
-    raise-requires
-    raise-requires-2
-    (λ c. search needs)
-    returns)
+    (λ c κs. search needs) (λ c. search needs) (λ c. search needs) (λ c. search needs) value-points-requires value-points-requires-2 raise-requires
+    raise-requires-2 (λ c. search needs) returns)

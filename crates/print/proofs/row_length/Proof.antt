@@ -6,7 +6,7 @@ use borrow.Author.Needs.{needs}
 use lib.ListN.{length, take}
 use lib.Seq.{take-all}
 use Rattle.print.specs.Print.{spaced}
-use Rattle.print.proofs.Laws.{length-none, length-next, length-room, length-row, spaced-most}
+use Rattle.print.proofs.Laws.{length-none, length-next, length-room, length-row, spaced-most, row-most}
 use Rattle.print.proofs.row_length.Statement.{statement}
 use Rattle.print.proofs.row_length.Tie as tie
 
@@ -63,7 +63,7 @@ returns c =
     let l = c .before .loop in
     let a = c .before .before .before .before .args in
     let n = rw (take-all (l .k) (a .numbers .now) (omega arith)) at (l .inv .1) in
-    let most = spaced-most (a .numbers .now) (λ k. (c .before .before .shared-slice-known2 .given k) .fits) in
+    let most = row-most (a .word .now) (a .numbers .now) (λ k. (c .before .before .shared-slice-known2 .given k) .fits) in
     omega (arith, length-row (a .word .now) (a .numbers .now))
 
 pub row-length-spec : {M : Type 1} → statement M

@@ -2,12 +2,12 @@
 use Prim.Native.Nat.{ℕ, _+_, _-_, _≤_}
 use native.Mathlib.Omega.{arith}
 use mathlib.Core.Path.{_≡_, subst}
 use Rattle.columns.specs.Columns.{Within}
 use Rattle.columns.proofs.Writes.{changed-none, changed-on}
-use Rattle.figures.specs.Steps.{Displacing}
-use Rattle.figures.proofs.Displaces.{displacing-none}
-use Rattle.figures.proofs.displacements.Statement.{statement}
-use Rattle.figures.proofs.displacements.Tie as tie
+use Rattle.columns.specs.Displaced.{Displacing}
+use Rattle.columns.proofs.Displaces.{displacing-none}
+use Rattle.columns.proofs.displacements.Statement.{statement}
+use Rattle.columns.proofs.displacements.Tie as tie
 
 abbrev Inv-loop : tie.InvT-loop
 Inv-loop work₀ h gens₀ kills₀ sets₀ f₀ work gens kills sets f =
@@ -38,12 +38,5 @@ pub displacements-spec : {M : Type 1} → statement M
 displacements-spec =
     tie.close
     (tie.spec
-    Inv-loop
-    μ-loop
-    (λ c. (omega arith, displacing-none (c .before .pre), changed-none _ _ _))
-    (λ c. omega arith)
-    displace-requires
-    (λ c. omega arith)
-    loop-again
-    (λ c. c .before .loop .inv .2 .size)
-    returns)
+    Inv-loop μ-loop (λ c. (omega arith, displacing-none (c .before .pre), changed-none _ _ _)) (λ c. omega arith) displace-requires (λ c. omega arith)
+    loop-again (λ c. c .before .loop .inv .2 .size) returns)

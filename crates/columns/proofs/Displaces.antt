@@ -1,31 +1,40 @@
 -- D and d of a function from those of the functions that it calls.
-use Prim.Native.Nat.{ℕ, zero, suc, _+_, _-_, _*_, _≤_, _<_}
+use Prim.Native.Nat.{ℕ, _+_, _*_, _≤_, _<_}
 use native.Mathlib.Omega.{arith}
 use native.Mathlib.Decide.{ℕ-discrete}
 use mathlib.Core.Bool.{Bool, true, false}
 use mathlib.Core.List.{List, List·Memᴰ}
+use mathlib.Core.Option.{some}
 use mathlib.Core.Path.{_≡_, refl, ap, sym, subst, _∙_}
 use lib.ListN.{length, set, length-set}
 use Rattle.model.specs.Basic.{if_then_else_, largest, smallest}
 use Rattle.model.specs.Limits.{mostStack, mostFuncs}
 use Rattle.model.specs.Task.{Func, Task, count, func}
+use Rattle.model.specs.Walk.{called}
 use Rattle.model.specs.Figures as model
 use Rattle.theory.proofs.Between.{longest-is, shortest-is, largest-cong, smallest-cong}
+use Rattle.theory.proofs.Links.{callee-later}
 use Rattle.theory.proofs.Sheet.{calls-later}
 use Rattle.tables.specs.declared.Header.{Header}
 use Rattle.tables.specs.declared.Span.{Span}
-use Rattle.tables.specs.Tables.{item, spanAt, funcIn, taskOf}
+use Rattle.tables.specs.Tables.{pointAt, baseAt, sizeAt, spanAt, funcIn, taskOf}
 use Rattle.tables.specs.Valid.{Lies, Fits}
-use Rattle.tables.proofs.Laws.{func-is, count-is, here, elsewhere}
+use Rattle.tables.proofs.Laws.{func-is, size-is, point-is, count-is, here, elsewhere}
 use Rattle.tables.proofs.Valid.{settled-fits}
 use Rattle.columns.specs.declared.Bounds.{Bounds}
-use Rattle.columns.specs.Columns.{columnsEnd, highColumn, longestColumn, shortestColumn, Funcs, Changed, Within}
+use Rattle.columns.specs.Columns.{columnsEnd, highColumn, longestColumn, shortestColumn, Funcs, Within}
 use Rattle.columns.specs.Values.{CallFits, Bounded}
 use Rattle.columns.proofs.Writes.{changed-none, changed-set}
-use Rattle.figures.specs.Figured.{Ready}
-use Rattle.figures.specs.Steps.{Displaced, Displacing}
-use Rattle.figures.proofs.Within.{within-ready, within-task}
-use Rattle.figures.proofs.Points.{callee-in}
+use Rattle.columns.specs.Displaced.{Ready, Displaced, Displacing}
+use Rattle.columns.proofs.Limits.{smallest-low, shortest-low}
+use Rattle.columns.proofs.Within.{within-ready, within-task}
+
+module _ {w : List ℕ} {h : Header} {f : ℕ} (r : Ready w h) (k : f < h .funcs) where
+  -- what a point calls is a later function
+  pub callee-in : (p g : ℕ) → p < sizeAt w f → called (pointAt w (baseAt w f + p)) ≡ some g → (f < g) × (g < h .funcs)
+  callee-in p g l e =
+      let c = callee-later (r .settled .formed .linked) f p g (rw (count-is w h) k) (rw (size-is w h f k) l) (rw (point-is w h f k p l) e) in
+      (c .0, rw (count-is w h) at (c .1))
 
 -- a column of the functions from m on with one number more in front
 funcs-more : {figure : ℕ → ℕ} {a n : ℕ} (w : List ℕ) (f x : ℕ) → a + f < length w → x ≡ figure f → Funcs figure a (f + 1) n w
@@ -53,6 +62,9 @@ displacing-none r =
     }
 
 module _ {w : List ℕ} {h : Header} {f : ℕ} (d : Displacing w h (f + 1)) (l : f < h .funcs) where
+  pub displacing-few : f < mostFuncs
+  displacing-few = omega (arith, l, d .ready .settled .holds .few)
+
   in-count : f < count (taskOf w h)
   in-count = rw (count-is w h) l
 
@@ -84,11 +96,23 @@ module _ {w : List ℕ} {h : Header} {f : ℕ} (d : Displacing w h (f + 1)) (l :
           ∙ sym (subst (λ (x : Func). model.longest (taskOf w h) f ≡ x .frame + largest (model.longest (taskOf w h)) (model.callees x)) this-func
           (longest-is (taskOf w h) (calls-later (d .ready .settled .formed)) f in-count))
 
+      least-is : b .least ≡ smallest (model.shortest (taskOf w h)) (model.callees (funcIn w s))
+      least-is =
+          k .least ∙ smallest-cong (model.callees (funcIn w s)) (λ g m. let i = callee-past g m in d .away .shortest .each g (omega arith) (i .1))
+
+      pub least-low : b .least ≤ mostStack * mostFuncs
+      least-low =
+          omega (
+            arith,
+            least-is,
+            smallest-low (model.shortest (taskOf w h)) (model.callees (funcIn w s)) (mostStack * mostFuncs) (shortest-low
+                (d .ready .settled .formed .shaped)),
+          )
+
       pub shortest-here : {free : Bool} {m : ℕ} → free ≡ model.callFree (funcIn w s) → m ≡ (if free then 0 else b .least)
           → s .frame + m ≡ model.shortest (taskOf w h) f
       shortest-here {free} {m} i j =
-          ap (λ (m : ℕ). s .frame + m) (j ∙ ap (λ (n : ℕ). if free then 0 else n) (k .least ∙ smallest-cong (model.callees (funcIn w s))
-          (λ g m. let i = callee-past g m in d .away .shortest .each g (omega arith) (i .1))))
+          ap (λ (m : ℕ). s .frame + m) (j ∙ ap (λ (n : ℕ). if free then 0 else n) least-is)
           ∙ (by-free free _ (s .frame)
           ∙ (ap (λ (t : Bool). if t then s .frame else s .frame + smallest (model.shortest (taskOf w h)) (model.callees (funcIn w s))) i
           ∙ sym (subst (λ (x : Func). model.shortest (taskOf w h) f ≡ (if model.callFree x then x .frame else x .frame + smallest (model.shortest
