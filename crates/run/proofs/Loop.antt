@@ -19,6 +19,7 @@ use Rattle.model.specs.Sheet.{sheetOf}
 use Rattle.model.specs.Refusal.{eventRows}
 use Rattle.model.specs.Plain.{eventsOf, running, afterEvent}
 use Rattle.model.specs.Run.{runningPlace, turn, eventBound}
+use Rattle.theory.proofs.Search.{verdict-none, verdict-some}
 use Rattle.theory.proofs.Frames.{running-same}
 use Rattle.tables.specs.declared.Header.{Header}
 use Rattle.tables.specs.Tables.{taskOf}
@@ -45,16 +46,6 @@ pub record Loops (h : Header) (events buffer cache₀ memory₀ w₀ : List ℕ)
       (stateOf w x cache memory) (runs .frames) (eventsOf (drop (2 * i) events)) m a answers
   pub small : m ≤ 2 * mostStack * i
   pub little : a ≤ mostBound * i
-
--- ---- a row as a verdict
-
-row-none : (o : Option Refusal) → rowVerdict o ≡ verdict.Accepted → o ≡ none
-row-none none e = refl
-row-none (some r) e = let z : _≡_ {A = ℕ} 0 1 = cc in absurd (omega arith)
-
-row-some : (o : Option Refusal) (r : Refusal) → rowVerdict o ≡ verdict.Refused r → o ≡ some r
-row-some none r e = let z : _≡_ {A = ℕ} 0 1 = cc in absurd (omega arith)
-row-some (some q) r e = cc
 
 module _ {h : Header} {events buffer cache₀ memory₀ w₀ : List ℕ} where
   -- function 0 has been entered
@@ -108,13 +99,13 @@ module _ {h : Header} {events buffer cache₀ memory₀ w₀ : List ℕ} where
     loops-off r b k n e j =
         served j
         (going-off (taskOf w₀ h) (sheetOf (taskOf w₀ h)) _ _ _ _ _ _ _ _ _ _ _ place-same (omega arith) r
-        (row-lent (getD events (2 * i) 0) (getD events (2 * i + 1) 0) (some r) (row-some _ r (sym e ∙ n)))
+        (row-lent (getD events (2 * i) 0) (getD events (2 * i + 1) 0) (some r) (verdict-some _ (sym e ∙ n)))
         (rw (next-event events i b) at (l .going)))
 
     -- the next event can be done
     pub loops-more : (kind value : ℕ) {v : Verdict} → v ≡ verdict.Accepted → v ≡ rowVerdict (eventRows i kind value (runningPlace (taskOf w h) (framesOf w x)))
         → Runs w h x cache memory × (0 < x .depth)
-    loops-more kind value n e = (l .runs, accepted-runs (taskOf w h) w (x .depth) (x .f) (x .p) i kind value (row-none _ (sym e ∙ n)))
+    loops-more kind value n e = (l .runs, accepted-runs (taskOf w h) w (x .depth) (x .f) (x .p) i kind value (verdict-none _ (sym e ∙ n)))
 
     -- the next event is done
     pub loops-on : {v : Verdict} {r : Turned} {w′ cache′ memory′ : List ℕ} → i < length events / 2 → length events / 2 ≤ length buffer → r .bound ≤ mostBound
@@ -125,7 +116,7 @@ module _ {h : Header} {events buffer cache₀ memory₀ w₀ : List ℕ} where
     loops-on {r = r} {w′ = w′} {cache′ = cache′} {memory′ = memory′} b k f o e u =
         let t = taskOf w₀ h in
         let d = actOf (getD events (2 * i) 0) (getD events (2 * i + 1) 0) in
-        let n = row-lent (getD events (2 * i) 0) (getD events (2 * i + 1) 0) none (row-none _ (sym e ∙ o)) in
+        let n = row-lent (getD events (2 * i) 0) (getD events (2 * i + 1) 0) none (verdict-none _ (sym e ∙ o)) in
         let j = goes-on (l .runs) u in
         let fs : j .runs .frames ≡ afterEvent t (l .runs .frames) d = j .frames ∙ ap (λ (z : Task). afterEvent z (l .runs .frames) d) (l .task) in
         let p = subst (λ (z : Task). turnOf w′ r cache′ memory′ ≡ turn z (sheetOf z) (stateOf w x cache memory) d) (l .task) (u .turn) in

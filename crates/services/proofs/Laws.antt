@@ -105,7 +105,7 @@ pub none-reported : (q : Refusal) (w output : List ℕ) → Reports (refused q) 
 none-reported q w output = record { returned = λ work. refl; written = λ work. refl; after = refl }
 
 -- the rows of a service come after those that every service has
-own-rows : (own : Task → Option Refusal) (first : Option Refusal) (text : List ℕ) → judge first own text ≡ withRows own (judge first noRows text)
+pub own-rows : (own : Task → Option Refusal) (first : Option Refusal) (text : List ℕ) → judge first own text ≡ withRows own (judge first noRows text)
 unfolding judge
 own-rows own (some r) text = refl
 own-rows own none text = later (judged text)

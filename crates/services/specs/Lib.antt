@@ -1,2 +1,2 @@
--- What every service starts from, and what report leaves of an accepted text.
+-- What every service starts from, and what report and run leave of an accepted text.
 pub mod Served

@@ -1,16 +1,25 @@
--- What every service starts from: the judgement of a text and of the working space that was lent. And what report does with an accepted text.
-use Prim.Native.Nat.{ℕ, _≤_}
+-- What every service starts from: the judgement of a text and of the working space that was lent. And what report and run do with an accepted text.
+use Prim.Native.Nat.{ℕ, _/_, _%_, _≤_}
+use mathlib.Core.Bool.{_&&_}
 use mathlib.Core.Path.{_≡_}
 use mathlib.Core.List.{List}
+use mathlib.Core.Option.{Option}
+use lib.Dec.{eqb, leb}
 use lib.ListN.{length}
 use Rattle.model.specs.declared.Refusal.{Refusal}
+use Rattle.model.specs.declared.Row.the-variants.{EventList, AnswersTooSmall, CacheSize}
 use Rattle.model.specs.declared.Verdict.the-variants.{Refused}
+use Rattle.model.specs.declared.Ending.the-variants as ending
 use Rattle.model.specs.declared.WriteResult.{WriteResult}
-use Rattle.model.specs.Limits.{workLength}
+use Rattle.model.specs.declared.RunResult.{RunResult}
+use Rattle.model.specs.Limits.{workLength, mostEventNumbers}
+use Rattle.model.specs.Basic.{unless, _orElse_}
+use Rattle.model.specs.Rows.{refuse}
 use Rattle.model.specs.Task.{Judged}
 use Rattle.model.specs.Sheet.{reportText}
-use Rattle.model.specs.Refusal.{workRow, judge, noRows, withRows, outputRows}
-use Rattle.model.specs.Services.{cleared, AfterWrite, writtenAs}
+use Rattle.model.specs.Refusal.{workRow, judge, noRows, withRows, outputRows, runRows}
+use Rattle.model.specs.Plain.{eventsOf}
+use Rattle.model.specs.Services.{cleared, AfterWrite, writtenAs, AfterRun, runAs}
 use Rattle.tables.specs.Valid.{Settled}
 use Rattle.judge.specs.declared.Judgement.{Judgement}
 use Rattle.judge.specs.declared.Judgement.the-variants as judgement
@@ -38,4 +47,36 @@ reported j work output = writtenAs reportText (withRows (outputRows reportText (
 pub record Reports (j : Judged) (w output : List ℕ) (r : WriteResult) (w′ output′ : List ℕ) : Type 0 where
   pub returned : (work : List ℕ) → r ≡ reported j work output .result
   pub written : (work : List ℕ) → output′ ≡ reported j work output .output
+  pub after : cleared w′ ≡ cleared w
+
+-- ---- run
+
+-- 16, 17 and 18, for buffers of these lengths and a task with this many cache blocks
+abbrev pub bufferRows : ℕ → ℕ → ℕ → ℕ → Option Refusal
+bufferRows events answers cache stack =
+    unless (eqb (events % 2) 0 && leb events mostEventNumbers) (refuse EventList 0)
+    orElse unless (leb (events / 2) answers) (refuse AnswersTooSmall (events / 2))
+    orElse unless (eqb cache stack) (refuse CacheSize stack)
+
+-- a refusal before the first event
+abbrev pub noneDone : Refusal → RunResult
+noneDone r = record { ending = ending.Refused r; done = 0; moved = 0; allowed = 0 }
+
+-- what a run has returned and left, as one
+abbrev pub afterRun : RunResult → (work answers cache memory : List ℕ) → AfterRun
+afterRun r work answers cache memory = record { result = r; work = work; answers = answers; cache = cache; memory = memory }
+
+-- what run returns and leaves of what was judged as j: one of 16 to 19 for an accepted task, or its run
+abbrev pub performed : Judged → (work events answers cache memory : List ℕ) → AfterRun
+performed j work events answers cache memory =
+    runAs
+    (withRows (runRows (length events) (length answers) (length cache) (length memory)) j)
+    work
+    (eventsOf events)
+    answers
+    cache
+    memory
+
+pub record Performs (j : Judged) (w events answers cache memory : List ℕ) (r : RunResult) (w′ answers′ cache′ memory′ : List ℕ) : Type 0 where
+  pub left : (work : List ℕ) → afterRun r work answers′ cache′ memory′ ≡ performed j work events answers cache memory
   pub after : cleared w′ ≡ cleared w

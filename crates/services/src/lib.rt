@@ -1,16 +1,18 @@
 // The services over a task text. Each judges what it was lent and refuses; none has a requires. Each goes the same way: 15, the judgement of the
 // text, its own rows, its own work, and the working space cleared.
 ghost use mathlib.Core.Path.{_≡_};
-ghost use Rattle.model.specs.Services.{cleared, checkOf, reportOf};
-ghost use Rattle.services.specs.Served.{Lent};
+ghost use Rattle.model.specs.Services.{cleared, checkOf, reportOf, runOf, Demand3};
+ghost use Rattle.services.specs.Served.{Lent, afterRun};
 use judge::Judgement;
 use model::Limits;
 use model::Refusal;
 use model::Row;
+use model::RunResult;
 use model::Verdict;
 use model::WriteResult;
 
 mod reporting;
+mod running;
 
 // The working numbers of a service become 0, where there are as many.
 fn clear(work: &mut [u32])
@@ -64,6 +66,38 @@ pub fn report(text: &[u8], output: &mut [u8], work: &mut [u32]) -> WriteResult
 {
     let judgement = judge_lent(text, work);
     let result = reporting::report_judged(judgement, output, work);
+    clear(work);
+    result
+}
+
+// Run: the events of a list on the task of a text, from a fresh start on the lent cache and memory, and the working space cleared. In demand_3: what
+// was returned and left is that of the plain stack, and no more was moved than the sheet allows.
+//
+//     run(b"(stack 65)\n", &[], &mut answers, &mut cache, &mut memory, &mut work) is a refusal in row StackSize at place 1, with 0 events done
+pub fn run(
+    text: &[u8],
+    events: &[u32],
+    answers: &mut [u32],
+    cache: &mut [u32],
+    memory: &mut [u32],
+    work: &mut [u32],
+) -> RunResult
+    ensures result { λ r. ⌜ r ≡ runOf (now (text .entry)) (now (work .entry)) (now (events .entry))
+        (now (answers .entry)) (now (cache .entry)) (now (memory .entry)) .result ⌝ }
+    ensures work { λ r. ⌜ now (work .exit) ≡ runOf (now (text .entry)) (now (work .entry)) (now (events .entry))
+        (now (answers .entry)) (now (cache .entry)) (now (memory .entry)) .work ⌝ }
+    ensures answers { λ r. ⌜ now (answers .exit) ≡ runOf (now (text .entry)) (now (work .entry)) (now (events .entry))
+        (now (answers .entry)) (now (cache .entry)) (now (memory .entry)) .answers ⌝ }
+    ensures cache { λ r. ⌜ now (cache .exit) ≡ runOf (now (text .entry)) (now (work .entry)) (now (events .entry))
+        (now (answers .entry)) (now (cache .entry)) (now (memory .entry)) .cache ⌝ }
+    ensures memory { λ r. ⌜ now (memory .exit) ≡ runOf (now (text .entry)) (now (work .entry)) (now (events .entry))
+        (now (answers .entry)) (now (cache .entry)) (now (memory .entry)) .memory ⌝ }
+    ensures demand_3 { λ r. ⌜ Demand3 (now (text .entry)) (now (work .entry)) (now (events .entry))
+        (now (answers .entry)) (now (cache .entry)) (now (memory .entry))
+        (afterRun r (now (work .exit)) (now (answers .exit)) (now (cache .exit)) (now (memory .exit))) ⌝ }
+{
+    let judgement = judge_lent(text, work);
+    let result = running::run_judged(judgement, events, answers, cache, memory, work);
     clear(work);
     result
 }

@@ -1,0 +1,33 @@
+-- What is judged is refused or run; then the space is cleared. Demand 3 follows from what is left.
+use mathlib.Core.Path.{ap}
+use borrow.Author.Needs.{needs}
+use Rattle.model.specs.Services.{AfterRun}
+use Rattle.services.proofs.Events.{run-left, run-demand}
+use Rattle.services.proofs.run.Statement.{statement}
+use Rattle.services.proofs.run.Tie as tie
+
+returns : tie.Need-returns
+returns c =
+    let j = c .before .before .before .before .before .before .before .before .before .before .before .before .before .before .before .before .before .before .before .judge-lent .ensures in
+    let r = c .before .before .before .before .before .before .before .before .before .before .before .before .run-judged .ensures in
+    let k = c .before .before .clear .ensures in
+    let e = run-left j r k in (
+      ap (λ (x : AfterRun). x .result) e,
+      (
+        ap (λ (x : AfterRun). x .work) e,
+        (ap (λ (x : AfterRun). x .answers) e, (ap (λ (x : AfterRun). x .cache) e, (ap (λ (x : AfterRun). x .memory) e, run-demand j r k))),
+      ),
+    )
+
+pub run-spec : {M : Type 1} → statement M
+run-spec =
+    tie.close
+    (tie.spec
+    (λ c κs. search needs)
+    (λ c κs. search needs)
+    (λ c κs. search needs)
+    (λ c. search needs)
+    (λ c. search needs)
+    (λ c. search needs)
+    (λ c. search needs)
+    returns)
