@@ -1,6 +1,7 @@
 // Runs each service over lent buffers that are longer than it asks for and not zero, and says what it returned and what the buffers hold then.
 // A service has two functions here: one runs it over lent buffers, NAME_over, and one has its cases, NAME_cases.
 use libc::STDOUT_FILENO;
+use model::Ending;
 use model::Limits;
 use model::Verdict;
 
@@ -19,6 +20,12 @@ impl Lent {
     const OUTPUT: usize = 128;
 
     const SHORT_OUTPUT: usize = 111;
+    // Answers of a run, more than it has events; the blocks of the task's cache, of which there may be no more; and a memory that is longer than asked for.
+    const ANSWERS: usize = 6;
+
+    const CACHE: usize = 2;
+
+    const MEMORY: usize = 4;
 }
 
 // How many numbers at the front are 0.
@@ -81,6 +88,21 @@ fn say_work(work: &[u32]) {
     say(b", untouched ");
     say_number(m as u64);
     say(b" of the others\n");
+}
+
+fn say_next(n: u32) {
+    say(b" ");
+    say_number(n as u64);
+}
+
+fn say_numbers(name: &[u8], numbers: &[u32]) {
+    say(name);
+    let mut i: usize = 0;
+    while i < numbers.len() {
+        say_next(numbers[i]);
+        i += 1;
+    }
+    say(b"\n");
 }
 
 fn check_over(text: &[u8], work: &mut [u32]) {
@@ -150,10 +172,74 @@ fn report_cases(task: &[u8], refused: &[u8]) {
     report_short_output(task);
 }
 
+fn say_ending(ending: Ending) {
+    match ending {
+        Ending::AllDone => say_refusal(0, 0),
+        Ending::Refused(r) => {
+            let row = r.row;
+            say_refusal(codes::code_of(row), r.place)
+        }
+    }
+}
+
+fn run_over(text: &[u8], events: &[u32], memory: &mut [u32], work: &mut [u32]) {
+    let mut answers = [Lent::NUMBER; Lent::ANSWERS];
+    let mut cache = [Lent::NUMBER; Lent::CACHE];
+    let result = services::run(text, events, &mut answers, &mut cache, memory, work);
+    let ending = result.ending;
+    say_ending(ending);
+    say(b"  done ");
+    say_number(result.done as u64);
+    say(b" moved ");
+    say_number(result.moved);
+    say(b" allowed ");
+    say_number(result.allowed);
+    say(b"\n");
+    say_numbers(b"  answers:", &answers);
+    say_numbers(b"  cache:", &cache);
+    say_numbers(b"  memory:", memory);
+    say_work(work);
+}
+
+fn run_long(text: &[u8], events: &[u32]) {
+    let mut memory = [Lent::NUMBER; Lent::MEMORY];
+    let mut work = [Lent::NUMBER; Lent::WORK];
+    run_over(text, events, &mut memory, &mut work);
+}
+
+fn run_short_memory(text: &[u8], events: &[u32]) {
+    let mut memory = [Lent::NUMBER; Lent::MEMORY];
+    let mut work = [Lent::NUMBER; Lent::WORK];
+    run_over(text, events, &mut memory[..0], &mut work);
+}
+
+fn run_short_work(text: &[u8], events: &[u32]) {
+    let mut memory = [Lent::NUMBER; Lent::MEMORY];
+    let mut work = [Lent::NUMBER; Lent::SHORT_WORK];
+    run_over(text, events, &mut memory, &mut work);
+}
+
+fn run_cases(task: &[u8], refused: &[u8]) {
+    // A store of 5, a preemption that leaves 9, a load, a return; and one event too many.
+    let events = [0u32, 5, 1, 9, 0, 0, 0, 0];
+    let past = [0u32, 5, 1, 9, 0, 0, 0, 0, 0, 3];
+    say(b"run to the end of a task\n");
+    run_long(task, &events);
+    say(b"run past the end of a task\n");
+    run_long(task, &past);
+    say(b"run of a task that is refused\n");
+    run_long(refused, &events);
+    say(b"run with no memory\n");
+    run_short_memory(task, &events);
+    say(b"run with a working space that is one number short\n");
+    run_short_work(task, &events);
+}
+
 fn main() {
     // The second loads an offset that was not stored before.
     let task = b"(stack 2)\n(func 1\n  (store 0)\n  (load 0)\n  (return)\n)\n";
     let refused = b"(stack 2)\n(func 1\n  (load 0)\n  (return)\n)\n";
     check_cases(task, refused);
     report_cases(task, refused);
+    run_cases(task, refused);
 }
