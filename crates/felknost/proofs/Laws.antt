@@ -7,10 +7,12 @@ use lib.ListN.{length, set}
 use borrow.Author.Tests.{lt-ltb, le-ltb}
 use Rattle.model.specs.declared.Refusal.{Refusal}
 use Rattle.model.specs.declared.WriteResult.{WriteResult}
+use Rattle.model.specs.declared.RunResult.{RunResult}
 use Rattle.model.specs.Rows.{packed}
 use Rattle.model.specs.Task.{refused}
 use Rattle.model.specs.Refusal.{judged}
 use Rattle.model.specs.Services.{over, judgedNumber, checkNumber, reportOf, resultNumbers, calledAs, reportNumbers}
+use Rattle.model.specs.Services.{runOf, AfterRunCall, runResultNumbers, runNumbers}
 use Rattle.theory.proofs.Places.{judged-place}
 use Rattle.tables.specs.declared.Header.{Header}
 use Rattle.judge.specs.declared.Judgement.{Judgement}
@@ -62,3 +64,47 @@ module _ (text work output result : List ℕ) where
       × ((result′ ≡ reportNumbers text work output result .result)
       × ((work′ ≡ reportNumbers text work output result .work) × (output′ ≡ reportNumbers text work output result .output)))
   enough h a b c d = rw (enough-is h) (refl, (d ∙ ap (λ (r : WriteResult). over (resultNumbers r) result) a, (b, c)))
+
+-- five numbers written over the first of a buffer
+pub five-over : (a b c d e : ℕ) (l : List ℕ) → 5 ≤ length l → set (set (set (set (set l 0 a) 1 b) 2 c) 3 d) 4 e ≡ over (a ∷ b ∷ c ∷ d ∷ e ∷ []) l
+unfolding over
+five-over a b c d e [] h = absurd (omega arith)
+five-over a b c d e (v ∷ []) h = absurd (omega arith)
+five-over a b c d e (v ∷ w ∷ []) h = absurd (omega arith)
+five-over a b c d e (v ∷ w ∷ x ∷ []) h = absurd (omega arith)
+five-over a b c d e (v ∷ w ∷ x ∷ y ∷ []) h = absurd (omega arith)
+five-over a b c d e (v ∷ w ∷ x ∷ y ∷ z ∷ l) h = refl
+
+-- run as C calls it: what it answers and leaves
+abbrev pub runCalled : ℕ → (result work answers cache memory : List ℕ) → AfterRunCall
+runCalled n result work answers cache memory =
+    record { answer = n; result = result; work = work; answers = answers; cache = cache; memory = memory }
+
+module _ (text work events answers cache memory result : List ℕ) where
+  pub run-too-few : length result < 5
+      → runCalled 0 result work answers cache memory ≡ runNumbers text work events answers cache memory result
+  unfolding runNumbers
+  run-too-few h = rw (lt-ltb (length result) 5 h)
+
+  pub run-enough : {r : RunResult} {result′ work′ answers′ cache′ memory′ : List ℕ} → 5 ≤ length result
+      → r ≡ runOf text work events answers cache memory .result
+      → work′ ≡ runOf text work events answers cache memory .work
+      → answers′ ≡ runOf text work events answers cache memory .answers
+      → cache′ ≡ runOf text work events answers cache memory .cache
+      → memory′ ≡ runOf text work events answers cache memory .memory
+      → result′ ≡ over (runResultNumbers r) result
+      → runCalled 1 result′ work′ answers′ cache′ memory′ ≡ runNumbers text work events answers cache memory result
+  unfolding runNumbers
+  run-enough h a b c d e f =
+      let g = f ∙ ap (λ (x : RunResult). over (runResultNumbers x) result) a in
+      rw (le-ltb (length result) 5 h) (λ i. runCalled 1 (g i) (b i) (c i) (d i) (e i))
+
+-- each part of what is left, as the contract has them
+pub run-parts : {x y : AfterRunCall} → x ≡ y
+    → (x .answer ≡ y .answer)
+    × ((x .result ≡ y .result)
+    × ((x .work ≡ y .work) × ((x .answers ≡ y .answers) × ((x .cache ≡ y .cache) × (x .memory ≡ y .memory)))))
+run-parts e = (
+  λ i. e i .answer,
+  (λ i. e i .result, (λ i. e i .work, (λ i. e i .answers, (λ i. e i .cache, λ i. e i .memory)))),
+)

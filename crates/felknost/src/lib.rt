@@ -2,9 +2,11 @@
 ghost use mathlib.Core.Path.{_≡_};
 ghost use Prim.Native.Nat.{_≤_};
 ghost use lib.ListN.{length};
-ghost use Rattle.model.specs.Rows.{verdictCode, verdictPlace};
-ghost use Rattle.model.specs.Services.{over, checkNumber, resultNumbers, reportNumbers};
+ghost use Rattle.model.specs.Rows.{verdictCode, verdictPlace, endingCode, endingPlace};
+ghost use Rattle.model.specs.Services.{over, checkNumber, resultNumbers, reportNumbers, runResultNumbers, runNumbers};
 use judge::Judgement;
+use model::Ending;
+use model::RunResult;
 use model::Verdict;
 use model::WriteResult;
 use tables::Layout;
@@ -84,5 +86,84 @@ pub extern "C" fn felknost_report(
     }
     let written = services::report(text, output, work);
     put_numbers(result, written);
+    1
+}
+
+// The numbers of a run's result after code and place: events done, blocks moved and blocks allowed.
+struct RunNumbers;
+
+impl RunNumbers {
+    const DONE: usize = 2;
+
+    const MOVED: usize = 3;
+
+    const ALLOWED: usize = 4;
+    // How many they are with code and place.
+    const ALL: usize = 5;
+}
+
+fn ending_code(e: Ending) -> u32
+    ensures { λ n. ⌜ n ≡ endingCode e ⌝ }
+{
+    match e {
+        Ending::AllDone => 0,
+        Ending::Refused(r) => {
+            let row = r.row;
+            codes::code_of(row)
+        }
+    }
+}
+
+fn ending_place(e: Ending) -> u32
+    ensures { λ n. ⌜ n ≡ endingPlace e ⌝ }
+{
+    match e {
+        Ending::AllDone => 0,
+        Ending::Refused(r) => r.place,
+    }
+}
+
+// Writes the numbers of a run's result over the first of a buffer.
+fn put_run_numbers(buffer: &mut [u64], r: RunResult)
+    requires { ⌜ 5 ≤ length (now buffer) ⌝ }
+    ensures { λ u. ⌜ now (buffer .exit) ≡ over (runResultNumbers r) (now (buffer .entry)) ⌝ }
+{
+    let ending = r.ending;
+    buffer[Numbers::CODE] = ending_code(ending) as u64;
+    buffer[Numbers::PLACE] = ending_place(ending) as u64;
+    buffer[RunNumbers::DONE] = r.done as u64;
+    buffer[RunNumbers::MOVED] = r.moved;
+    buffer[RunNumbers::ALLOWED] = r.allowed;
+}
+
+// Run, with its result in the first five numbers of a buffer. 1, or 0 with nothing touched where that buffer has fewer.
+#[no_mangle]
+pub extern "C" fn felknost_run(
+    text: &[u8],
+    events: &[u32],
+    answers: &mut [u32],
+    cache: &mut [u32],
+    memory: &mut [u32],
+    work: &mut [u32],
+    result: &mut [u64],
+) -> u32
+    ensures answer { λ n. ⌜ n ≡ runNumbers (now (text .entry)) (now (work .entry)) (now (events .entry)) (now (answers .entry))
+        (now (cache .entry)) (now (memory .entry)) (now (result .entry)) .answer ⌝ }
+    ensures result { λ n. ⌜ now (result .exit) ≡ runNumbers (now (text .entry)) (now (work .entry)) (now (events .entry)) (now (answers .entry))
+        (now (cache .entry)) (now (memory .entry)) (now (result .entry)) .result ⌝ }
+    ensures work { λ n. ⌜ now (work .exit) ≡ runNumbers (now (text .entry)) (now (work .entry)) (now (events .entry)) (now (answers .entry))
+        (now (cache .entry)) (now (memory .entry)) (now (result .entry)) .work ⌝ }
+    ensures answers { λ n. ⌜ now (answers .exit) ≡ runNumbers (now (text .entry)) (now (work .entry)) (now (events .entry)) (now (answers .entry))
+        (now (cache .entry)) (now (memory .entry)) (now (result .entry)) .answers ⌝ }
+    ensures cache { λ n. ⌜ now (cache .exit) ≡ runNumbers (now (text .entry)) (now (work .entry)) (now (events .entry)) (now (answers .entry))
+        (now (cache .entry)) (now (memory .entry)) (now (result .entry)) .cache ⌝ }
+    ensures memory { λ n. ⌜ now (memory .exit) ≡ runNumbers (now (text .entry)) (now (work .entry)) (now (events .entry)) (now (answers .entry))
+        (now (cache .entry)) (now (memory .entry)) (now (result .entry)) .memory ⌝ }
+{
+    if result.len() < RunNumbers::ALL {
+        return 0;
+    }
+    let ran = services::run(text, events, answers, cache, memory, work);
+    put_run_numbers(result, ran);
     1
 }

@@ -23,5 +23,5 @@ unfolding Basic.firstOf Basic.any Basic.select Basic.joined Basic.sumOf Basic.la
     Refusal.firstPoint Refusal.taskRows Refusal.judged Refusal.workRow Refusal.judge Refusal.outputRows Refusal.runRows Refusal.eventRows
     Plain.act Plain.eventsOf Plain.afterEvent Plain.answerOf Plain.plainFrom Run.turn Run.ranFrom Run.eventBound Run.allowedFrom
     Services.cleared Services.over Services.verdictOf Services.checkOf Services.checkNumber Services.writtenOf
-    Services.reportNumbers Services.runJudged Services.runOf
+    Services.reportNumbers Services.runJudged Services.runOf Services.runNumbers
 opened = tt

@@ -13,7 +13,7 @@ use Rattle.model.specs.declared.Ending.the-variants as ending
 use Rattle.model.specs.declared.WriteResult.{WriteResult}
 use Rattle.model.specs.declared.RunResult.{RunResult}
 use Rattle.model.specs.Limits.{workLength}
-use Rattle.model.specs.Rows.{packed, verdictCode, verdictPlace}
+use Rattle.model.specs.Rows.{packed, verdictCode, verdictPlace, endingCode, endingPlace}
 use Rattle.model.specs.Basic.{if_then_else_}
 use Rattle.model.specs.Task.{Task, Judged, refused, task}
 use Rattle.model.specs.Sheet.{sheetOf, reportText}
@@ -147,6 +147,36 @@ runOf text work events answers cache memory =
     answers
     cache
     memory
+
+-- run, as C calls it: its answer, and a buffer whose first five numbers are code, place, events done, blocks moved and blocks allowed
+pub record AfterRunCall : Type 0 where
+  pub answer : ℕ
+  pub result : List ℕ
+  pub work : List ℕ
+  pub answers : List ℕ
+  pub cache : List ℕ
+  pub memory : List ℕ
+
+abbrev pub runResultNumbers : RunResult → List ℕ
+runResultNumbers r = endingCode (r .ending) ∷ endingPlace (r .ending) ∷ r .done ∷ r .moved ∷ r .allowed ∷ []
+
+abbrev pub runCalledAs : AfterRun → List ℕ → AfterRunCall
+runCalledAs after result =
+    record {
+      answer = 1;
+      result = over (runResultNumbers (after .result)) result;
+      work = after .work;
+      answers = after .answers;
+      cache = after .cache;
+      memory = after .memory;
+    }
+
+-- where the buffer of the result has fewer than five numbers, the answer is 0 and nothing is touched
+unfoldable pub runNumbers : List ℕ → List ℕ → List ℕ → List ℕ → List ℕ → List ℕ → List ℕ → AfterRunCall
+runNumbers text work events answers cache memory result =
+    if ltb (length result) 5
+    then record { answer = 0; result = result; work = work; answers = answers; cache = cache; memory = memory }
+    else runCalledAs (runOf text work events answers cache memory) result
 
 -- the plain stack behind the same judgement
 abbrev pub plainAs : Judged → List Event → Plain

@@ -133,7 +133,8 @@ module _ {t : Task} (events answers cache memory : List ℕ) {v : Verdict}
           let l : longest t 0 ≤ length memory = omega (arith, room-is) in
           let z = rw same at s in
           record {
-            left = λ work. rw (rows-are, le-leb (longest t 0) (length memory) l) (λ i. afterRun (z .returned i) work (z .answered i) (z .cached i) (z .stored i));
+            left = λ work. rw (rows-are, le-leb (longest t 0) (length memory) l)
+                (λ i. afterRun (z .returned i) work (z .answered i) (z .cached i) (z .stored i));
             after = d ∙ after;
           }
 
