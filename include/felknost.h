@@ -1,8 +1,8 @@
 /*
  * Felknost: the preemption sheet of a task on a core with a stack cache.
  *
- * felknost_check judges a task text, given as its bytes; felknost_report writes its preemption sheet. Both return for every byte string and every
- * length of the buffers, and touch nothing but the buffers that they are lent and their own stack. Threads may call them at the same time, each
+ * felknost_check judges a task text, given as its bytes; felknost_report writes its preemption sheet; felknost_run steps and preempts the task on the
+ * machine. All return for every byte string and every length of the buffers, and touch nothing but the buffers that they are lent and their own stack. Threads may call them at the same time, each
  * with buffers of its own. Link with libfelknost.a and a C library for memset and memcpy.
  */
 #ifndef FELKNOST_H
@@ -55,6 +55,30 @@ uint32_t felknost_check(const uint8_t *text, size_t length);
 
 uint32_t felknost_report(const uint8_t *text, size_t text_length, uint8_t *output, size_t output_length, uint32_t *work, size_t work_length,
                          uint64_t *result, size_t result_length);
+
+/*
+ * Runs a list of events on the task of a text, from a fresh start on the lent cache and memory, whatever they hold. An event is two numbers: kind 0 takes
+ * a step with a value, kind 1 preempts, by a task that leaves the value in every block of the cache. A step at a store stores the value, one at an either
+ * goes to its first target on 0 and to its second on 1. answers gets a number for each event done: the number loaded, else 0.
+ *
+ * result gets five numbers: CODE, PLACE, how many events were done, how many blocks they moved, and how many the sheet allows them. The fourth is never
+ * more than the fifth. CODE and PLACE are 0 where all events were done; else they are as above, but for 14, and these rows are new:
+ *
+ *  16  events has an odd number of numbers or more than 131,072; PLACE is 0
+ *  17  answers has fewer numbers than there are events, which is PLACE
+ *  18  cache has not exactly as many numbers as the task has cache blocks, which is PLACE
+ *  19  memory has fewer numbers than the task needs at most, which is PLACE
+ *  20  an event of another kind; PLACE is its number, counted from 0, here and below
+ *  21  a step at an either with a value above 1
+ *  22  an event after the task has finished
+ *
+ * 16 to 19 are tried in this order after the rows of the text, and leave answers, cache and memory as they were. The events before one that is refused by 20
+ * to 22 are done, and answers has no number of it or of a later one; at one event 22 is tried first. work, NULL, overlap and the return value are as
+ * for felknost_report, but result has five numbers.
+ */
+uint32_t felknost_run(const uint8_t *text, size_t text_length, const uint32_t *events, size_t events_length, uint32_t *answers, size_t answers_length,
+                      uint32_t *cache, size_t cache_length, uint32_t *memory, size_t memory_length, uint32_t *work, size_t work_length,
+                      uint64_t *result, size_t result_length);
 
 /*
  * The stack that a call takes, in bytes, measured and rounded up: its own, and what memset and memcpy take, which it calls, with the dynamic

@@ -7,6 +7,7 @@ mod check;
 #[cfg(copies)]
 mod copies;
 mod report;
+mod run;
 mod texts;
 mod timing;
 
@@ -24,8 +25,9 @@ fn tables() -> ExitCode {
     match std::env::args().nth(1).as_deref() {
         Some("check") => check::table(),
         Some("report") => report::table(),
+        Some("run") => run::table(),
         _ => {
-            eprintln!("usage: bench check | report");
+            eprintln!("usage: bench check | report | run");
             return ExitCode::from(2);
         }
     }
@@ -60,6 +62,18 @@ mod tests {
                 let start = format!("| {name} | {} | ", grouped(text.len()));
                 assert!(row.starts_with(&start), "{row} should start with {start}");
             }
+        }
+    }
+
+    /// The document's table of runs has the rows of the program.
+    #[test]
+    fn document_has_the_same_lists() {
+        let rows = rows("| Events, 65,536 of them |");
+        let lists = crate::run::lists();
+        assert_eq!(rows.len(), lists.len());
+        for (row, list) in rows.iter().zip(lists) {
+            let start = format!("| {} | ", list.name);
+            assert!(row.starts_with(&start), "{row} should start with {start}");
         }
     }
 

@@ -13,12 +13,10 @@
 
 mod refusal;
 mod report;
-#[cfg(feature = "run")]
 mod run;
 
 pub use refusal::{Refusal, Row};
 pub use report::report;
-#[cfg(feature = "run")]
 pub use run::{run, RunResult};
 
 extern "C" {

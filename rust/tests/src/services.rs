@@ -94,7 +94,6 @@ pub fn run(text: &[u8], events: &[u32], lent: &Lent, work: usize) -> Ran {
         result,
         lent: after,
     };
-    #[cfg(feature = "run")]
     run_in_archive(text, events, lent, work, &ran);
     ran
 }
@@ -133,7 +132,6 @@ fn report_in_archive(text: &[u8], work: usize, wanted: &Reported) {
     assert_cleared(&space);
 }
 
-#[cfg(feature = "run")]
 fn run_in_archive(text: &[u8], events: &[u32], lent: &Lent, work: usize, wanted: &Ran) {
     let mut answers = Guarded::holding(&lent.answers);
     let mut cache = Guarded::holding(&lent.cache);
@@ -192,7 +190,6 @@ pub fn raw_report(text: &[u8], output: &mut [u8], work: &mut [u32], result: &mut
 }
 
 /// `felknost_run` of the archive as a C program calls it.
-#[cfg(feature = "run")]
 pub fn raw_run(
     text: &[u8],
     events: &[u32],

@@ -178,7 +178,6 @@ fn tenths(result: RunResult) -> Option<usize> {
 }
 
 /// What only the archive can show.
-#[cfg(feature = "run")]
 mod in_archive {
     use super::*;
     use felknost::{Refusal, Row};
