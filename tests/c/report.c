@@ -142,6 +142,9 @@ static uint64_t stack_result[3];
 static void report_task(void)
 {
     static const char task[] = TASK;
+    /* Point 1 is reached from a higher one, so that the kernel decides and not the sweep. */
+    static const char back[] = "(stack 5)\n(func 0\n  (goto 2)\n  (goto 4)\n  (either 1 3)\n  (goto 4)\n  (return)\n)\n";
+    felknost_report((const uint8_t *)back, sizeof back - 1, stack_output, WANTED, stack_work, FELKNOST_WORK, stack_result, 3);
     felknost_report((const uint8_t *)task, sizeof task - 1, stack_output, WANTED, stack_work, FELKNOST_WORK, stack_result, 3);
 }
 

@@ -206,6 +206,10 @@ static uint64_t stack_result[5];
 static void run_task(void)
 {
     static const char task[] = TASK;
+    /* Point 1 is reached from a higher one, so that the kernel decides and not the sweep. */
+    static const char back[] = "(stack 5)\n(func 0\n  (goto 2)\n  (goto 4)\n  (either 1 3)\n  (goto 4)\n  (return)\n)\n";
+    felknost_run((const uint8_t *)back, sizeof back - 1, preempted_list, 0, stack_answers, 8, stack_cache, 5, stack_memory, 6, stack_work, FELKNOST_WORK,
+                 stack_result, 5);
     felknost_run((const uint8_t *)task, sizeof task - 1, preempted_list, 16, stack_answers, 8, stack_cache, 5, stack_memory, 6, stack_work, FELKNOST_WORK,
                  stack_result, 5);
 }
