@@ -9,7 +9,7 @@ use Rattle.services.proofs.running.buffer_row.Tie as tie
 returns : tie.Need-returns
 returns c =
     let a = c .before .before .args in
-    odd-list (a .events) (a .answers) (a .cache) (a .stack) (c .before .if1 .taken) (c .refusal .ensures)
+    odd-list (a .events) (a .answers) (a .cache) (a .stack) (λ q. omega arith) (c .refusal .ensures)
 
 returns-2 : tie.Need-returns-2
 returns-2 c =
@@ -24,7 +24,7 @@ returns-3 c =
 returns-4 : tie.Need-returns-4
 returns-4 c =
     let a = c .before .before .before .before .before .args in
-    other-cache (a .events) (a .answers) (a .cache) (a .stack) (omega arith) (omega arith) (omega arith) (c .before .if4 .taken) (c .refusal4 .ensures)
+    other-cache (a .events) (a .answers) (a .cache) (a .stack) (omega arith) (omega arith) (omega arith) (λ q. omega arith) (c .refusal4 .ensures)
 
 returns-5 : tie.Need-returns-5
 returns-5 c =
