@@ -2,8 +2,8 @@
  * Felknost: the preemption sheet of a task on a core with a stack cache.
  *
  * felknost_check judges a task text, given as its bytes; felknost_report writes its preemption sheet; felknost_run steps and preempts the task on the
- * machine. All return for every byte string and every length of the buffers, and touch nothing but the buffers that they are lent and their own stack. Threads may call them at the same time, each
- * with buffers of its own. Link with libfelknost.a and a C library for memset and memcpy.
+ * machine. All return for every byte string and every length of the buffers, and touch nothing but the buffers that they are lent and their own
+ * stack. Threads may call them at the same time, each with buffers of its own. Link with libfelknost.a and a C library for memset and memcpy.
  */
 #ifndef FELKNOST_H
 #define FELKNOST_H

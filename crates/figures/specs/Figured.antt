@@ -30,7 +30,7 @@ pub record Figured (w : List ℕ) (h : Header) : Type 0 where
   pub fill : Points (model.fill (taskOf w h)) fillColumn (h .funcs) w
 
 -- the figures of a point as the definitions have them
-abbrev pub figuredOf : PointFigures → sheet.Figured
+abbrev pub figuredOf : PointFigures → sheet.PointSheet
 figuredOf r =
     record {
       high = r .high;

@@ -8,7 +8,7 @@ use Rattle.model.specs.Task.{Task, func, size, count}
 use Rattle.model.specs.Figures as Figures
 
 -- the figures of a point: all that a line of the report shows of it but its number
-pub record Figured : Type 0 where
+pub record PointSheet : Type 0 where
   pub high : ℕ
   pub dead : ℕ
   pub need : ℕ
@@ -25,11 +25,11 @@ pub record Sheet : Type 0 where
   pub price : ℕ → ℕ
   pub spill : ℕ → ℕ
   pub chain : ℕ → ℕ
-  pub at : ℕ → ℕ → Figured
+  pub at : ℕ → ℕ → PointSheet
 
 -- the preemption cost (cache-related preemption delay) and its parts, from the figures that walks give: save and reload at the preemption
 -- itself, later and chain the delayed fills of the running frame and of its callers. next is q, and fill is in blocks
-unfoldable pub costed : (ℕ → ℕ) → (high dead need next chain fill : ℕ) → Figured
+unfoldable pub costed : (ℕ → ℕ) → (high dead need next chain fill : ℕ) → PointSheet
 costed price high dead need next chain fill =
     record {
       high = high;
@@ -76,7 +76,7 @@ sheetOf t = pricedSheet inBlocks t
 pub record Record : Type 0 where
   pub fn : ℕ
   pub at : ℕ
-  pub figures : Figured
+  pub figures : PointSheet
 
 abbrev pub recordAt : Sheet → ℕ → ℕ → Record
 recordAt s f p = record { fn = f; at = p; figures = s .at f p }

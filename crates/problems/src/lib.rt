@@ -13,7 +13,8 @@ ghost use Rattle.bits.specs.Bits.{Marks, Lowest, Top};
 ghost use Rattle.tables.specs.Tables.{item, funcIn};
 ghost use Rattle.tables.specs.Valid.{Kept};
 ghost use Rattle.flow.specs.Flow.{Given};
-ghost use Rattle.problems.specs.Problems.{gives, takes, effectWith, HasEffect, Filled, Gives, Takes, Blocks, Answered, Scratch, KeptIn, CutIn, EachReached};
+ghost use Rattle.problems.specs.Problems.{gives, takes, effectWith, HasEffect, Filled, Gives};
+ghost use Rattle.problems.specs.Problems.{Takes, Blocks, Answered, Scratch, KeptIn, CutIn, EachReached};
 use model::Point;
 use tables::Span;
 

@@ -30,7 +30,7 @@ use Rattle.report.specs.Report.{pointText, pointsText, headText, funcTex
 pub point-row : (t : Task) (f p : ℕ) (r : PointFigures) → figuredOf r ≡ sheetOf t .at f p
     → row (bytes "  (at") (p ∷ r .high ∷ r .dead ∷ r .need ∷ r .save ∷ r .reload ∷ r .later ∷ r .chain ∷ r .cost ∷ r .fill ∷ []) ≡ pointText t f p
 unfolding pointRow
-point-row t f p r e = ap (λ (x : sheet.Figured). pointRow (record { fn = f; at = p; figures = x })) e
+point-row t f p r e = ap (λ (x : sheet.PointSheet). pointRow (record { fn = f; at = p; figures = x })) e
 
 pub func-row : (t : Task) (f : ℕ) (r : FuncFigures) → r ≡ funcFigures t f
     → row (bytes "  (func") (f ∷ r .frame ∷ r .shortest ∷ r .longest ∷ r .spill ∷ r .chain ∷ []) ≡ headText t f

@@ -16,7 +16,7 @@ use Rattle.model.specs.Limits.{mostFuncs, mostPoints}
 use Rattle.model.specs.Task.{Task, count, func}
 use Rattle.model.specs.Core.{Core, reserve, idle, ensure, preempt, filledWith, saveMoves, resumeMoves}
 use Rattle.model.specs.Figures.{longest}
-use Rattle.model.specs.Sheet.{Figured, sheetOf}
+use Rattle.model.specs.Sheet.{PointSheet, sheetOf}
 use Rattle.model.specs.Run.{Place, onwards}
 use Rattle.theory.proofs.Window.{frame-room}
 use Rattle.tables.specs.declared.Header.{Header}
@@ -190,7 +190,7 @@ module _ (t : Task) (x : State) (q : PointFigures) (w cache memory cache′ : Li
       (record { state = record { depth = x .depth; f = x .f; p = p; machine = e .machine }; answer = 0; out = 0; back = e .blocks; bound = q .fill })
       w cache′ memory
   ensure-does e p k j d =
-      moved-does x _ _ _ _ _ w cache′ memory _ h refl refl j (d .core) refl refl (d .blocks) (ap (λ (z : Figured). z .fill) i)
+      moved-does x _ _ _ _ _ w cache′ memory _ h refl refl j (d .core) refl refl (d .blocks) (ap (λ (z : PointSheet). z .fill) i)
 
   pub preempt-does : (e : Preempted) (memory′ : List ℕ) → machine.Preempts e cache′ memory′ (q .dead) (q .need) v (coreOf (x .machine) cache memory)
       → Preempts t x v w cache memory
@@ -199,10 +199,10 @@ module _ (t : Task) (x : State) (q : PointFigures) (w cache memory cache′ : Li
   preempt-does e memory′ d =
       let c = coreOf (x .machine) cache memory in
       moved-does x _ _ _ _ _ w cache′ memory′ _ h refl refl refl
-      (d .core ∙ ap (λ (z : Figured). preempt (z .dead) (z .need) (filledWith v c) c) i) refl
-      (d .out ∙ ap (λ (z : Figured). saveMoves (z .dead) (c .occupancy)) i)
-      (d .back ∙ ap (λ (z : Figured). resumeMoves (z .dead) (z .need) (c .occupancy)) i)
-      (ap (λ (z : Figured). z .cost) i)
+      (d .core ∙ ap (λ (z : PointSheet). preempt (z .dead) (z .need) (filledWith v c) c) i) refl
+      (d .out ∙ ap (λ (z : PointSheet). saveMoves (z .dead) (c .occupancy)) i)
+      (d .back ∙ ap (λ (z : PointSheet). resumeMoves (z .dead) (z .need) (c .occupancy)) i)
+      (ap (λ (z : PointSheet). z .cost) i)
 
 -- a point of a function has a small number
 pub inside-small : {w : List ℕ} {h : Header} {x : State} {s : Span} → Inside w h x s → x .p < mostPoints

@@ -36,17 +36,26 @@ bounds l =
 
 returns : tie.Need-returns Inv-loop μ-loop
 returns c =
-    loops-off (c .before .before .before .before .before .before .before .before .before .loop .inv .0) _ (bounds (c .before .before .before .before .before .before .before .before) .0) (c .before .before .before .before .before .before .before .before .before .before .before .before .before .before .before .before .before .pre .answered) (c .before .before .r .given .1) (c .before .before .before .before .event-row .ensures) (c .ended .ensures)
+    loops-off (c .before .before .before .before .before .before .before .before .before .loop .inv .0) _ (bounds
+    (c .before .before .before .before .before .before .before .before) .0)
+    (c .before .before .before .before .before .before .before .before .before .before .before .before .before .before .before .before .before .pre
+    .answered) (c .before .before .r .given .1) (c .before .before .before .before .event-row .ensures) (c .ended .ensures)
 
 turn-requires : tie.Need-turn-requires Inv-loop μ-loop
-turn-requires c κs = loops-more (c .before .before .before .before .before .before .before .before .before .before .loop .inv .0) _ _ (c .before .before .before .enum-told .given .1) (c .before .before .before .before .before .event-row .ensures)
+turn-requires c κs = loops-more (c .before .before .before .before .before .before .before .before .before .before .loop .inv .0) _ _
+    (c .before .before .before .enum-told .given .1) (c .before .before .before .before .before .event-row .ensures)
 
 loop-again : tie.Need-loop-again Inv-loop μ-loop
 loop-again c =
-    let l = c .before .before .before .before .before .before .before .before .before .before .before .before .before .before .before .before .before .before .before in
+    let l = c .before .before .before .before .before .before .before .before .before .before .before .before .before .before .before .before .before
+    .before .before in
     let k = l .before .loop .inv in
     let t = c .before .before .before .before .before .before .before .before .before .turn in (
-      loops-on (k .0) {r = t .result} (bounds l .0) (l .before .before .before .before .before .before .before .before .before .pre .answered) (omega (arith, c .before .struct-known2 .given)) (c .before .before .before .before .before .before .before .before .before .before .before .before .before .enum-told .given .1) (c .before .before .before .before .before .before .before .before .before .before .before .before .before .before .before .event-row .ensures) (t .ensures),
+      loops-on (k .0) {r = t .result} (bounds l .0) (l .before .before .before .before .before .before .before .before .before .pre .answered)
+          (omega (arith, c .before .struct-known2 .given))
+          (c .before .before .before .before .before .before .before .before .before .before .before .before .before .enum-told .given .1)
+          (c .before .before .before .before .before .before .before .before .before .before .before .before .before .before .before .event-row .ensures)
+          (t .ensures),
       omega (arith, bounds l),
       omega (arith, k .2, t .kept),
       omega (arith, k .3, t .kept),
@@ -84,14 +93,44 @@ run-events-spec =
     returns
     (λ c. search needs)
     turn-requires
-    (λ c. omega (arith, bounds (c .before .before .before .before .before .before .before .before .before .before .before .before .before .before .before .before)))
-    (λ c. omega (arith, bounds (c .before .before .before .before .before .before .before .before .before .before .before .before .before .before .before .before)))
-    (λ c. omega (arith, goes-on (c .before .before .before .before .before .before .before .before .before .before .before .before .before .before .before .before .before .before .loop .inv .0 .runs) (c .before .before .before .before .before .before .before .turn .ensures)))
-    (λ c. omega (arith, bounds (c .before .before .before .before .before .before .before .before .before .before .before .before .before .before .before .before .before), goes-on (c .before .before .before .before .before .before .before .before .before .before .before .before .before .before .before .before .before .before .loop .inv .0 .runs) (c .before .before .before .before .before .before .before .turn .ensures)))
+    (λ c. omega (
+      arith,
+      bounds (c .before .before .before .before .before .before .before .before .before .before .before .before .before .before
+          .before .before),
+    ))
+    (λ c. omega (
+      arith,
+      bounds (c .before .before .before .before .before .before .before .before .before .before .before .before .before .before
+          .before .before),
+    ))
+    (λ c. omega (
+      arith,
+      goes-on (c .before .before .before .before .before .before .before .before .before .before .before .before .before .before
+          .before .before .before .before .loop .inv .0 .runs) (c .before .before .before .before .before .before .before .turn .ensures),
+    ))
+    (λ c. omega (
+      arith,
+      bounds (c .before .before .before .before .before .before .before .before .before .before .before .before .before .before
+          .before .before .before),
+      goes-on (c .before .before .before .before .before .before .before .before .before .before .before .before .before
+          .before .before .before .before .before .loop .inv .0 .runs) (c .before .before .before .before .before .before .before .turn .ensures),
+    ))
     (λ c. omega arith)
-    (λ c. omega (arith, bounds (c .before .before .before .before .before .before .before .before .before .before .before .before .before .before .before .before .before .before)))
-    (λ c. omega (arith, bounds (c .before .before .before .before .before .before .before .before .before .before .before .before .before .before .before .before .before .before .before)))
-    (λ c. omega (arith, bounds (c .before .before .before .before .before .before .before .before .before .before .before .before .before .before .before .before .before .before .before)))
+    (λ c. omega (
+      arith,
+      bounds (c .before .before .before .before .before .before .before .before .before .before .before .before .before .before
+          .before .before .before .before),
+    ))
+    (λ c. omega (
+      arith,
+      bounds (c .before .before .before .before .before .before .before .before .before .before .before .before .before .before
+          .before .before .before .before .before),
+    ))
+    (λ c. omega (
+      arith,
+      bounds (c .before .before .before .before .before .before .before .before .before .before .before .before .before .before
+          .before .before .before .before .before),
+    ))
     loop-again
     (λ c. omega arith)
     (λ c κs. search needs)

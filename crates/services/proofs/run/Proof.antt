@@ -8,7 +8,8 @@ use Rattle.services.proofs.run.Tie as tie
 
 returns : tie.Need-returns
 returns c =
-    let j = c .before .before .before .before .before .before .before .before .before .before .before .before .before .before .before .before .before .before .before .judge-lent .ensures in
+    let j = c .before .before .before .before .before .before .before .before .before .before .before .before .before .before .before .before .before
+    .before .before .judge-lent .ensures in
     let r = c .before .before .before .before .before .before .before .before .before .before .before .before .run-judged .ensures in
     let k = c .before .before .clear .ensures in
     let e = run-left j r k in (

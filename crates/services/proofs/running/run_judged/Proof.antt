@@ -5,7 +5,8 @@ use Rattle.services.proofs.running.run_judged.Statement.{statement}
 use Rattle.services.proofs.running.run_judged.Tie as tie
 
 run-task-requires : tie.Need-run-task-requires
-run-task-requires c κs = rw (c .before .before .before .before .before .judgement2 .given .1) at (c .before .before .before .before .before .before .before .before .before .before .before .before .pre)
+run-task-requires c κs = rw (c .before .before .before .before .before .judgement2 .given .1) at
+    (c .before .before .before .before .before .before .before .before .before .before .before .before .pre)
 
 returns : tie.Need-returns
 returns c = rw (c .before .before .judgement .given .1, c .refused .ensures) (none-run _ _ _ _ _ _)

@@ -16,23 +16,33 @@ func-figures-requires c κs = let f = c .before .before .before .figure-task .en
 returns-2 : tie.Need-returns-2
 returns-2 c =
     let f = c .before .before .before .before .before .before .figure-task .ensures in
-    let s = cleared-same (c .before .before .before .before .before .before .before .before .before .before .before .before .before .before .before .before .pre .1) (kept-later 7744 (f .2)) in
-    too-little _ _ _ _ (c .before .before .before .before .before .before .before .before .before .before .buffer-row .ensures) (c .before .before .before .before .before .before .before .before .enum-told .given .1) (f .1) (c .before .before .func-figures .ensures) s
+    let s = cleared-same (c .before .before .before .before .before .before .before .before .before .before .before .before .before .before .before
+    .before .pre .1) (kept-later 7744 (f .2)) in
+    too-little _ _ _ _ (c .before .before .before .before .before .before .before .before .before .before .buffer-row .ensures)
+    (c .before .before .before .before .before .before .before .before .enum-told .given .1) (f .1) (c .before .before .func-figures .ensures) s
     (omega (arith, c .before .if1 .taken)) (c .refused2 .ensures)
 
 run-events-requires : tie.Need-run-events-requires
 run-events-requires c κs =
     let f = c .before .before .before .before .before .before .before .before .before .figure-task .ensures .0 in
-    fits f _ _ _ _ (c .before .before .before .before .before .before .before .before .before .before .before .before .before .buffer-row .ensures) (c .before .before .before .before .before .before .before .before .before .before .before .enum-told .given .1) (c .before .before .before .before .before .func-figures .ensures) (omega (arith, c .before .before .before .before .if1 .left))
+    fits f _ _ _ _ (c .before .before .before .before .before .before .before .before .before .before .before .before .before .buffer-row .ensures)
+    (c .before .before .before .before .before .before .before .before .before .before .before .enum-told .given .1)
+    (c .before .before .before .before .before .func-figures .ensures) (omega (arith, c .before .before .before .before .if1 .left))
 
 returns-3 : tie.Need-returns-3
 returns-3 c =
-    let f = c .before .before .before .before .before .before .before .before .before .before .before .before .before .before .before .before .before .before .figure-task .ensures in
-    let p = c .before .before .before .before .before .before .before .before .before .before .before .before .before .before .before .before .before .before .before .before .before .before .before .before .before .before .before .before .pre .1 in
+    let f = c .before .before .before .before .before .before .before .before .before .before .before .before .before .before .before .before .before
+    .before .figure-task .ensures in
+    let p = c .before .before .before .before .before .before .before .before .before .before .before .before .before .before .before .before .before
+    .before .before .before .before .before .before .before .before .before .before .before .pre .1 in
     let r = c .before .before .before .before .before .before .before .before .run-events .ensures in
     let s = cleared-same p (kept-later 7744 (f .2)) in
     let d = cleared-same (omega (arith, p, f .2 .size)) (kept-later 7616 (r .kept)) in
-    all-run _ _ _ _ (c .before .before .before .before .before .before .before .before .before .before .before .before .before .before .before .before .before .before .before .before .before .before .buffer-row .ensures) (c .before .before .before .before .before .before .before .before .before .before .before .before .before .before .before .before .before .before .before .before .enum-told .given .1) (f .1) (c .before .before .before .before .before .before .before .before .before .before .before .before .before .before .func-figures .ensures) s
+    all-run _ _ _ _ (c .before .before .before .before .before .before .before .before .before .before .before .before .before .before .before
+    .before .before .before .before .before .before .before .buffer-row .ensures)
+    (c .before .before .before .before .before .before .before .before .before .before .before .before .before .before .before .before .before
+    .before .before .before .enum-told .given .1) (f .1)
+    (c .before .before .before .before .before .before .before .before .before .before .before .before .before .before .func-figures .ensures) s
     (omega (arith, c .before .before .before .before .before .before .before .before .before .before .before .before .before .if1 .left)) r d
 
 pub run-task-spec : {M : Type 1} → statement M
