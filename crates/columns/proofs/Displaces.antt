@@ -22,7 +22,7 @@ use Rattle.tables.specs.Valid.{Lies, Fits}
 use Rattle.tables.proofs.Laws.{func-is, size-is, point-is, count-is, here, elsewhere}
 use Rattle.tables.proofs.Valid.{settled-fits}
 use Rattle.columns.specs.declared.Bounds.{Bounds}
-use Rattle.columns.specs.Columns.{columnsEnd, highColumn, longestColumn, shortestColumn, Funcs, Within}
+use Rattle.columns.specs.Columns.{columnsEnd, highColumn, longestColumn, shortestColumn, Funcs, OnlyColumns}
 use Rattle.columns.specs.Values.{CallFits, Bounded}
 use Rattle.columns.proofs.Writes.{changed-none, changed-set}
 use Rattle.columns.specs.Displaced.{Ready, Displaced, Displacing}
@@ -124,12 +124,12 @@ module _ {w : List ℕ} {h : Header} {f : ℕ} (d : Displacing w h (f + 1)) (l :
 
   -- D and d of one function more
   pub displaced-more : (a b : ℕ) → a ≡ model.longest (taskOf w h) f → b ≡ model.shortest (taskOf w h) f
-      → Displacing (set (set w (longestColumn + f) a) (shortestColumn + f) b) h f × Within w (set (set w (longestColumn + f) a) (shortestColumn + f) b)
+      → Displacing (set (set w (longestColumn + f) a) (shortestColumn + f) b) h f × OnlyColumns w (set (set w (longestColumn + f) a) (shortestColumn + f) b)
   displaced-more a b i j =
       let few = d .ready .settled .holds .few in
       let room = d .ready .room in
       let v = set w (longestColumn + f) a in
-      let c : Within w (set v (shortestColumn + f) b) =
+      let c : OnlyColumns w (set v (shortestColumn + f) b) =
       changed-set highColumn _ v (shortestColumn + f) b (omega arith) (omega arith)
       (changed-set highColumn _ w (longestColumn + f) a (omega arith) (omega arith) (changed-none highColumn _ w)) in (
         record {

@@ -6,11 +6,11 @@ use mathlib.Core.Path.{_≡_}
 use Rattle.tables.specs.declared.Header.{Header}
 use Rattle.tables.specs.Tables.{taskOf}
 use Rattle.tables.proofs.Valid.{task-same, settled-same}
-use Rattle.columns.specs.Columns.{Within}
+use Rattle.columns.specs.Columns.{OnlyColumns}
 use Rattle.columns.proofs.Writes.{changed-agree}
 use Rattle.columns.specs.Displaced.{Ready}
 
-module _ {w w′ : List ℕ} {h : Header} (c : Within w w′) (r : Ready w h) where
+module _ {w w′ : List ℕ} {h : Header} (c : OnlyColumns w w′) (r : Ready w h) where
   pub within-ready : Ready w′ h
   within-ready =
       record {

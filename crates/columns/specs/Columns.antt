@@ -54,5 +54,5 @@ pub record Changed (a n : ℕ) (w w′ : List ℕ) : Type 0 where
   pub behind : (i : ℕ) → a + n ≤ i → item w′ i ≡ item w i
 
 -- w′ is w but for the columns
-abbrev pub Within : List ℕ → List ℕ → Type 0
-Within w w′ = Changed highColumn (columnsEnd - highColumn) w w′
+abbrev pub OnlyColumns : List ℕ → List ℕ → Type 0
+OnlyColumns w w′ = Changed highColumn (columnsEnd - highColumn) w w′

@@ -9,7 +9,7 @@ ghost use Rattle.model.specs.Walk.{called, ensured, present};
 ghost use Rattle.tables.specs.Tables.{item};
 ghost use Rattle.tables.specs.Valid.{Lies};
 ghost use Rattle.problems.specs.Problems.{Filled};
-ghost use Rattle.columns.specs.Columns.{columnsEnd, entryColumn, chainColumn, fillColumn, Funcs, Changed, Within};
+ghost use Rattle.columns.specs.Columns.{columnsEnd, entryColumn, chainColumn, fillColumn, Funcs, Changed, OnlyColumns};
 ghost use Rattle.columns.specs.Values.{mostChain, numbered, calleeAt, ensureAt, filledAt, keptAt, cutAt, chainedAt, valueAt, Adds, CallFits};
 ghost use Rattle.columns.specs.Values.{Put, Raised, Bounded};
 ghost use Rattle.columns.specs.Displaced.{Ready, Displacing};
@@ -313,7 +313,7 @@ fn displace(
     sets: &mut [u64; Limits::POINTS],
 )
     requires { ⌜ Displacing (now work) h (f + 1) × (f < h .funcs) ⌝ }
-    ensures { λ r. ⌜ Displacing (now (work .exit)) h f × Within (now (work .entry)) (now (work .exit)) ⌝ }
+    ensures { λ r. ⌜ Displacing (now (work .exit)) h f × OnlyColumns (now (work .entry)) (now (work .exit)) ⌝ }
 {
     let s = tables::span_at(work, f);
     let b = callee_bounds(work, s);
@@ -331,7 +331,7 @@ pub fn displacements(
     sets: &mut [u64; Limits::POINTS],
 )
     requires { ⌜ Ready (now work) h ⌝ }
-    ensures { λ r. ⌜ Displacing (now (work .exit)) h 0 × Within (now (work .entry)) (now (work .exit)) ⌝ }
+    ensures { λ r. ⌜ Displacing (now (work .exit)) h 0 × OnlyColumns (now (work .entry)) (now (work .exit)) ⌝ }
 {
     let mut f = h.funcs;
     while 0 < f {

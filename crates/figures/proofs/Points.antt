@@ -31,7 +31,7 @@ use Rattle.columns.proofs.Values.{kept-low, cut-stack}
 use Rattle.columns.proofs.Displaces.{callee-in}
 use Rattle.figures.specs.declared.Figure.{Figure}
 use Rattle.figures.specs.declared.Figure.the-variants.{High, Dead, Need, Next, Fill}
-use Rattle.figures.specs.Steps.{Figures, Turn, Due}
+use Rattle.figures.specs.Steps.{Figures, WorkingOn, Due}
 use Rattle.figures.proofs.Limits.{entry-low}
 use Rattle.figures.proofs.Gathers.{entry-of}
 
@@ -79,7 +79,7 @@ pub cut-blocks : (w : List ℕ) (h : Header) (s : Span) {l l′ : List ℕ} → 
     → (p : ℕ) → p < s .size → item l′ p ≤ mostStack
 cut-blocks w h s i k p l = omega (arith, k .each p l, cut-stack w h s p)
 
-module _ {w : List ℕ} {h : Header} {f k : ℕ} {s : Span} (x : Turn w h f k s) where
+module _ {w : List ℕ} {h : Header} {f k : ℕ} {s : Span} (x : WorkingOn w h f k s) where
   pub turn-fits : Fits w s
   turn-fits = let e = x .same in rw e (settled-fits (x .begun .worked .ready .settled) f (x .begun .below))
 

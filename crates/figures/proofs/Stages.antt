@@ -15,14 +15,14 @@ use Rattle.tables.specs.Valid.{Kept}
 use Rattle.tables.proofs.Laws.{stacked-within}
 use Rattle.tables.proofs.Writes.{points-agree}
 use Rattle.problems.specs.Problems.{Filled}
-use Rattle.columns.specs.Columns.{columnsEnd, highColumn, entryColumn, chainColumn, Points, Funcs, Changed, Within}
+use Rattle.columns.specs.Columns.{columnsEnd, highColumn, entryColumn, chainColumn, Points, Funcs, Changed, OnlyColumns}
 use Rattle.columns.specs.Values.{mostChain, chainedAt, Put, raisedBy, Raised}
 use Rattle.columns.proofs.Writes.{changed-on, changed-wider, changed-agree, points-kept, funcs-kept, stacked-order, changed-past}
 use Rattle.figures.specs.declared.Figure.{Figure}
 use Rattle.figures.specs.declared.Figure.the-variants.{High, Dead, Need, Next, Fill}
 use Rattle.columns.specs.Displaced.{Ready, Displaced, Displacing}
 use Rattle.figures.specs.Figured.{Figured}
-use Rattle.figures.specs.Steps.{figureOf, placeOf, columnOf, pointColumns, Figures, Stands, Worked, Begun, Turn}
+use Rattle.figures.specs.Steps.{figureOf, placeOf, columnOf, pointColumns, Figures, FiguredTo, Worked, Working, WorkingOn}
 use Rattle.figures.proofs.Limits.{chain-low}
 use Rattle.columns.proofs.Within.{within-ready, within-task}
 use Rattle.figures.proofs.Gathers.{gathered-none, gathered-kept, gathered-more, chain-of, entry-of}
@@ -62,10 +62,10 @@ displaced-kept h same x =
 
 -- D and d are worked out, and no caller has raised anything
 pub worked-none : {w v w′ : List ℕ} {h : Header} → Displacing w h 0 → Changed chainColumn mostFuncs w v → Funcs (λ g. 0) chainColumn 0 mostFuncs v
-    → Changed entryColumn mostFuncs v w′ → Funcs (λ g. 0) entryColumn 0 mostFuncs w′ → Worked w′ h 0 pointColumns × Within w w′
+    → Changed entryColumn mostFuncs v w′ → Funcs (λ g. 0) entryColumn 0 mostFuncs w′ → Worked w′ h 0 pointColumns × OnlyColumns w w′
 worked-none {w} {v} {w′} {h} d c x b y =
     let few = d .ready .settled .holds .few in
-    let i : Within w w′ = changed-on (changed-wider highColumn _ (omega arith) (omega arith) c) (changed-wider highColumn _ (omega arith) (omega arith) b) in
+    let i : OnlyColumns w w′ = changed-on (changed-wider highColumn _ (omega arith) (omega arith) c) (changed-wider highColumn _ (omega arith) (omega arith) b) in
     let t = within-task i (d .ready) in (
       record {
         ready = within-ready i (d .ready);
@@ -87,7 +87,7 @@ module _ {w w′ v : List ℕ} {h : Header} {f : ℕ} (which : Figure) (x : Work
   in-column : baseAt w f + sizeAt w f ≤ mostInAll
   in-column = omega (arith, stacked-within (x .ready .settled .holds .stacked) f l, x .ready .settled .holds .all)
 
-  put-within : Within w w′
+  put-within : OnlyColumns w w′
   put-within = changed-wider highColumn _ (omega arith) (omega (arith, in-column, place-low which)) (put .changed)
 
   -- the other columns, and the functions before f in this one
@@ -105,7 +105,7 @@ module _ {w w′ v : List ℕ} {h : Header} {f : ℕ} (which : Figure) (x : Work
   behind-points : (i : ℕ) → highColumn + mostInAll * pointColumns ≤ i → item w′ i ≡ item w i
   behind-points i m = put .changed .behind i (omega (arith, in-column, place-low which))
 
-  pub worked-more : ((p : ℕ) → p < sizeAt w f → item v p ≡ figureOf which (taskOf w h) f p) → Worked w′ h f (placeOf which) × Within w w′
+  pub worked-more : ((p : ℕ) → p < sizeAt w f → item v p ≡ figureOf which (taskOf w h) f p) → Worked w′ h f (placeOf which) × OnlyColumns w w′
   worked-more new =
       let few = x .ready .settled .holds .few in
       let s = x .stands in
@@ -114,7 +114,7 @@ module _ {w w′ v : List ℕ} {h : Header} {f : ℕ} (which : Figure) (x : Work
       let z = a .size f (omega arith) in (
         record {
           ready = within-ready put-within (x .ready);
-          stands = subst (λ (t : Task). Stands t (h .funcs) f (placeOf which) w′) (sym (within-task put-within (x .ready)))
+          stands = subst (λ (t : Task). FiguredTo t (h .funcs) f (placeOf which) w′) (sym (within-task put-within (x .ready)))
               (record {
                 away = displaced-kept few (λ i m n. behind-points i m) (s .away);
                 chain = gathered-kept (λ g m. behind-points _ (omega arith)) (s .chain);
@@ -134,12 +134,12 @@ module _ {w w′ v : List ℕ} {h : Header} {f : ℕ} (which : Figure) (x : Work
         put-within,
       )
 
-pub turn-of : {w : List ℕ} {h : Header} {f k : ℕ} {s : Span} → Begun w h f k → s ≡ spanAt w f → Turn w h f k s
+pub turn-of : {w : List ℕ} {h : Header} {f k : ℕ} {s : Span} → Working w h f k → s ≡ spanAt w f → WorkingOn w h f k s
 turn-of x e = record { begun = x; same = e }
 
-pub worked-put : (which : Figure) {w w′ v v₀ : List ℕ} {h : Header} {f column : ℕ} {s : Span} → Turn w h f (suc (placeOf which)) s
+pub worked-put : (which : Figure) {w w′ v v₀ : List ℕ} {h : Header} {f column : ℕ} {s : Span} → WorkingOn w h f (suc (placeOf which)) s
     → column ≡ columnOf which → Figures which (taskOf w h) f (s .size) v₀ v → Put (column + s .base) (s .size) v w w′
-    → Begun w′ h f (placeOf which) × Within w w′
+    → Working w′ h f (placeOf which) × OnlyColumns w w′
 worked-put which {w} {w′} {v} {f = f} {s = s} x n y put =
     let r = worked-more which (x .begun .worked) (x .begun .below)
     (subst (λ (s : Span). Put (columnOf which + s .base) (s .size) v w w′) (x .same) (subst (λ (m : ℕ). Put (m + s .base) (s .size) v w w′) n put))
@@ -149,7 +149,7 @@ worked-put which {w} {w′} {v} {f = f} {s = s} x n y put =
 -- function f has all its figures, and its callees are raised
 module _ {w v w′ c e : List ℕ} {h : Header} {f : ℕ} (x : Worked w h f 0) (l : f < h .funcs)
     (raised : Raised chainColumn (spanAt w f) c w v) (last : Raised entryColumn (spanAt w f) e v w′) where
-  raise-within : Within w w′
+  raise-within : OnlyColumns w w′
   raise-within =
       changed-on (changed-wider highColumn _ (omega arith) (omega arith) (raised .changed))
       (changed-wider highColumn _ (omega arith) (omega arith) (last .changed))
@@ -182,7 +182,7 @@ module _ {w v w′ c e : List ℕ} {h : Header} {f : ℕ} (x : Worked w h f 0) (
 
   pub worked-next : {c₀ e₀ : List ℕ} → Filled (λ p n. n ≡ chainedAt w (spanAt w f) (item w (chainColumn + f)) p) (sizeAt w f) c₀ c
       → Filled (λ p n. n ≡ item w (highColumn + baseAt w f + p)) (sizeAt w f) e₀ e
-      → Worked w′ h (f + 1) pointColumns × Within w w′
+      → Worked w′ h (f + 1) pointColumns × OnlyColumns w w′
   worked-next y z =
       let r = x .ready in
       let s = x .stands in
@@ -190,7 +190,7 @@ module _ {w v w′ c e : List ℕ} {h : Header} {f : ℕ} (x : Worked w h f 0) (
       let own = chain-of r (s .chain) f l (omega arith) (omega arith) in (
         record {
           ready = within-ready raise-within r;
-          stands = subst (λ (t : Task). Stands t (h .funcs) (f + 1) pointColumns w′) (sym (within-task raise-within r))
+          stands = subst (λ (t : Task). FiguredTo t (h .funcs) (f + 1) pointColumns w′) (sym (within-task raise-within r))
               (record {
                 away = displaced-kept few (λ i m n. before-raised i n) (s .away);
                 chain = gathered-kept {w = v} (λ g m. last .changed .behind _ (omega arith)) (gathered-more r c l (raised .each)
@@ -206,9 +206,9 @@ module _ {w v w′ c e : List ℕ} {h : Header} {f : ℕ} (x : Worked w h f 0) (
         raise-within,
       )
 
-pub worked-raised : {w v w′ c c₀ e e₀ : List ℕ} {h : Header} {f : ℕ} {s : Span} → Turn w h f 0 s → Raised chainColumn s c w v
+pub worked-raised : {w v w′ c c₀ e e₀ : List ℕ} {h : Header} {f : ℕ} {s : Span} → WorkingOn w h f 0 s → Raised chainColumn s c w v
     → Raised entryColumn s e v w′ → Filled (λ p n. n ≡ chainedAt w s (item w (chainColumn + f)) p) (s .size) c₀ c
-    → Filled (λ p n. n ≡ item w (highColumn + s .base + p)) (s .size) e₀ e → Worked w′ h (f + 1) pointColumns × Within w w′
+    → Filled (λ p n. n ≡ item w (highColumn + s .base + p)) (s .size) e₀ e → Worked w′ h (f + 1) pointColumns × OnlyColumns w w′
 worked-raised {w} {v} {w′} {c} {c₀} {e} {e₀} {f = f} x raised last y z =
     worked-next (x .begun .worked) (x .begun .below) (subst (λ (s : Span). Raised chainColumn s c w v) (x .same) raised)
     (subst (λ (s : Span). Raised entryColumn s e v w′) (x .same) last)
@@ -216,7 +216,7 @@ worked-raised {w} {v} {w′} {c} {c₀} {e} {e₀} {f = f} x raised last y z =
     (subst (λ (s : Span). Filled (λ p n. n ≡ item w (highColumn + s .base + p)) (s .size) e₀ e) (x .same) z)
 
 -- the chain of function f, from which it raises those of its callees
-pub own-chain : {w : List ℕ} {h : Header} {f k : ℕ} → Begun w h f k → item w (chainColumn + f) ≤ mostChain
+pub own-chain : {w : List ℕ} {h : Header} {f k : ℕ} → Working w h f k → item w (chainColumn + f) ≤ mostChain
 own-chain {f = f} x =
     let r = x .worked .ready in
     omega (
@@ -228,7 +228,7 @@ own-chain {f = f} x =
     )
 
 -- every function has all its figures
-pub all-figured : {w w′ : List ℕ} {h : Header} → Ready w h → Within w w′ → Worked w′ h (h .funcs) pointColumns
+pub all-figured : {w w′ : List ℕ} {h : Header} → Ready w h → OnlyColumns w w′ → Worked w′ h (h .funcs) pointColumns
     → Figured w′ h × (taskOf w′ h ≡ taskOf w h) × Kept columnsEnd w w′
 all-figured r c x =
     let s = x .stands in (

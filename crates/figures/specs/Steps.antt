@@ -56,7 +56,7 @@ abbrev pub chainFigure : Task → ℕ → ℕ → ℕ
 chainFigure t f p = model.chain inBlocks t f + inBlocks (model.kept t f (suc p))
 
 -- of the n functions of t, those below f have all figures, and function f has those whose place is k or more
-pub record Stands (t : Task) (n f k : ℕ) (w : List ℕ) : Type 0 where
+pub record FiguredTo (t : Task) (n f k : ℕ) (w : List ℕ) : Type 0 where
   pub away : Displaced t 0 n w
   pub chain : Gathered t (chainFigure t) chainColumn n f w
   pub entry : Gathered t (model.high t) entryColumn n f w
@@ -65,18 +65,18 @@ pub record Stands (t : Task) (n f k : ℕ) (w : List ℕ) : Type 0 where
 
 pub record Worked (w : List ℕ) (h : Header) (f k : ℕ) : Type 0 where
   pub ready : Ready w h
-  pub stands : Stands (taskOf w h) (h .funcs) f k w
+  pub stands : FiguredTo (taskOf w h) (h .funcs) f k w
 
 -- function f is being worked on
-pub record Begun (w : List ℕ) (h : Header) (f k : ℕ) : Type 0 where
+pub record Working (w : List ℕ) (h : Header) (f k : ℕ) : Type 0 where
   pub worked : Worked w h f k
   pub below : f < h .funcs
 
 -- and is s
-pub record Turn (w : List ℕ) (h : Header) (f k : ℕ) (s : Span) : Type 0 where
-  pub begun : Begun w h f k
+pub record WorkingOn (w : List ℕ) (h : Header) (f k : ℕ) (s : Span) : Type 0 where
+  pub begun : Working w h f k
   pub same : s ≡ spanAt w f
 
 -- this figure is the next
 abbrev pub Due : Figure → List ℕ → Header → ℕ → Span → Type 0
-Due which w h f s = Turn w h f (suc (placeOf which)) s
+Due which w h f s = WorkingOn w h f (suc (placeOf which)) s

@@ -7,12 +7,12 @@ ghost use Rattle.model.specs.Limits.{workLength, mostStack};
 ghost use Rattle.model.specs.Sheet.{sheetOf};
 ghost use Rattle.tables.specs.Tables.{spanAt, taskOf};
 ghost use Rattle.tables.specs.Valid.{Kept, Settled};
-ghost use Rattle.columns.specs.Columns.{columnsEnd, Within};
+ghost use Rattle.columns.specs.Columns.{columnsEnd, OnlyColumns};
 ghost use Rattle.figures.specs.declared.Figure.the-variants.{Next, High};
 ghost use Rattle.columns.specs.Values.{mostChain};
 ghost use Rattle.columns.specs.Displaced.{Ready};
 ghost use Rattle.figures.specs.Figured.{Figured, figuredOf, funcFigures};
-ghost use Rattle.figures.specs.Steps.{placeOf, columnOf, pointColumns, Figures, Worked, Begun, Due};
+ghost use Rattle.figures.specs.Steps.{placeOf, columnOf, pointColumns, Figures, Worked, Working, Due};
 pub use columns::Columns;
 use columns::Value;
 use model::Limits;
@@ -141,8 +141,8 @@ fn write_figure(
     state: &mut [u8; Limits::POINTS],
     out: &mut [u32; Limits::POINTS],
 )
-    requires { ⌜ Begun (now work) h f (suc (placeOf which)) ⌝ }
-    ensures { λ r. ⌜ Begun (now (work .exit)) h f (placeOf which) × Within (now (work .entry)) (now (work .exit)) ⌝ }
+    requires { ⌜ Working (now work) h f (suc (placeOf which)) ⌝ }
+    ensures { λ r. ⌜ Working (now (work .exit)) h f (placeOf which) × OnlyColumns (now (work .entry)) (now (work .exit)) ⌝ }
 {
     let s = tables::span_at(work, f);
     figure_points(which, work, h, f, s, values, gens, kills, sets, state, out);
@@ -158,8 +158,8 @@ fn raise_callees(
     values: &mut [u32; Limits::POINTS],
     out: &mut [u32; Limits::POINTS],
 )
-    requires { ⌜ Begun (now work) h f 0 ⌝ }
-    ensures { λ r. ⌜ Worked (now (work .exit)) h (f + 1) pointColumns × Within (now (work .entry)) (now (work .exit)) ⌝ }
+    requires { ⌜ Working (now work) h f 0 ⌝ }
+    ensures { λ r. ⌜ Worked (now (work .exit)) h (f + 1) pointColumns × OnlyColumns (now (work .entry)) (now (work .exit)) ⌝ }
 {
     let s = tables::span_at(work, f);
     let own = work[Columns::CHAIN + f];
@@ -181,8 +181,8 @@ fn figure_func(
     state: &mut [u8; Limits::POINTS],
     out: &mut [u32; Limits::POINTS],
 )
-    requires { ⌜ Begun (now work) h f pointColumns ⌝ }
-    ensures { λ r. ⌜ Worked (now (work .exit)) h (f + 1) pointColumns × Within (now (work .entry)) (now (work .exit)) ⌝ }
+    requires { ⌜ Working (now work) h f pointColumns ⌝ }
+    ensures { λ r. ⌜ Worked (now (work .exit)) h (f + 1) pointColumns × OnlyColumns (now (work .entry)) (now (work .exit)) ⌝ }
 {
     write_figure(
         Figure::Fill,
@@ -259,7 +259,7 @@ fn figure_funcs(
     out: &mut [u32; Limits::POINTS],
 )
     requires { ⌜ Worked (now work) h 0 pointColumns ⌝ }
-    ensures { λ r. ⌜ Worked (now (work .exit)) h (h .funcs) pointColumns × Within (now (work .entry)) (now (work .exit)) ⌝ }
+    ensures { λ r. ⌜ Worked (now (work .exit)) h (h .funcs) pointColumns × OnlyColumns (now (work .entry)) (now (work .exit)) ⌝ }
 {
     let n = h.funcs;
     let mut f = 0;

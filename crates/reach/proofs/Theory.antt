@@ -18,7 +18,7 @@ use Rattle.tables.specs.Tables.{item}
 use Rattle.tables.proofs.Laws.{here, elsewhere}
 use Rattle.reach.specs.declared.sweep.Step.{Step}
 use Rattle.reach.specs.declared.sweep.Step.the-variants.{Falls, Leaves}
-use Rattle.reach.specs.Sweep.{Covers, Most, Joined, Known, Stands, Arrived, Stepped}
+use Rattle.reach.specs.Sweep.{Covers, Most, UnionAt, Known, SetStands, Arrived, Stepped}
 
 -- an equal set has the same bits
 bit-same : {a b : ℕ} (j : ℕ) → a ≡ b → bit b j ≡ 1 → bit a j ≡ 1
@@ -35,11 +35,11 @@ covers-right : (a b : ℕ) → Covers (union a b) b
 covers-right a b j h = omega (arith, bit-union a b j, bit-le a j)
 
 -- the set at a point that has the mark, and at one that does not
-pub joined-marked : {mark q m u : ℕ} {sets marks : List ℕ} → u ≡ union m (item sets q) → Joined mark q m sets marks u
-joined-marked {m = m} e = rw e (record { comes = covers-left m _; stays = λ k. covers-right m _ })
+pub union-marked : {mark q m u : ℕ} {sets marks : List ℕ} → u ≡ union m (item sets q) → UnionAt mark q m sets marks u
+union-marked {m = m} e = rw e (record { comes = covers-left m _; stays = λ k. covers-right m _ })
 
-pub joined-bare : {mark q m : ℕ} {sets marks : List ℕ} → (item marks q ≡ mark → ⊥) → Joined mark q m sets marks m
-joined-bare h = record { comes = λ j b. b; stays = λ e. absurd (h e) }
+pub union-bare : {mark q m : ℕ} {sets marks : List ℕ} → (item marks q ≡ mark → ⊥) → UnionAt mark q m sets marks m
+union-bare h = record { comes = λ j b. b; stays = λ e. absurd (h e) }
 
 -- ---- arrivals
 
@@ -67,7 +67,7 @@ module _ {mark p m : ℕ} where
 
   module _ (q : ℕ) (sets marks : List ℕ) where
     -- the set m comes to a point above p, where its union with what stands there is u
-    pub moved-above : (u : ℕ) → p < q → q < length sets → q < length marks → Joined mark q m sets marks u
+    pub moved-above : (u : ℕ) → p < q → q < length sets → q < length marks → UnionAt mark q m sets marks u
         → Arrived mark p (q ∷ []) m sets marks (set sets q u) (set marks q mark)
     moved-above u l i k s =
         record {
@@ -88,7 +88,7 @@ module _ {mark p m : ℕ} where
         has-mark : (r : ℕ) → r ≡ q → item (set marks q mark) r ≡ mark
         has-mark r d = ap (item (set marks q mark)) d ∙ here marks q mark k
 
-        at : (r j : ℕ) → r ≡ q → bit u j ≡ 1 → Stands mark (suc p) (set sets q u) (set marks q mark) r j
+        at : (r j : ℕ) → r ≡ q → bit u j ≡ 1 → SetStands mark (suc p) (set sets q u) (set marks q mark) r j
         at r j d b = (inr (has-mark r d), bit-same j (ap (item (set sets q u)) d ∙ here sets q u i) b)
 
     -- the set m comes to p or to a point below it, where its union with what stands there is no other set
@@ -107,7 +107,7 @@ module _ {mark p m : ℕ} where
 
 -- bit j stands at point q, or comes with the set c to q, which is p
 abbrev pub Has : ℕ → ℕ → ℕ → List ℕ → List ℕ → ℕ → ℕ → Type 0
-Has mark p c sets marks q j = Stands mark p sets marks q j ⊎ ((q ≡ p) × (bit c j ≡ 1))
+Has mark p c sets marks q j = SetStands mark p sets marks q j ⊎ ((q ≡ p) × (bit c j ≡ 1))
 
 -- the points before p are swept, and the set c comes from them to p
 pub record Sweeping (x : Func) (n entry mark p c : ℕ) (sets marks : List ℕ) : Type 0 where
@@ -133,13 +133,13 @@ sweeping-none x n entry mark sets marks f =
     }
 
 -- what has come to p is stored there
-has-stored : {mark p c m : ℕ} {sets marks : List ℕ} → p < length sets → Joined mark p c sets marks m → (q j : ℕ) → Has mark p c sets marks q j
-    → Stands mark (suc p) (set sets p m) marks q j
+has-stored : {mark p c m : ℕ} {sets marks : List ℕ} → p < length sets → UnionAt mark p c sets marks m → (q j : ℕ) → Has mark p c sets marks q j
+    → SetStands mark (suc p) (set sets p m) marks q j
 has-stored {mark} {p} {c} {m} {sets} {marks} l s q j h =
     elim (ℕ-discrete q p) [
       | yes d ↦ (inl (omega arith), bit-same j (ap (item (set sets p m)) d ∙ here sets p m l) (at d h))
       | no d ↦ ⊎-elim
-          (λ (k : Stands mark p sets marks q j). (⊎-elim (λ (i : q < p). inl (omega arith)) (λ e. inr e) (k .0), bit-same j (elsewhere sets p q m d) (k .1)))
+          (λ (k : SetStands mark p sets marks q j). (⊎-elim (λ (i : q < p). inl (omega arith)) (λ e. inr e) (k .0), bit-same j (elsewhere sets p q m d) (k .1)))
           (λ k. absurd (d (k .0)))
           h
     ]
@@ -157,7 +157,7 @@ module _
     (g : Sweeping x n entry mark p c sets marks)
     (i : p < n)
     (l : p < length sets)
-    (s : Joined mark p c sets marks m) where
+    (s : UnionAt mark p c sets marks m) where
   module _ {ts : List ℕ} (v : Arrived mark p ts m (set sets p m) marks sets′ marks′) (t : (q : ℕ) → List·Memᴰ q ts → List·Memᴰ q (leads x p)) where
     at-point : item sets′ p ≡ m
     at-point = v .low p (omega arith) ∙ here sets p m l
@@ -165,7 +165,7 @@ module _
     before : (a : ℕ) → a < p → item sets′ a ≡ item sets a
     before a h = v .low a (omega arith) ∙ elsewhere sets p a m (λ e. omega arith)
 
-    stands : (q j : ℕ) → Has mark p c sets marks q j → Stands mark (suc p) sets′ marks′ q j
+    stands : (q j : ℕ) → Has mark p c sets marks q j → SetStands mark (suc p) sets′ marks′ q j
     stands q j h = v .stays q j (has-stored l s q j h)
 
     finds : (a : ℕ) → Known mark (suc p) marks′ a → Walk (leads x) never 0 a

@@ -21,7 +21,7 @@ abbrev pub Most : ℕ → List ℕ → Type 0
 Most m marks = (q : ℕ) → item marks q ≤ m
 
 -- r has what m brings to point q, and what stands there if q has the mark
-pub record Joined (mark q m : ℕ) (sets marks : List ℕ) (r : ℕ) : Type 0 where
+pub record UnionAt (mark q m : ℕ) (sets marks : List ℕ) (r : ℕ) : Type 0 where
   pub comes : Covers r m
   pub stays : item marks q ≡ mark → Covers r (item sets q)
 
@@ -29,14 +29,14 @@ pub record Joined (mark q m : ℕ) (sets marks : List ℕ) (r : ℕ) : Type 0 wh
 abbrev pub Known : ℕ → ℕ → List ℕ → ℕ → Type 0
 Known mark p marks q = (q < p) ⊎ (item marks q ≡ mark)
 
-abbrev pub Stands : ℕ → ℕ → List ℕ → List ℕ → ℕ → ℕ → Type 0
-Stands mark p sets marks q j = Known mark p marks q × (bit (item sets q) j ≡ 1)
+abbrev pub SetStands : ℕ → ℕ → List ℕ → List ℕ → ℕ → ℕ → Type 0
+SetStands mark p sets marks q j = Known mark p marks q × (bit (item sets q) j ≡ 1)
 
 -- the set m has come from point p to the points ts; what stands at p and below it has stayed
 pub record Arrived (mark p : ℕ) (ts : List ℕ) (m : ℕ) (sets marks sets′ marks′ : List ℕ) : Type 0 where
   pub low : (a : ℕ) → a ≤ p → item sets′ a ≡ item sets a
-  pub stays : (q j : ℕ) → Stands mark (suc p) sets marks q j → Stands mark (suc p) sets′ marks′ q j
-  pub brought : (q j : ℕ) → List·Memᴰ q ts → bit m j ≡ 1 → Stands mark (suc p) sets′ marks′ q j
+  pub stays : (q j : ℕ) → SetStands mark (suc p) sets marks q j → SetStands mark (suc p) sets′ marks′ q j
+  pub brought : (q j : ℕ) → List·Memᴰ q ts → bit m j ≡ 1 → SetStands mark (suc p) sets′ marks′ q j
   pub marked : (q : ℕ) → (item marks′ q ≡ item marks q) ⊎ ((item marks′ q ≡ mark) × List·Memᴰ q ts)
 
 -- point x loads no offset of the set m, and hands on those that it does not store

@@ -15,7 +15,7 @@ ghost use Rattle.model.specs.Walk.{leads};
 ghost use Rattle.tables.specs.Tables.{item, funcIn};
 ghost use Rattle.tables.specs.Valid.{Fits};
 ghost use Rattle.reach.specs.Reach.{HoldsLinked, Clean, CleanBefore};
-ghost use Rattle.reach.specs.Sweep.{Most, Joined, Arrived, Passes, Accessed, Stepped};
+ghost use Rattle.reach.specs.Sweep.{Most, UnionAt, Arrived, Passes, Accessed, Stepped};
 use super::Bytes;
 use super::Sets;
 use super::point;
@@ -33,9 +33,9 @@ pub enum Step {
 }
 
 // The set at point q where the set m comes to it. `sets[q]` is valid only if `marks[q] == mark`.
-fn joined(mark: u8, q: usize, m: u64, sets: &[u64], marks: &[u8]) -> u64
+fn union_at(mark: u8, q: usize, m: u64, sets: &[u64], marks: &[u8]) -> u64
     requires { ⌜ (q < length (now sets)) × (q < length (now marks)) ⌝ }
-    ensures { λ r. ⌜ Joined mark q m (now (sets .entry)) (now (marks .entry)) r ⌝ }
+    ensures { λ r. ⌜ UnionAt mark q m (now (sets .entry)) (now (marks .entry)) r ⌝ }
 {
     if marks[q] == mark {
         return bits::union_of(m, sets[q]);
@@ -49,7 +49,7 @@ fn arrive(mark: u8, p: usize, q: usize, m: u64, sets: &mut Sets, marks: &mut Byt
     ensures { λ r. ⌜ (r ≡ true → Arrived mark p (q ∷ []) m (now (sets .entry)) (now (marks .entry)) (now (sets .exit)) (now (marks .exit))) ⌝ }
 {
     if p < q {
-        sets[q] = joined(mark, q, m, sets, marks);
+        sets[q] = union_at(mark, q, m, sets, marks);
         marks[q] = mark;
         return true;
     }
@@ -140,7 +140,7 @@ fn points_swept(work: &[u32], s: Span, mark: u8, sets: &mut Sets, marks: &mut By
     let mut p: usize = 0;
     let mut carried = bits::low_bits(s.frame);
     while p < s.size {
-        let m = joined(mark, p, carried, sets, marks);
+        let m = union_at(mark, p, carried, sets, marks);
         sets[p] = m;
         match visit(work, s, mark, p, m, sets, marks) {
             Step::Fails => {

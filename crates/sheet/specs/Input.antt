@@ -4,6 +4,6 @@ use Rattle.sheet.specs.declared.Input.{Input}
 use Rattle.sheet.specs.declared.Input.the-variants.{Bytes, Failed}
 
 -- no more bytes were read than there is room for
-abbrev pub Within : ℕ → Input → Type 0
-Within n (Bytes m) = m ≤ n
-Within n Failed = Unit {0}
+abbrev pub ReadWithin : ℕ → Input → Type 0
+ReadWithin n (Bytes m) = m ≤ n
+ReadWithin n Failed = Unit {0}

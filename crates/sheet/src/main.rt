@@ -3,7 +3,7 @@ ghost use Prim.Native.Nat.{_-_, _≤_};
 ghost use lib.ListN.{length};
 ghost use Rattle.io.specs.Counts.{Counts};
 ghost use Rattle.print.specs.Print.{Wrote};
-ghost use Rattle.sheet.specs.Input.{Within};
+ghost use Rattle.sheet.specs.Input.{ReadWithin};
 ghost use Rattle.sheet.specs.Answer.{refusalLine, Answers, mostLine};
 use libc::STDIN_FILENO;
 use libc::STDOUT_FILENO;
@@ -29,7 +29,7 @@ enum Input {
 // Reads once, behind the bytes that are there. A read may bring fewer bytes than there is room for; at the end of the input it brings none.
 fn read_more(text: &mut [u8], done: usize) -> Input
     requires { ⌜ done ≤ length (now text) ⌝ }
-    ensures { λ r. ⌜ Within (length (now (text .exit)) - done) r ⌝ }
+    ensures { λ r. ⌜ ReadWithin (length (now (text .exit)) - done) r ⌝ }
 {
     let got = libc::read(STDIN_FILENO, &mut text[done..]);
     if got < 0 {
@@ -40,7 +40,7 @@ fn read_more(text: &mut [u8], done: usize) -> Input
 
 // Reads until text is full or the input ends.
 fn read_input(text: &mut [u8]) -> Input
-    ensures { λ r. ⌜ Within (length (now (text .exit))) r ⌝ }
+    ensures { λ r. ⌜ ReadWithin (length (now (text .exit))) r ⌝ }
 {
     let mut done = 0;
     while done < text.len() {

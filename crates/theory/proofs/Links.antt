@@ -83,13 +83,13 @@ paired-holds x p h =
     (λ c. ⊎-elim (λ n. absurd (T-not (isCall x p) n c)) (λ e. e) s, r .1)
 
 -- point p of x is an ensure that follows a call
-pub record AfterCall (x : Func) (p : ℕ) : Type 0 where
+pub record FollowsCall (x : Func) (p : ℕ) : Type 0 where
   pub later : 1 ≤ p
   pub callee : ℕ
   pub calls : called (point x (p - 1)) ≡ some callee
   pub repeats : point x p ≡ Ensure (x .frame)
 
-ensure-fits : (x : Func) (p n : ℕ) → point x p ≡ Ensure n → T (ensureFits x p (some n)) → AfterCall x p
+ensure-fits : (x : Func) (p n : ℕ) → point x p ≡ Ensure n → T (ensureFits x p (some n)) → FollowsCall x p
 ensure-fits x p n e h =
     let r = and-holds (leb 1 p && isCall x (p - 1)) (eqb n (x .frame)) .0 h in
     let s = and-holds (leb 1 p) (isCall x (p - 1)) .0 (r .0) in
@@ -138,7 +138,7 @@ module _ {t : Task} (w : Linked t) where
       (ltb→lt f g (r .0), ltb→lt g (count t) (r .1))
 
   -- the point before an ensure is a call, and the ensure repeats the frame
-  pub call-before-ensure : (f p : ℕ) → f < count t → T (isEnsure (func t f) p) → AfterCall (func t f) p
+  pub call-before-ensure : (f p : ℕ) → f < count t → T (isEnsure (func t f) p) → FollowsCall (func t f) p
   call-before-ensure f p h e =
       let i = present-holds (ensured (point (func t f) p)) .0 e in
       let r = paired-holds (func t f) p (w .paired f p h (ensure-inside (func t f) p e)) in

@@ -24,7 +24,7 @@ use Rattle.machine.specs.Moves.{coreOf}
 use Rattle.turns.specs.declared.State.{State}
 use Rattle.turns.specs.declared.Turned.{Turned}
 use Rattle.turns.specs.Frames.{placesIn, framesFrom, framesOf, stateOf}
-use Rattle.turns.specs.Turns.{Stays, Steps, Preempts, Turns, actOf}
+use Rattle.turns.specs.Turns.{Stays, Steps, IsPreemption, Turns, actOf}
 use Rattle.turns.proofs.Laws.{frames-some, stays-same}
 use Rattle.turns.proofs.Given.{top-of}
 
@@ -69,7 +69,7 @@ module _ (w : List ℕ) (h : Header) (x : State) (cache memory : List ℕ) (some
       })
 
   pub preempt-turns : {r : Turned} {cache′ memory′ : List ℕ} (k v : ℕ) → (k ≡ 0 → ⊥)
-      → Preempts t x v w cache memory r cache′ memory′
+      → IsPreemption t x v w cache memory r cache′ memory′
       → Turns w h x cache memory (actOf k v) r w cache′ memory′
   unfolding eventBound
   preempt-turns k v n d =

@@ -30,19 +30,19 @@ use Rattle.machine.specs.Moves.{coreOf, mostAddress, Good}
 use Rattle.machine.proofs.Kept.{window-good, window-frame}
 use Rattle.turns.specs.declared.State.{State}
 use Rattle.turns.specs.Frames.{placesIn, framesFrom}
-use Rattle.turns.specs.Turns.{Runs, Placed, Reaches, Inside, Enters, Leaves, Stands}
+use Rattle.turns.specs.Turns.{Runs, Placed, Reaches, Inside, Enters, Leaves, StandsAt}
 use Rattle.turns.proofs.Laws.{inside-small}
 
 -- ---- the running frame on the plain stack
 
 -- frames with these functions and points, the running one first
-pub record Top (w : List ℕ) (d f p : ℕ) (fs : List Frame) : Type 0 where
+pub record TopFrame (w : List ℕ) (d f p : ℕ) (fs : List Frame) : Type 0 where
   pub numbers : List ℕ
   pub rest : List Frame
   pub whole : fs ≡ record { fn = f; at = p; numbers = numbers } ∷ rest
   pub below : placesIn w (d - 1) ≡ places rest
 
-pub top-of : (w : List ℕ) (d f p : ℕ) (fs : List Frame) → 0 < d → framesFrom w d f p ≡ places fs → Top w d f p fs
+pub top-of : (w : List ℕ) (d f p : ℕ) (fs : List Frame) → 0 < d → framesFrom w d f p ≡ places fs → TopFrame w d f p fs
 unfolding places
 top-of w zero f p fs h e = absurd (omega arith)
 top-of w (suc n) f p [] h e = let z : _≡_ {A = ℕ} 0 1 = cc in absurd (omega arith)
@@ -89,7 +89,7 @@ module _ {w : List ℕ} {h : Header} {x : State} {cache memory : List ℕ} (k : 
   formed : WellFormed t
   formed = k .figured .settled .formed
 
-  top : Top w (x .depth) (x .f) (x .p) (k .frames)
+  top : TopFrame w (x .depth) (x .f) (x .p) (k .frames)
   top = top-of w (x .depth) (x .f) (x .p) (k .frames) some (k .same)
 
   abbrev frame : Frame
@@ -153,7 +153,7 @@ module _ {w : List ℕ} {h : Header} {x : State} (k : Placed w h x) (some : 0 < 
 
 -- ---- each kind of point
 
-module _ {w : List ℕ} {h : Header} {x : State} {cache memory : List ℕ} {s : Span} {y : Point} (k : Stands w h x cache memory s y) where
+module _ {w : List ℕ} {h : Header} {x : State} {cache memory : List ℕ} {s : Span} {y : Point} (k : StandsAt w h x cache memory s y) where
   pub load-given : {o : ℕ} → y ≡ Load o → length memory ≤ mostAddress → Reaches x cache o
   load-given {o} e m =
       let i = k .here ∙ e in

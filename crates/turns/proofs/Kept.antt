@@ -183,12 +183,12 @@ module _ {w : List ℕ} {h : Header} {x : State} {cache memory : List ℕ} (k : 
 -- ---- the first state
 
 -- a loop begins with a state in which function 0 has just been entered
-pub record Begins (w : List ℕ) (h : Header) (x : State) (cache memory : List ℕ) : Type 0 where
+pub record FirstState (w : List ℕ) (h : Header) (x : State) (cache memory : List ℕ) : Type 0 where
   pub runs : Runs w h x cache memory
   pub frames : runs .frames ≡ firstFrames (taskOf w h)
 
 pub begins : {w : List ℕ} {h : Header} {x : State} (cache memory : List ℕ) → Figured w h → Started w h (length memory) x → length cache ≡ h .stack
-    → model.longest (taskOf w h) 0 ≤ length memory → Begins w h x cache memory
+    → model.longest (taskOf w h) 0 ≤ length memory → FirstState w h x cache memory
 unfolding places
 begins {w} {h} {x} cache memory k a i j =
     let t = taskOf w h in

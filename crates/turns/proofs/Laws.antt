@@ -36,7 +36,7 @@ use Rattle.machine.specs.Moves.{coreOf, Entered}
 use Rattle.turns.specs.declared.State.{State}
 use Rattle.turns.specs.declared.Turned.{Turned}
 use Rattle.turns.specs.Frames.{framesAt, framesEnd, putCaller, placesIn, framesFrom, framesOf, turnOf, plainTurn}
-use Rattle.turns.specs.Turns.{Stays, Does, Steps, Preempts, Inside, Started}
+use Rattle.turns.specs.Turns.{Stays, IsTurn, Steps, IsPreemption, Inside, Started}
 
 -- the running frame and its callers, where there is one
 pub frames-some : (w : List ℕ) (d f p : ℕ) → 0 < d → framesFrom w d f p ≡ record { fn = f; at = p } ∷ placesIn w (d - 1)
@@ -64,14 +64,14 @@ turn-on r w cache memory f p a o b fs c h i j d k l m q =
 
 -- a step that moves nothing
 pub plain-does : (x : State) (r : Turned) (p a p′ a′ : ℕ) (w cache memory : List ℕ) (c : Core) → 0 < x .depth → r ≡ plainTurn x p a → p ≡ p′ → a ≡ a′
-    → coreOf (x .machine) cache memory ≡ c → Does r w cache memory (onwards (x .f) p′ (placesIn w (x .depth - 1)) c a′ 0 0) 0
+    → coreOf (x .machine) cache memory ≡ c → IsTurn r w cache memory (onwards (x .f) p′ (placesIn w (x .depth - 1)) c a′ 0 0) 0
 plain-does x r p a p′ a′ w cache memory c h e i j k =
     rw e (record { turn = turn-on (plainTurn x p a) w cache memory _ _ _ _ _ _ _ h refl i refl k j refl refl; bound = refl })
 
 -- a step or a preemption that moves blocks, with the callers as they were
 moved-does : (x : State) (r : Turned) (p o b n : ℕ) (w cache memory : List ℕ) (c : Core) → 0 < x .depth → r .state .depth ≡ x .depth → r .state .f ≡ x .f
     → r .state .p ≡ p → coreOf (r .state .machine) cache memory ≡ c → r .answer ≡ 0 → r .out ≡ o → r .back ≡ b → r .bound ≡ n
-    → Does r w cache memory (onwards (x .f) p (placesIn w (x .depth - 1)) c 0 o b) n
+    → IsTurn r w cache memory (onwards (x .f) p (placesIn w (x .depth - 1)) c 0 o b) n
 moved-does x r p o b n w cache memory c h d e f k a i j l =
     record {
       turn =
@@ -135,7 +135,7 @@ caller-runs w (suc n) f p h a b =
 
 -- a step that leaves the running frame
 pub leave-does : (x : State) (w cache memory : List ℕ) (n : ℕ) (c : Core) → framesOf w x ≡ placesIn w n → coreOf (x .machine) cache memory ≡ c
-    → Does (record { state = x; answer = 0; out = 0; back = 0; bound = 0 }) w cache memory
+    → IsTurn (record { state = x; answer = 0; out = 0; back = 0; bound = 0 }) w cache memory
     (record { state = record { frames = placesIn w n; core = c }; answer = 0; out = 0; back = 0 }) 0
 leave-does x w cache memory n c e k =
     record { turn = λ i. record { state = record { frames = e i; core = k i }; answer = 0; out = 0; back = 0 }; bound = refl }
@@ -152,7 +152,7 @@ stays-same w = record { below = λ i l. refl; kept = kept-same framesEnd w }
 call-does : (x : State) (r : Turned) (w w′ cache memory : List ℕ) (g o n : ℕ) (c : Core) → 0 < x .depth → x .depth ≤ mostFuncs → framesEnd ≤ length w
     → w′ ≡ putCaller w (x .depth - 1) (x .f) (x .p + 1) → r .state .depth ≡ x .depth + 1 → r .state .f ≡ g → r .state .p ≡ 0
     → coreOf (r .state .machine) cache memory ≡ c → r .answer ≡ 0 → r .out ≡ o → r .back ≡ 0 → r .bound ≡ n
-    → Does r w′ cache memory (onwards g 0 (record { fn = x .f; at = suc (x .p) } ∷ placesIn w (x .depth - 1)) c 0 o 0) n
+    → IsTurn r w′ cache memory (onwards g 0 (record { fn = x .f; at = suc (x .p) } ∷ placesIn w (x .depth - 1)) c 0 o 0) n
 call-does x r w w′ cache memory g o n c h l u e d f p k a i j b =
     let m : r .state .depth - 1 ≡ suc (x .depth - 1) = omega arith in
     let q : x .p + 1 ≡ suc (x .p) = omega arith in
@@ -193,7 +193,7 @@ module _ (t : Task) (x : State) (q : PointFigures) (w cache memory cache′ : Li
       moved-does x _ _ _ _ _ w cache′ memory _ h refl refl j (d .core) refl refl (d .blocks) (ap (λ (z : PointSheet). z .fill) i)
 
   pub preempt-does : (e : Preempted) (memory′ : List ℕ) → machine.Preempts e cache′ memory′ (q .dead) (q .need) v (coreOf (x .machine) cache memory)
-      → Preempts t x v w cache memory
+      → IsPreemption t x v w cache memory
       (record { state = record { depth = x .depth; f = x .f; p = x .p; machine = e .machine }; answer = 0; out = e .out; back = e .back; bound = q .cost })
       cache′ memory′
   preempt-does e memory′ d =

@@ -46,21 +46,21 @@ pub record Stays (w w′ : List ℕ) : Type 0 where
   pub kept : Kept framesEnd w w′
 
 -- a turn is this one of the model, and the sheet allows it this much
-pub record Does (r : Turned) (w cache memory : List ℕ) (u : run.Turn) (allowed : ℕ) : Type 0 where
+pub record IsTurn (r : Turned) (w cache memory : List ℕ) (u : run.Turn) (allowed : ℕ) : Type 0 where
   pub turn : turnOf w r cache memory ≡ u
   pub bound : r .bound ≡ allowed
 
 -- a step with value v at point y of the running frame of x, in a task t
 abbrev pub Steps : Task → State → Point → ℕ → (w cache memory : List ℕ) → Turned → (w′ cache′ memory′ : List ℕ) → Type 0
 Steps t x y v w cache memory r w′ cache′ memory′ =
-    Does r w′ cache′ memory′
+    IsTurn r w′ cache′ memory′
     (stepTurn t (x .f) (x .p) (placesIn w (x .depth - 1)) (coreOf (x .machine) cache memory) y v)
     (stepBound (sheetOf t) (x .f) (x .p) y)
 
 -- a preemption there by a task that leaves v in every block
-abbrev pub Preempts : Task → State → ℕ → (w cache memory : List ℕ) → Turned → (cache′ memory′ : List ℕ) → Type 0
-Preempts t x v w cache memory r cache′ memory′ =
-    Does r w cache′ memory′
+abbrev pub IsPreemption : Task → State → ℕ → (w cache memory : List ℕ) → Turned → (cache′ memory′ : List ℕ) → Type 0
+IsPreemption t x v w cache memory r cache′ memory′ =
+    IsTurn r w cache′ memory′
     (preemptTurn (sheetOf t) (x .f) (x .p) (placesIn w (x .depth - 1)) (coreOf (x .machine) cache memory) (replicate (length cache) v))
     (sheetOf t .at (x .f) (x .p) .cost)
 
@@ -116,7 +116,7 @@ pub record Leaves (w : List ℕ) (x : State) (frame : ℕ) : Type 0 where
   pub address : x .machine .st + frame ≤ mostAddress
 
 -- the running frame of a run stands at point y of s
-pub record Stands (w : List ℕ) (h : Header) (x : State) (cache memory : List ℕ) (s : Span) (y : Point) : Type 0 where
+pub record StandsAt (w : List ℕ) (h : Header) (x : State) (cache memory : List ℕ) (s : Span) (y : Point) : Type 0 where
   pub runs : Runs w h x cache memory
   pub inside : Inside w h x s
   pub here : point (func (taskOf w h) (x .f)) (x .p) ≡ y

@@ -15,7 +15,7 @@ ghost use Rattle.tables.specs.Tables.{taskOf};
 ghost use Rattle.figures.specs.Figured.{Figured};
 ghost use Rattle.machine.specs.Moves.{coreOf, Good};
 ghost use Rattle.turns.specs.Frames.{framesEnd, placesIn, putCaller, framesOf, plainTurn};
-ghost use Rattle.turns.specs.Turns.{Runs, Placed, Stays, Steps, Preempts, Turns, actOf, Started, Reaches, Inside, Enters, Leaves, Stands};
+ghost use Rattle.turns.specs.Turns.{Runs, Placed, Stays, Steps, IsPreemption, Turns, actOf, Started, Reaches, Inside, Enters, Leaves, StandsAt};
 use figures::Columns;
 use machine::Machine;
 use model::Point;
@@ -243,7 +243,7 @@ fn step(
     memory: &mut [u32],
     v: u32,
 ) -> Turned
-    requires { ⌜ Stands (now work) h x (now cache) (now memory) s y ⌝ }
+    requires { ⌜ StandsAt (now work) h x (now cache) (now memory) s y ⌝ }
     ensures { λ r. ⌜ Steps (taskOf (now (work .entry)) h) x y v (now (work .entry)) (now (cache .entry)) (now (memory .entry))
         r (now (work .exit)) (now (cache .exit)) (now (memory .exit)) × Stays (now (work .entry)) (now (work .exit)) ⌝ }
 {
@@ -271,7 +271,7 @@ fn preempt(
     v: u32,
 ) -> Turned
     requires { ⌜ Inside (now work) h x s × Good (coreOf (x .machine) (now cache) (now memory)) ⌝ }
-    ensures { λ r. ⌜ Preempts (taskOf (now (work .entry)) h) x v (now (work .entry)) (now (cache .entry)) (now (memory .entry))
+    ensures { λ r. ⌜ IsPreemption (taskOf (now (work .entry)) h) x v (now (work .entry)) (now (cache .entry)) (now (memory .entry))
         r (now (cache .exit)) (now (memory .exit)) ⌝ }
 {
     let figures = figures::point_figures(work, h, x.f, s, x.p);

@@ -2,7 +2,7 @@
 use Prim.Native.Nat.{ℕ, _+_, _-_, _≤_}
 use native.Mathlib.Omega.{arith}
 use mathlib.Core.Path.{_≡_, subst}
-use Rattle.columns.specs.Columns.{Within}
+use Rattle.columns.specs.Columns.{OnlyColumns}
 use Rattle.columns.proofs.Writes.{changed-none, changed-on}
 use Rattle.columns.specs.Displaced.{Displacing}
 use Rattle.columns.proofs.Displaces.{displacing-none}
@@ -11,7 +11,7 @@ use Rattle.columns.proofs.displacements.Tie as tie
 
 abbrev Inv-loop : tie.InvT-loop
 Inv-loop work₀ h gens₀ kills₀ sets₀ f₀ work gens kills sets f =
-    (f ≤ h .funcs) × Displacing work h f × Within work₀ work
+    (f ≤ h .funcs) × Displacing work h f × OnlyColumns work₀ work
 
 abbrev μ-loop : tie.MeasureT-loop
 μ-loop work₀ h gens₀ kills₀ sets₀ f₀ work gens kills sets f = f

@@ -1,5 +1,5 @@
 -- Each write leaves what the next one starts from.
-use Rattle.columns.specs.Columns.{Within}
+use Rattle.columns.specs.Columns.{OnlyColumns}
 use Rattle.columns.proofs.Writes.{changed-on}
 use Rattle.figures.proofs.figure_func.Statement.{statement}
 use Rattle.figures.proofs.figure_func.Tie as tie
@@ -11,7 +11,7 @@ returns c =
     let need = dead .before .before .before .before .before .before .before .before .before .before in
     let next = need .before .before .before .before .before .before .before .before .before .before in
     let fill = next .before .before .before .before .before .before .before .before .before .before in
-    let all : Within _ _ =
+    let all : OnlyColumns _ _ =
     changed-on (fill .write-figure .ensures .1) (changed-on (next .write-figure2 .ensures .1) (changed-on (need .write-figure3 .ensures .1)
     (changed-on (dead .write-figure4 .ensures .1) (changed-on (high .write-figure5 .ensures .1) (c .before .before .raise-callees .ensures .1))))) in
     (c .before .before .raise-callees .ensures .0, all)

@@ -2,7 +2,7 @@
 use Prim.Native.Nat.{ℕ, _-_, _≤_}
 use native.Mathlib.Omega.{arith}
 use mathlib.Core.Path.{_≡_, subst}
-use Rattle.columns.specs.Columns.{Within}
+use Rattle.columns.specs.Columns.{OnlyColumns}
 use Rattle.columns.proofs.Writes.{changed-none, changed-on}
 use Rattle.figures.specs.Steps.{pointColumns, Worked}
 use Rattle.figures.proofs.figure_funcs.Statement.{statement}
@@ -10,7 +10,7 @@ use Rattle.figures.proofs.figure_funcs.Tie as tie
 
 abbrev Inv-loop : tie.InvT-loop
 Inv-loop work₀ h values₀ gens₀ kills₀ sets₀ state₀ out₀ n f₀ work values gens kills sets state out f =
-    (f ≤ n) × Worked work h f pointColumns × Within work₀ work
+    (f ≤ n) × Worked work h f pointColumns × OnlyColumns work₀ work
 
 abbrev μ-loop : tie.MeasureT-loop
 μ-loop work₀ h values₀ gens₀ kills₀ sets₀ state₀ out₀ n f₀ work values gens kills sets state out f = n - f

@@ -14,7 +14,7 @@ arrive-spec =
     (λ c. search needs)
     (λ c. search needs)
     (λ c. search needs)
-    (λ c e. moved-above _ _ _ _ (omega arith) (omega arith) (omega arith) (c .joined .ensures))
+    (λ c e. moved-above _ _ _ _ (omega arith) (omega arith) (omega arith) (c .union-at .ensures))
     (λ c. search needs)
     (λ c. search needs)
     (λ c κs. search needs)

@@ -27,7 +27,7 @@ loop-again c =
     let z = c .before .before .before .before in
     let v = c .before .visit .ensures in
     let t = z .before .before .before .before .before .if1 .taken in
-    let j = z .joined .ensures in (
+    let j = z .union-at .ensures in (
       omega arith,
       ⊎-elim
           (λ x. turn-falls (l .inv .1) t i j _ v _ (x .1 .given .1) (x .3))
