@@ -65,7 +65,8 @@ pub worked-none : {w v w′ : List ℕ} {h : Header} → Displacing w h 0 → Ch
     → Changed entryColumn mostFuncs v w′ → Funcs (λ g. 0) entryColumn 0 mostFuncs w′ → Worked w′ h 0 pointColumns × OnlyColumns w w′
 worked-none {w} {v} {w′} {h} d c x b y =
     let few = d .ready .settled .holds .few in
-    let i : OnlyColumns w w′ = changed-on (changed-wider highColumn _ (omega arith) (omega arith) c) (changed-wider highColumn _ (omega arith) (omega arith) b) in
+    let i : OnlyColumns w w′ =
+    changed-on (changed-wider highColumn _ (omega arith) (omega arith) c) (changed-wider highColumn _ (omega arith) (omega arith) b) in
     let t = within-task i (d .ready) in (
       record {
         ready = within-ready i (d .ready);
