@@ -41,6 +41,8 @@ impl Columns {
     pub const CHAIN: usize = 8576;
     // The numbers that the tables and all columns take.
     pub const END: usize = 8640;
+    // How many columns are of the points: the first ones.
+    pub const OF_POINTS: usize = 5;
 }
 
 // A number for each point: its fill; what is kept at it; what its callee leaves of the cache; its high; the chain of its callee, where that of the

@@ -169,7 +169,43 @@ fn raise_callees(
     columns::raise(work, s, Columns::ENTRY, out);
 }
 
-// All figures of function f, each from columns that are written before it; the functions before f have theirs, so all callers of f.
+// The figure whose column has this place among those of the points.
+fn figure_in(place: usize) -> Figure
+    ensures { λ r. ⌜ (place < pointColumns → placeOf r ≡ place) ⌝ }
+{
+    match place {
+        0 => Figure::High,
+        1 => Figure::Dead,
+        2 => Figure::Need,
+        3 => Figure::Next,
+        _ => Figure::Fill,
+    }
+}
+
+// The figures of the points of function f, from the last column to the first: each needs only columns behind its own, and D, d, E and chain.
+fn write_figures(
+    work: &mut [u32],
+    h: Header,
+    f: usize,
+    values: &mut [u32; Limits::POINTS],
+    gens: &mut [u64; Limits::POINTS],
+    kills: &mut [u64; Limits::POINTS],
+    sets: &mut [u64; Limits::POINTS],
+    state: &mut [u8; Limits::POINTS],
+    out: &mut [u32; Limits::POINTS],
+)
+    requires { ⌜ Working (now work) h f pointColumns ⌝ }
+    ensures { λ r. ⌜ Working (now (work .exit)) h f 0 × OnlyColumns (now (work .entry)) (now (work .exit)) ⌝ }
+{
+    let mut place = Columns::OF_POINTS;
+    while 0 < place {
+        place -= 1;
+        let which = figure_in(place);
+        write_figure(which, work, h, f, values, gens, kills, sets, state, out);
+    }
+}
+
+// All figures of function f; the functions before f have theirs, so all callers of f.
 fn figure_func(
     work: &mut [u32],
     h: Header,
@@ -184,66 +220,7 @@ fn figure_func(
     requires { ⌜ Working (now work) h f pointColumns ⌝ }
     ensures { λ r. ⌜ Worked (now (work .exit)) h (f + 1) pointColumns × OnlyColumns (now (work .entry)) (now (work .exit)) ⌝ }
 {
-    write_figure(
-        Figure::Fill,
-        work,
-        h,
-        f,
-        values,
-        gens,
-        kills,
-        sets,
-        state,
-        out,
-    );
-    write_figure(
-        Figure::Next,
-        work,
-        h,
-        f,
-        values,
-        gens,
-        kills,
-        sets,
-        state,
-        out,
-    );
-    write_figure(
-        Figure::Need,
-        work,
-        h,
-        f,
-        values,
-        gens,
-        kills,
-        sets,
-        state,
-        out,
-    );
-    write_figure(
-        Figure::Dead,
-        work,
-        h,
-        f,
-        values,
-        gens,
-        kills,
-        sets,
-        state,
-        out,
-    );
-    write_figure(
-        Figure::High,
-        work,
-        h,
-        f,
-        values,
-        gens,
-        kills,
-        sets,
-        state,
-        out,
-    );
+    write_figures(work, h, f, values, gens, kills, sets, state, out);
     raise_callees(work, h, f, values, out);
 }
 
