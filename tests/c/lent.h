@@ -8,6 +8,7 @@
 #include "felknost.h"
 #include "room.h"
 
+#include <pthread.h>
 #include <stdio.h>
 
 /* What a buffer holds when it is lent. */
@@ -64,6 +65,22 @@ static inline int cleared(const struct buffer *works, size_t work)
         if (works->at[i] != 0)
             return 0;
     return kept_from(works, zeros);
+}
+
+/* Threads at the same time, each with buffers of its own; calls sets the number that it is given where all its answers were right. */
+#define THREADS 8
+
+static inline void in_threads(void *(*calls)(void *))
+{
+    pthread_t thread[THREADS];
+    int good[THREADS], i;
+    for (i = 0; i < THREADS; i++)
+        if (pthread_create(&thread[i], NULL, calls, &good[i]) != 0)
+            abort();
+    for (i = 0; i < THREADS; i++) {
+        pthread_join(thread[i], NULL);
+        count("a thread", good[i]);
+    }
 }
 
 #endif

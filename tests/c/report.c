@@ -9,7 +9,6 @@
 #include "lent.h"
 #include "stack.h"
 
-#include <pthread.h>
 #include <stdlib.h>
 #include <string.h>
 
@@ -98,7 +97,6 @@ static void short_results(void)
 
 /* ---- threads, each with buffers of its own */
 
-#define THREADS 8
 #define ROUNDS 2000
 
 static void *reports(void *good)
@@ -118,19 +116,6 @@ static void *reports(void *good)
     free(work);
     *(int *)good = round == ROUNDS;
     return NULL;
-}
-
-static void threads(void)
-{
-    pthread_t thread[THREADS];
-    int good[THREADS], i;
-    for (i = 0; i < THREADS; i++)
-        if (pthread_create(&thread[i], NULL, reports, &good[i]) != 0)
-            abort();
-    for (i = 0; i < THREADS; i++) {
-        pthread_join(thread[i], NULL);
-        count("a thread", good[i]);
-    }
 }
 
 /* ---- the stack */
@@ -169,7 +154,7 @@ int main(void)
     lengths();
     refusals();
     short_results();
-    threads();
+    in_threads(reports);
     printf("report: %d passed, %d failed\n", passed, failed);
     return failed != 0;
 }

@@ -8,7 +8,6 @@
 #include "lent.h"
 #include "stack.h"
 
-#include <pthread.h>
 #include <stdlib.h>
 #include <string.h>
 
@@ -164,7 +163,6 @@ static void short_results(int at_end)
 
 /* ---- threads, each with buffers of its own */
 
-#define THREADS 8
 #define ROUNDS 2000
 
 static void *runs(void *good)
@@ -183,19 +181,6 @@ static void *runs(void *good)
     free(work);
     *(int *)good = round == ROUNDS;
     return NULL;
-}
-
-static void threads(void)
-{
-    pthread_t thread[THREADS];
-    int good[THREADS], i;
-    for (i = 0; i < THREADS; i++)
-        if (pthread_create(&thread[i], NULL, runs, &good[i]) != 0)
-            abort();
-    for (i = 0; i < THREADS; i++) {
-        pthread_join(thread[i], NULL);
-        count("a thread", good[i]);
-    }
 }
 
 /* ---- the stack */
@@ -242,7 +227,7 @@ int main(void)
         refused_events(at_end);
         short_results(at_end);
     }
-    threads();
+    in_threads(runs);
     printf("run: %d passed, %d failed\n", passed, failed);
     return failed != 0;
 }

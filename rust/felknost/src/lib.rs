@@ -11,6 +11,7 @@
 
 #![warn(missing_docs)]
 
+pub mod raw;
 mod refusal;
 mod report;
 mod run;

@@ -1,27 +1,6 @@
 //! A run of an event list.
 
-use crate::Refusal;
-
-extern "C" {
-    // Run as it is called from C. `result` gets code, place, events done, moved and allowed; the answer is 1, or 0 where `result` has fewer
-    // than five numbers, and then nothing is touched. No two of the buffers may overlap.
-    fn felknost_run(
-        text: *const u8,
-        text_length: usize,
-        events: *const u32,
-        events_length: usize,
-        answers: *mut u32,
-        answers_length: usize,
-        cache: *mut u32,
-        cache_length: usize,
-        memory: *mut u32,
-        memory_length: usize,
-        work: *mut u32,
-        work_length: usize,
-        result: *mut u64,
-        result_length: usize,
-    ) -> u32;
-}
+use crate::{raw, Refusal};
 
 /// What a run returns beside the buffers.
 #[derive(Clone, Copy, Debug, PartialEq, Eq)]
@@ -47,26 +26,7 @@ pub fn run(
     work: &mut [u32],
 ) -> RunResult {
     let mut result = [0; 5];
-    // SAFETY: each pointer comes with the length of its slice, and the slices that are written do not overlap others since they are unique
-    // borrows.
-    let answer = unsafe {
-        felknost_run(
-            text.as_ptr(),
-            text.len(),
-            events.as_ptr(),
-            events.len(),
-            answers.as_mut_ptr(),
-            answers.len(),
-            cache.as_mut_ptr(),
-            cache.len(),
-            memory.as_mut_ptr(),
-            memory.len(),
-            work.as_mut_ptr(),
-            work.len(),
-            result.as_mut_ptr(),
-            result.len(),
-        )
-    };
+    let answer = raw::run(text, events, answers, cache, memory, work, &mut result);
     debug_assert_eq!(answer, 1);
     let [code, place, done, moved, allowed] = result;
     RunResult {

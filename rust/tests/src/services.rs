@@ -2,6 +2,8 @@
 
 use second::{code_and_place, RunResult, Verdict, WriteResult, WORK_MIN};
 
+use felknost::raw;
+
 use crate::guarded::{is_noise_from, noise, Guarded};
 
 /// Requires that a service refuses a text where check does, and likewise, and else by none of check's rows.
@@ -120,7 +122,7 @@ fn report_in_archive(text: &[u8], work: usize, wanted: &Reported) {
     let mut result = Guarded::noisy(3 + text.len() % 3);
     let length = result.lent().len();
     assert_eq!(
-        raw_report(text, output.lent(), space.lent(), result.lent()),
+        raw::report(text, output.lent(), space.lent(), result.lent()),
         1
     );
     assert_eq!(
@@ -139,7 +141,7 @@ fn run_in_archive(text: &[u8], events: &[u32], lent: &Lent, work: usize, wanted:
     let mut space = Guarded::noisy(work);
     let mut result = Guarded::noisy(5 + text.len() % 3);
     let length = result.lent().len();
-    let answer = raw_run(
+    let answer = raw::run(
         text,
         events,
         answers.lent(),
@@ -158,82 +160,4 @@ fn run_in_archive(text: &[u8], events: &[u32], lent: &Lent, work: usize, wanted:
     assert_eq!(cache.held("the cache"), wanted.lent.cache);
     assert_eq!(memory.held("the memory"), wanted.lent.memory);
     assert_cleared(&space);
-}
-
-/// `felknost_report` of the archive as a C program calls it.
-pub fn raw_report(text: &[u8], output: &mut [u8], work: &mut [u32], result: &mut [u64]) -> u32 {
-    extern "C" {
-        fn felknost_report(
-            text: *const u8,
-            text_length: usize,
-            output: *mut u8,
-            output_length: usize,
-            work: *mut u32,
-            work_length: usize,
-            result: *mut u64,
-            result_length: usize,
-        ) -> u32;
-    }
-    // SAFETY: each pointer comes with the length of its slice, and those that are written are unique borrows.
-    unsafe {
-        felknost_report(
-            text.as_ptr(),
-            text.len(),
-            output.as_mut_ptr(),
-            output.len(),
-            work.as_mut_ptr(),
-            work.len(),
-            result.as_mut_ptr(),
-            result.len(),
-        )
-    }
-}
-
-/// `felknost_run` of the archive as a C program calls it.
-pub fn raw_run(
-    text: &[u8],
-    events: &[u32],
-    answers: &mut [u32],
-    cache: &mut [u32],
-    memory: &mut [u32],
-    work: &mut [u32],
-    result: &mut [u64],
-) -> u32 {
-    extern "C" {
-        fn felknost_run(
-            text: *const u8,
-            text_length: usize,
-            events: *const u32,
-            events_length: usize,
-            answers: *mut u32,
-            answers_length: usize,
-            cache: *mut u32,
-            cache_length: usize,
-            memory: *mut u32,
-            memory_length: usize,
-            work: *mut u32,
-            work_length: usize,
-            result: *mut u64,
-            result_length: usize,
-        ) -> u32;
-    }
-    // SAFETY: each pointer comes with the length of its slice, and those that are written are unique borrows.
-    unsafe {
-        felknost_run(
-            text.as_ptr(),
-            text.len(),
-            events.as_ptr(),
-            events.len(),
-            answers.as_mut_ptr(),
-            answers.len(),
-            cache.as_mut_ptr(),
-            cache.len(),
-            memory.as_mut_ptr(),
-            memory.len(),
-            work.as_mut_ptr(),
-            work.len(),
-            result.as_mut_ptr(),
-            result.len(),
-        )
-    }
 }

@@ -70,8 +70,8 @@ fn every_output_length() {
 /// What only the archive can show.
 mod in_archive {
     use super::*;
-    use felknost::{Refusal, Row};
-    use tests::{noise, raw_report, Guarded, TWO};
+    use felknost::{raw, Refusal, Row};
+    use tests::{noise, Guarded, TWO};
 
     #[test]
     fn a_result_that_is_too_short_leaves_all_as_it_was() {
@@ -79,7 +79,7 @@ mod in_archive {
             let mut output = Guarded::noisy(300);
             let mut work = Guarded::noisy(WORK_MIN);
             let mut result = Guarded::noisy(length);
-            let answer = raw_report(TWO.as_bytes(), output.lent(), work.lent(), result.lent());
+            let answer = raw::report(TWO.as_bytes(), output.lent(), work.lent(), result.lent());
             assert_eq!(answer, 0);
             assert_eq!(output.held("the output"), noise::<u8>(300));
             assert_eq!(work.held("the working space"), noise::<u32>(WORK_MIN));

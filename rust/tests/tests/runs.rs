@@ -180,8 +180,8 @@ fn tenths(result: RunResult) -> Option<usize> {
 /// What only the archive can show.
 mod in_archive {
     use super::*;
-    use felknost::{Refusal, Row};
-    use tests::{noise, raw_run, steps, Guarded, TWO};
+    use felknost::{raw, Refusal, Row};
+    use tests::{noise, steps, Guarded, TWO};
 
     #[test]
     fn a_result_that_is_too_short_leaves_all_as_it_was() {
@@ -191,7 +191,7 @@ mod in_archive {
             let mut memory = Guarded::noisy(6);
             let mut work = Guarded::noisy(WORK_MIN);
             let mut result = Guarded::noisy(length);
-            let answer = raw_run(
+            let answer = raw::run(
                 TWO.as_bytes(),
                 &steps(7, 3),
                 answers.lent(),
