@@ -3,18 +3,18 @@ use Prim.Native.Nat.{ℕ}
 use mathlib.Core.Path.{_≡_, refl}
 use mathlib.Core.List.{List, [], _∷_, _++_}
 use lib.ListN.{replicate}
-use Rattle.model.specs.declared.Row.the-variants.{WorkTooSmall, Form, StackSize, FrameSize, Offset, TooMany, Callee, Pairing, Target, LastPoint}
+use Rattle.model.specs.declared.Row.the-variants.{WorkTooSmall, PriceRange, TextTooLong, Form, StackSize, FrameSize, Offset, TooMany, Callee, Pairing, Target, LastPoint}
 use Rattle.model.specs.declared.Row.the-variants.{Unreachable, Uncalled, Uninitialised, EventList, AnswersTooSmall, CacheSize, MemoryTooSmall}
 use Rattle.model.specs.declared.Row.the-variants.{AfterFinish, Kind, Choice}
 use Rattle.model.specs.declared.Ending.the-variants.{AllDone, Refused}
 use Rattle.model.specs.Text.{bytes}
 use Rattle.model.specs.Task.{Task, Judged, refused, task}
-use Rattle.model.specs.Sheet.{reportText}
+use Rattle.model.specs.Sheet.{movePrice, inBlocks, reportText}
 use Rattle.model.specs.Rows.{refuse}
-use Rattle.model.specs.Refusal.{judged, workRow, judge, noRows}
+use Rattle.model.specs.Refusal.{judged, workRow, pricedRows, judge, noRows}
 use Rattle.model.specs.Services.{runOf}
 use Rattle.model.specs.Opened.{opened}
-use Rattle.model.specs.Examples.{lines, sample}
+use Rattle.model.specs.Examples.{lines, sample, sevenSteps, withPreemption}
 
 -- a working space of the length asked for, before and after a service
 abbrev space : List ℕ
@@ -66,12 +66,12 @@ refusals = (refl, refl, refl, refl, refl, refl, refl, refl, refl, refl, refl, re
 
 -- reports: loops and branches; calls in a row; a chain of calls in a small cache
 pub reports :
-    (reportText (the (judged (lines ("(stack 4)" ∷ "(func 4" ∷ "  (either 1 3)" ∷ "  (store 0)" ∷ "  (goto 5)"
+    (reportText inBlocks (the (judged (lines ("(stack 4)" ∷ "(func 4" ∷ "  (either 1 3)" ∷ "  (store 0)" ∷ "  (goto 5)"
     ∷ "  (store 3)" ∷ "  (either 5 1)" ∷ "  (either 6 6)" ∷ "  (either 7 1)" ∷ "  (store 0)" ∷ "  (either 7 4)" ∷ ")" ∷ []))))
     ≡ lines ("(report" ∷ "  (func 0 4 4 4 0 0)" ∷ "  (at 0 4 4 4 0 0 0 0 0 0)" ∷ "  (at 1 4 4 1 0 0 0 0 0 0)"
     ∷ "  (at 2 4 4 1 0 0 0 0 0 0)" ∷ "  (at 3 4 4 4 0 0 0 0 0 0)" ∷ "  (at 4 4 4 1 0 0 0 0 0 0)" ∷ "  (at 5 4 4 1 0 0 0 0 0 0)"
     ∷ "  (at 6 4 4 1 0 0 0 0 0 0)" ∷ "  (at 7 4 4 1 0 0 0 0 0 0)" ∷ "  (at 8 4 4 1 0 0 0 0 0 0)" ∷ ")" ∷ []))
-    × (reportText (the (judged (lines ("(stack 6)" ∷ "(func 0" ∷ "  (goto 1)" ∷ "  (call 1)" ∷ "  (ensure 0)"
+    × (reportText inBlocks (the (judged (lines ("(stack 6)" ∷ "(func 0" ∷ "  (goto 1)" ∷ "  (call 1)" ∷ "  (ensure 0)"
     ∷ "  (goto 4)" ∷ "  (goto 5)" ∷ "  (goto 4)" ∷ ")" ∷ "(func 6" ∷ "  (store 2)" ∷ "  (store 5)" ∷ "  (store 1)"
     ∷ "  (call 2)" ∷ "  (ensure 6)" ∷ "  (call 2)" ∷ "  (ensure 6)" ∷ "  (store 2)" ∷ "  (either 9 9)" ∷ "  (return)" ∷ ")"
     ∷ "(func 5" ∷ "  (store 2)" ∷ "  (store 0)" ∷ "  (goto 2)" ∷ ")" ∷ [])))) ≡ lines ("(report" ∷ "  (func 0 0 11 11 0 0)"
@@ -81,7 +81,7 @@ pub reports :
     ∷ "  (at 5 6 6 0 0 0 1 0 1 0)" ∷ "  (at 6 1 6 0 0 0 1 0 1 5)" ∷ "  (at 7 6 6 3 0 0 0 0 0 0)" ∷ "  (at 8 6 6 0 0 0 0 0 0 0)"
     ∷ "  (at 9 6 6 0 0 0 0 0 0 0)" ∷ "  (func 2 5 5 5 5 1)" ∷ "  (at 0 6 5 3 1 0 0 1 2 0)" ∷ "  (at 1 6 5 1 1 0 0 1 2 0)"
     ∷ "  (at 2 6 5 0 1 0 0 1 2 0)" ∷ ")" ∷ []))
-    × (reportText (the (judged (lines ("(stack 2)" ∷ "(func 1" ∷ "  (call 2)" ∷ "  (ensure 1)" ∷ "  (call 2)"
+    × (reportText inBlocks (the (judged (lines ("(stack 2)" ∷ "(func 1" ∷ "  (call 2)" ∷ "  (ensure 1)" ∷ "  (call 2)"
     ∷ "  (ensure 1)" ∷ "  (call 1)" ∷ "  (ensure 1)" ∷ "  (goto 7)" ∷ "  (call 1)" ∷ "  (ensure 1)" ∷ "  (either 10 10)"
     ∷ "  (store 0)" ∷ "  (return)" ∷ ")" ∷ "(func 1" ∷ "  (either 1 4)" ∷ "  (either 2 4)" ∷ "  (call 2)" ∷ "  (ensure 1)"
     ∷ "  (call 2)" ∷ "  (ensure 1)" ∷ "  (return)" ∷ ")" ∷ "(func 0" ∷ "  (either 1 1)" ∷ "  (return)" ∷ ")" ∷ []))))
@@ -97,7 +97,7 @@ reports = (refl, refl, refl)
 
 -- runs: a step after the finish; preemptions in a loop-free task; calls and ensures with preemptions; refusals 16 and 18
 pub runs :
-    (runOf (lines ("(stack 5)" ∷ "(func 1" ∷ "  (store 0)" ∷ "  (goto 2)" ∷ "  (return)" ∷ ")" ∷ [])) space (0 ∷ 2934011270 ∷ 0
+    (runOf (lines ("(stack 5)" ∷ "(func 1" ∷ "  (store 0)" ∷ "  (goto 2)" ∷ "  (return)" ∷ ")" ∷ [])) 0 1 space (0 ∷ 2934011270 ∷ 0
     ∷ 589427096 ∷ 0 ∷ 3997777106 ∷ 0 ∷ 0 ∷ 0 ∷ 0 ∷ []) (373894995 ∷ 2968548144 ∷ 886888172 ∷ 3830429940 ∷ 3190996365
     ∷ []) (898285158 ∷ 1500554193 ∷ 2598987744 ∷ 1007897788 ∷ 1265440252 ∷ []) (858584284 ∷ [])
     ≡ record {
@@ -110,7 +110,7 @@ pub runs :
       memory = 858584284 ∷ [];
     })
     × (runOf (lines ("(stack 4)" ∷ "(func 1" ∷ "  (goto 1)" ∷ "  (goto 2)" ∷ "  (store 0)" ∷ "  (goto 4)" ∷ "  (load 0)"
-    ∷ "  (goto 6)" ∷ "  (load 0)" ∷ "  (return)" ∷ ")" ∷ [])) space (0 ∷ 2895956331 ∷ 0 ∷ 909425933 ∷ 0 ∷ 1896762787 ∷ 1
+    ∷ "  (goto 6)" ∷ "  (load 0)" ∷ "  (return)" ∷ ")" ∷ [])) 0 1 space (0 ∷ 2895956331 ∷ 0 ∷ 909425933 ∷ 0 ∷ 1896762787 ∷ 1
     ∷ 2804987225 ∷ 0 ∷ 1839070548 ∷ 0 ∷ 3101506463 ∷ 0 ∷ 3370136954 ∷ 1 ∷ 1911718603 ∷ 1 ∷ 2495569231 ∷ 1 ∷ 1025133807 ∷ 0
     ∷ 3222885024 ∷ 0 ∷ 4274936422 ∷ []) (2953963103 ∷ 774874867 ∷ 1597049441 ∷ 1054608902 ∷ 3584791696 ∷ 2295094126 ∷ 254103220
     ∷ 2238442858 ∷ 2439674725 ∷ 3205676868 ∷ 1670587855 ∷ 3353686216 ∷ []) (3681709112 ∷ 2385878438 ∷ 3345814839 ∷ 3210900165
@@ -127,7 +127,7 @@ pub runs :
     × (runOf (lines ("(stack 8)" ∷ "(func 8" ∷ "  (store 1)" ∷ "  (store 5)" ∷ "  (store 3)" ∷ "  (store 6)" ∷ "  (load 1)"
     ∷ "  (call 1)" ∷ "  (ensure 8)" ∷ "  (call 1)" ∷ "  (ensure 8)" ∷ "  (store 6)" ∷ "  (call 1)" ∷ "  (ensure 8)"
     ∷ "  (either 12 2)" ∷ ")" ∷ "(func 3" ∷ "  (store 0)" ∷ "  (store 1)" ∷ "  (store 2)" ∷ "  (store 1)" ∷ "  (goto 5)"
-    ∷ "  (return)" ∷ ")" ∷ [])) space (0 ∷ 343548935 ∷ 0 ∷ 1382360379 ∷ 0 ∷ 2831718133 ∷ 0 ∷ 4244988237 ∷ 0 ∷ 1184329595 ∷ 0
+    ∷ "  (return)" ∷ ")" ∷ [])) 0 1 space (0 ∷ 343548935 ∷ 0 ∷ 1382360379 ∷ 0 ∷ 2831718133 ∷ 0 ∷ 4244988237 ∷ 0 ∷ 1184329595 ∷ 0
     ∷ 3996152404 ∷ 0 ∷ 2874150811 ∷ 1 ∷ 614367015 ∷ 0 ∷ 184484199 ∷ 0 ∷ 181731476 ∷ 0 ∷ 178036337 ∷ 0 ∷ 1427494250 ∷ 1
     ∷ 1789875070 ∷ 0 ∷ 555757364 ∷ 0 ∷ 2479613213 ∷ 0 ∷ 3770896815 ∷ 0 ∷ 2817283816 ∷ 0 ∷ 239142375 ∷ 0 ∷ 2841588492 ∷ 0
     ∷ 731878003 ∷ []) (1312826082 ∷ 3007879134 ∷ 3249559854 ∷ 594189102 ∷ 1003021628 ∷ 3075854954 ∷ 3300767047 ∷ 1332354898
@@ -148,7 +148,7 @@ pub runs :
     })
     × (runOf (lines ("(stack 2)" ∷ "(func 2" ∷ "  (store 0)" ∷ "  (store 1)" ∷ "  (call 1)" ∷ "  (ensure 2)" ∷ "  (call 1)"
     ∷ "  (ensure 2)" ∷ "  (goto 1)" ∷ ")" ∷ "(func 0" ∷ "  (either 1 3)" ∷ "  (goto 2)" ∷ "  (goto 4)" ∷ "  (goto 4)"
-    ∷ "  (goto 5)" ∷ "  (goto 7)" ∷ "  (return)" ∷ "  (either 5 8)" ∷ "  (goto 6)" ∷ ")" ∷ [])) space (7 ∷ []) ([]) (1138740478
+    ∷ "  (goto 5)" ∷ "  (goto 7)" ∷ "  (return)" ∷ "  (either 5 8)" ∷ "  (goto 6)" ∷ ")" ∷ [])) 0 1 space (7 ∷ []) ([]) (1138740478
     ∷ 3583472818 ∷ []) (670524004 ∷ 1676998962 ∷ [])
     ≡ record {
       result = record { ending = Refused (refuse EventList 0); done = 0; moved = 0; allowed = 0 };
@@ -159,7 +159,7 @@ pub runs :
       memory = 670524004 ∷ 1676998962 ∷ [];
     })
     × (runOf (lines ("(stack 5)" ∷ "(func 3" ∷ "  (store 2)" ∷ "  (store 1)" ∷ "  (store 0)" ∷ "  (load 2)" ∷ "  (either 5 5)"
-    ∷ "  (return)" ∷ ")" ∷ [])) space (0 ∷ 3400196418 ∷ 0 ∷ 3513183446 ∷ 0 ∷ 476545124 ∷ 0 ∷ 2604493378 ∷ 0 ∷ 1 ∷ []) (344260931
+    ∷ "  (return)" ∷ ")" ∷ [])) 0 1 space (0 ∷ 3400196418 ∷ 0 ∷ 3513183446 ∷ 0 ∷ 476545124 ∷ 0 ∷ 2604493378 ∷ 0 ∷ 1 ∷ []) (344260931
     ∷ 4174468066 ∷ 2193317402 ∷ 3117858009 ∷ 69215398 ∷ []) (3996965014 ∷ 2450955901 ∷ 4248015098 ∷ 371480247 ∷ 2559686712 ∷ 1
     ∷ []) (2908766338 ∷ 935844569 ∷ 3984743703 ∷ 2776743189 ∷ [])
     ≡ record {
@@ -197,31 +197,71 @@ orders = (refl, refl, refl, refl, refl, refl, refl, refl, refl)
 -- store in one branch leaves the other branch live.
 -- Then refusals of events, in their order, and 17 and 19
 pub turns :
-    (reportText (the (judged (lines ("(stack 4)" ∷ "(func 2" ∷ "  (store 1)" ∷ "  (call 1)" ∷ "  (ensure 2)"
+    (reportText inBlocks (the (judged (lines ("(stack 4)" ∷ "(func 2" ∷ "  (store 1)" ∷ "  (call 1)" ∷ "  (ensure 2)"
     ∷ "  (call 2)" ∷ "  (ensure 2)" ∷ "  (load 1)" ∷ "  (return)" ∷ ")" ∷ "(func 4" ∷ "  (return)" ∷ ")" ∷ "(func 0"
     ∷ "  (return)" ∷ ")" ∷ [])))) ≡ lines ("(report" ∷ "  (func 0 2 2 6 0 0)" ∷ "  (at 0 2 2 2 0 0 0 0 0 0)"
     ∷ "  (at 1 2 1 0 1 0 0 0 1 0)" ∷ "  (at 2 0 1 0 0 0 0 0 0 2)" ∷ "  (at 3 2 1 0 1 0 2 0 3 0)" ∷ "  (at 4 2 1 0 1 0 2 0 3 0)"
     ∷ "  (at 5 2 1 2 1 1 0 0 2 0)" ∷ "  (at 6 2 2 0 0 0 0 0 0 0)" ∷ "  (func 1 4 4 4 2 0)" ∷ "  (at 0 4 4 0 0 0 0 0 0 0)"
     ∷ "  (func 2 0 0 0 0 2)" ∷ "  (at 0 2 0 0 2 0 0 2 4 0)" ∷ ")" ∷ []))
-    × (reportText (the (judged (lines ("(stack 4)" ∷ "(func 3" ∷ "  (call 1)" ∷ "  (ensure 3)" ∷ "  (return)" ∷ ")"
+    × (reportText inBlocks (the (judged (lines ("(stack 4)" ∷ "(func 3" ∷ "  (call 1)" ∷ "  (ensure 3)" ∷ "  (return)" ∷ ")"
     ∷ "(func 1" ∷ "  (either 1 3)" ∷ "  (call 2)" ∷ "  (ensure 1)" ∷ "  (return)" ∷ ")" ∷ "(func 2" ∷ "  (return)" ∷ ")"
     ∷ [])))) ≡ lines ("(report" ∷ "  (func 0 3 4 6 0 0)" ∷ "  (at 0 3 3 0 0 0 1 0 1 0)" ∷ "  (at 1 3 3 0 0 0 1 0 1 2)"
     ∷ "  (at 2 3 3 0 0 0 0 0 0 0)" ∷ "  (func 1 1 1 3 0 1)" ∷ "  (at 0 4 1 0 3 0 1 1 5 0)" ∷ "  (at 1 4 1 0 3 0 1 1 5 0)"
     ∷ "  (at 2 2 1 0 1 0 1 1 3 0)" ∷ "  (at 3 4 1 0 3 0 0 1 4 0)" ∷ "  (func 2 2 2 2 2 2)" ∷ "  (at 0 4 2 0 2 0 0 2 4 0)" ∷ ")"
     ∷ []))
-    × (reportText (the (judged (lines ("(stack 2)" ∷ "(func 1" ∷ "  (store 0)" ∷ "  (either 2 4)" ∷ "  (store 0)"
+    × (reportText inBlocks (the (judged (lines ("(stack 2)" ∷ "(func 1" ∷ "  (store 0)" ∷ "  (either 2 4)" ∷ "  (store 0)"
     ∷ "  (goto 4)" ∷ "  (load 0)" ∷ "  (return)" ∷ ")" ∷ [])))) ≡ lines ("(report" ∷ "  (func 0 1 1 1 0 0)"
     ∷ "  (at 0 1 1 1 0 0 0 0 0 0)" ∷ "  (at 1 1 0 1 1 1 0 0 2 0)" ∷ "  (at 2 1 1 1 0 0 0 0 0 0)" ∷ "  (at 3 1 0 1 1 1 0 0 2 0)"
     ∷ "  (at 4 1 0 1 1 1 0 0 2 0)" ∷ "  (at 5 1 1 0 0 0 0 0 0 0)" ∷ ")" ∷ []))
     × (runOf (lines ("(stack 2)" ∷ "(func 1" ∷ "  (store 0)" ∷ "  (either 2 4)" ∷ "  (store 0)" ∷ "  (goto 4)" ∷ "  (load 0)"
-    ∷ "  (return)" ∷ ")" ∷ [])) space (0 ∷ 5 ∷ 0 ∷ 2 ∷ []) (replicate 2 0) (replicate 2 0) (replicate 1 0) .result .ending
+    ∷ "  (return)" ∷ ")" ∷ [])) 0 1 space (0 ∷ 5 ∷ 0 ∷ 2 ∷ []) (replicate 2 0) (replicate 2 0) (replicate 1 0) .result .ending
     ≡ Refused (refuse Choice 1))
     × (runOf (lines ("(stack 2)" ∷ "(func 1" ∷ "  (store 0)" ∷ "  (either 2 4)" ∷ "  (store 0)" ∷ "  (goto 4)" ∷ "  (load 0)"
-    ∷ "  (return)" ∷ ")" ∷ [])) space (0 ∷ 5 ∷ 1 ∷ 2 ∷ 0 ∷ 1 ∷ 2 ∷ 0
+    ∷ "  (return)" ∷ ")" ∷ [])) 0 1 space (0 ∷ 5 ∷ 1 ∷ 2 ∷ 0 ∷ 1 ∷ 2 ∷ 0
     ∷ []) (replicate 4 0) (replicate 2 0) (replicate 1 0) .result .ending ≡ Refused (refuse Kind 3))
-    × (runOf (sample) space (0 ∷ 0 ∷ 0 ∷ 0 ∷ 0 ∷ 0 ∷ 0 ∷ 0 ∷ 0 ∷ 0 ∷ 0 ∷ 0 ∷ 0 ∷ 0 ∷ 0 ∷ 0 ∷ 9 ∷ 9
+    × (runOf (sample) 0 1 space (0 ∷ 0 ∷ 0 ∷ 0 ∷ 0 ∷ 0 ∷ 0 ∷ 0 ∷ 0 ∷ 0 ∷ 0 ∷ 0 ∷ 0 ∷ 0 ∷ 0 ∷ 0 ∷ 9 ∷ 9
     ∷ []) (replicate 9 0) (replicate 5 0) (replicate 6 0) .result .ending ≡ Refused (refuse AfterFinish 8))
-    × (runOf (sample) space (0 ∷ 0 ∷ []) (replicate 0 0) (replicate 5 0) (replicate 6 0) .result .ending ≡ Refused (refuse AnswersTooSmall 1))
-    × (runOf (sample) space (0 ∷ 0 ∷ []) (replicate 1 0) (replicate 5 0) (replicate 5 0) .result .ending ≡ Refused (refuse MemoryTooSmall 6))
+    × (runOf (sample) 0 1 space (0 ∷ 0 ∷ []) (replicate 0 0) (replicate 5 0) (replicate 6 0) .result .ending ≡ Refused (refuse AnswersTooSmall 1))
+    × (runOf (sample) 0 1 space (0 ∷ 0 ∷ []) (replicate 1 0) (replicate 5 0) (replicate 5 0) .result .ending ≡ Refused (refuse MemoryTooSmall 6))
 unfolding opened lines sample
 turns = (refl, refl, refl, refl, refl, refl, refl, refl)
+
+-- document 02, request 1, on the example of document 01: a move of n blocks costs 10 + n. A preemption makes two moves, each with a start
+pub prices :
+    (reportText (movePrice 10 1) (the (judged sample))
+    ≡ lines ("(report" ∷ "  (func 0 2 6 6 0 0)" ∷ "  (at 0 2 2 2 0 0 0 0 0 0)" ∷ "  (at 1 2 1 0 11 0 11 0 22 0)"
+    ∷ "  (at 2 1 1 0 0 0 11 0 11 11)" ∷ "  (at 3 2 1 2 11 11 0 0 22 0)" ∷ "  (at 4 2 2 0 0 0 0 0 0 0)"
+    ∷ "  (func 1 4 4 4 11 11)" ∷ "  (at 0 5 4 1 11 0 0 11 22 0)" ∷ "  (at 1 5 0 1 15 11 0 11 37 0)"
+    ∷ "  (at 2 5 4 0 11 0 0 11 22 0)" ∷ ")" ∷ []))
+    × (runOf sample 10 1 space sevenSteps (replicate 7 0) (replicate 5 0) (replicate 6 0) .result
+    ≡ record { ending = AllDone; done = 7; moved = 22; allowed = 22 })
+    × (runOf sample 10 1 space withPreemption (replicate 8 0) (replicate 5 0) (replicate 6 0) .result
+    ≡ record { ending = AllDone; done = 8; moved = 49; allowed = 59 })
+    × (runOf sample 0 3 space withPreemption (replicate 8 0) (replicate 5 0) (replicate 6 0) .result
+    ≡ record { ending = AllDone; done = 8; moved = 27; allowed = 27 })
+unfolding opened lines sample sevenSteps withPreemption
+prices = (refl, refl, refl, refl)
+
+-- a chain of two callers, of which each keeps one block: its shares are priced one by one
+pub shares :
+    reportText (movePrice 10 1) (the (judged (lines ("(stack 4)" ∷ "(func 1" ∷ "  (call 1)" ∷ "  (ensure 1)"
+    ∷ "  (return)" ∷ ")" ∷ "(func 1" ∷ "  (call 2)" ∷ "  (ensure 1)" ∷ "  (return)" ∷ ")" ∷ "(func 2" ∷ "  (return)" ∷ ")"
+    ∷ []))))
+    ≡ lines ("(report" ∷ "  (func 0 1 4 4 0 0)" ∷ "  (at 0 1 1 0 0 0 11 0 11 0)" ∷ "  (at 1 1 1 0 0 0 11 0 11 0)"
+    ∷ "  (at 2 1 1 0 0 0 0 0 0 0)" ∷ "  (func 1 1 3 3 0 11)" ∷ "  (at 0 2 1 0 11 0 11 11 33 0)" ∷ "  (at 1 2 1 0 11 0 11 11 33 0)"
+    ∷ "  (at 2 2 1 0 11 0 0 11 22 0)" ∷ "  (func 2 2 2 2 0 22)" ∷ "  (at 0 4 2 0 12 0 0 22 34 0)" ∷ ")" ∷ [])
+unfolding opened lines
+shares = refl
+
+-- 23 for a start above 255 and for each 0 or above 255, after 15 and before 1; the ends of both ranges pass
+pub priceRows :
+    (judge (pricedRows 16384 256 1) noRows sample ≡ refused (refuse PriceRange 0))
+    × (judge (pricedRows 16384 0 0) noRows sample ≡ refused (refuse PriceRange 0))
+    × (judge (pricedRows 16384 0 256) noRows sample ≡ refused (refuse PriceRange 0))
+    × (judge (pricedRows 16383 256 0) noRows sample ≡ refused (refuse WorkTooSmall 16384))
+    × (judge (pricedRows 16384 256 1) noRows (replicate 32769 0) ≡ refused (refuse PriceRange 0))
+    × (judge (pricedRows 16384 255 1) noRows (replicate 32769 0) ≡ refused (refuse TextTooLong 0))
+    × (judge (pricedRows 16384 255 255) noRows sample ≡ judged sample)
+    × (judge (pricedRows 16384 0 1) noRows sample ≡ judged sample)
+unfolding opened lines sample
+priceRows = (refl, refl, refl, refl, refl, refl, refl, refl)

@@ -77,7 +77,7 @@ withPreemption = 0 ∷ 11 ∷ 0 ∷ 0 ∷ 0 ∷ 22 ∷ 1 ∷ 99 ∷ 0 ∷ 0 ∷ 
 
 -- what is lent to the runs: eight answers and one number more, five blocks, a memory of seven numbers
 abbrev pub sampleRun : List ℕ → AfterRun
-sampleRun events = runOf sample space events (replicate 9 5) (replicate 5 6) (replicate 7 8)
+sampleRun events = runOf sample 0 1 space events (replicate 9 5) (replicate 5 6) (replicate 7 8)
 
 -- the verdict on a text of these lines
 abbrev pub verdictOn : List String → AfterCheck
@@ -89,7 +89,7 @@ pub starred :
     × (ensure 2 (five 2) .blocks ≡ 0)
     × (ensure 2 (five 1) .blocks ≡ 1)
     × (free 4 (five 1) .occupancy ≡ 0)
-    × (reportOf sample space (replicate 400 7)
+    × (reportOf sample 0 1 space (replicate 400 7)
     ≡ record {
       result = record { verdict = Accepted; written = 268 };
       work = spaceAfter;

@@ -26,3 +26,10 @@ workLength = 16384
 -- numbers of an event list, two for each event
 abbrev pub mostEventNumbers : ℕ
 mostEventNumbers = 131072
+
+-- the price of a move: its start, and each of its blocks
+abbrev pub mostStart : ℕ
+mostStart = 255
+
+abbrev pub mostEach : ℕ
+mostEach = 255

@@ -8,10 +8,10 @@ use lib.Dec.{leb, ltb, eqb}
 use Rattle.model.specs.declared.Point.{Point}
 use Rattle.model.specs.declared.Point.the-variants.{Load, Store, Call, Ensure, Goto, Either, Return}
 use Rattle.model.specs.declared.Refusal.{Refusal}
-use Rattle.model.specs.declared.Row.the-variants.{WorkTooSmall, TextTooLong, Callee, Pairing, Target, LastPoint, Unreachable, Uncalled}
+use Rattle.model.specs.declared.Row.the-variants.{WorkTooSmall, PriceRange, TextTooLong, Callee, Pairing, Target, LastPoint, Unreachable, Uncalled}
 use Rattle.model.specs.declared.Row.the-variants.{Uninitialised, OutputTooSmall, EventList, AnswersTooSmall, CacheSize, MemoryTooSmall}
 use Rattle.model.specs.declared.Row.the-variants.{AfterFinish, Kind, Choice}
-use Rattle.model.specs.Limits.{mostBytes, workLength, mostEventNumbers}
+use Rattle.model.specs.Limits.{mostBytes, workLength, mostEventNumbers, mostStart, mostEach}
 use Rattle.model.specs.Rows.{refuse}
 use Rattle.model.specs.Basic.{if_then_else_, unless, _orElse_, firstOf, any, upTo, countFrom}
 use Rattle.model.specs.Task.{Func, Task, Judged, refused, task, size, count, func, point, funcLine, pointLine, readText}
@@ -125,6 +125,14 @@ judged text =
 -- 15, for a working space of this length
 unfoldable pub workRow : ℕ → Option Refusal
 workRow work = unless (leb workLength work) (refuse WorkTooSmall workLength)
+
+-- 23: the start of a move, or the price of each of its blocks, is outside its range
+unfoldable pub priceRow : ℕ → ℕ → Option Refusal
+priceRow start each = unless (leb start mostStart && leb 1 each && leb each mostEach) (refuse PriceRange 0)
+
+-- the rows before those of the text, for a service that gives prices
+abbrev pub pricedRows : ℕ → ℕ → ℕ → Option Refusal
+pricedRows work start each = workRow work orElse priceRow start each
 
 -- the whole order of a service: first, the rows that come before those of the text; own, those that come after
 unfoldable pub judge : Option Refusal → (Task → Option Refusal) → List ℕ → Judged

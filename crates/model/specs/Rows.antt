@@ -2,7 +2,7 @@
 use Prim.Native.Nat.{ℕ, _+_, _*_}
 use mathlib.Core.Option.{Option, none, some}
 use Rattle.model.specs.declared.Row.{Row}
-use Rattle.model.specs.declared.Row.the-variants.{WorkTooSmall, TextTooLong, Form, StackSize, FrameSize, Offset, TooMany, Callee, Pairing}
+use Rattle.model.specs.declared.Row.the-variants.{WorkTooSmall, PriceRange, TextTooLong, Form, StackSize, FrameSize, Offset, TooMany, Callee, Pairing}
 use Rattle.model.specs.declared.Row.the-variants.{Target, LastPoint, Unreachable, Uncalled, Uninitialised, OutputTooSmall, EventList}
 use Rattle.model.specs.declared.Row.the-variants.{AnswersTooSmall, CacheSize, MemoryTooSmall, AfterFinish, Kind, Choice}
 use Rattle.model.specs.declared.Refusal.{Refusal}
@@ -14,6 +14,7 @@ use Rattle.model.specs.declared.Ending.the-variants as ending
 -- CODE: the number of a row
 abbrev pub codeOf : Row → ℕ
 codeOf WorkTooSmall = 15
+codeOf PriceRange = 23
 codeOf TextTooLong = 1
 codeOf Form = 2
 codeOf StackSize = 3

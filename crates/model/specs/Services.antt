@@ -16,8 +16,8 @@ use Rattle.model.specs.Limits.{workLength}
 use Rattle.model.specs.Rows.{packed, verdictCode, verdictPlace, endingCode, endingPlace}
 use Rattle.model.specs.Basic.{if_then_else_}
 use Rattle.model.specs.Task.{Task, Judged, refused, task}
-use Rattle.model.specs.Sheet.{sheetOf, reportText}
-use Rattle.model.specs.Refusal.{judged, workRow, judge, noRows, outputRows, runRows}
+use Rattle.model.specs.Sheet.{movePrice, inBlocks, pricedSheet, reportText}
+use Rattle.model.specs.Refusal.{judged, workRow, pricedRows, judge, noRows, outputRows, runRows}
 use Rattle.model.specs.Core.{idle}
 use Rattle.model.specs.Plain.{Event, eventsOf, Plain, plain}
 use Rattle.model.specs.Run.{Ran, ran, allowed}
@@ -72,9 +72,14 @@ unfoldable pub writtenOf : Option Refusal → (Task → List ℕ) → List ℕ �
 writtenOf first print text work output =
     writtenAs print (judge first (outputRows print (length output)) text) (cleared work) output
 
--- report
-abbrev pub reportOf : List ℕ → List ℕ → List ℕ → AfterWrite
-reportOf text work output = writtenOf (workRow (length work)) reportText text work output
+-- report, a move having this start and this price of each block
+abbrev pub reportOf : List ℕ → ℕ → ℕ → List ℕ → List ℕ → AfterWrite
+reportOf text start each work output =
+    writtenOf (pricedRows (length work) start each) (reportText (movePrice start each)) text work output
+
+-- the report of document 01: in blocks, and without row 23
+abbrev pub blocksReportOf : List ℕ → List ℕ → List ℕ → AfterWrite
+blocksReportOf text work output = writtenOf (workRow (length work)) (reportText inBlocks) text work output
 
 -- a service that writes bytes, as C calls it: its answer, and a buffer whose first three numbers are code, place and bytes written
 pub record AfterCall : Type 0 where
@@ -91,11 +96,11 @@ calledAs after result =
     record { answer = 1; result = over (resultNumbers (after .result)) result; work = after .work; output = after .output }
 
 -- report; where the buffer of the result has fewer than three numbers, the answer is 0 and nothing is touched
-unfoldable pub reportNumbers : List ℕ → List ℕ → List ℕ → List ℕ → AfterCall
-reportNumbers text work output result =
+unfoldable pub reportNumbers : List ℕ → ℕ → ℕ → List ℕ → List ℕ → List ℕ → AfterCall
+reportNumbers text start each work output result =
     if ltb (length result) 3
     then record { answer = 0; result = result; work = work; output = output }
-    else calledAs (reportOf text work output) result
+    else calledAs (reportOf text start each work output) result
 
 -- run: its result, the working space, the answers, the cache and the memory
 pub record AfterRun : Type 0 where
@@ -118,8 +123,8 @@ servedAs r a work answers =
       memory = r .core .memory;
     }
 
-abbrev pub runAs : Judged → List ℕ → List Event → List ℕ → List ℕ → List ℕ → AfterRun
-runAs (refused r) work es answers cache memory =
+abbrev pub runAs : (ℕ → ℕ) → Judged → List ℕ → List Event → List ℕ → List ℕ → List ℕ → AfterRun
+runAs price (refused r) work es answers cache memory =
     record {
       result = record { ending = ending.Refused r; done = 0; moved = 0; allowed = 0 };
       work = work;
@@ -127,28 +132,36 @@ runAs (refused r) work es answers cache memory =
       cache = cache;
       memory = memory;
     }
-runAs (task t) work es answers cache memory =
-    servedAs (ran t (sheetOf t) (idle cache memory) es) (allowed t (sheetOf t) es) work answers
+runAs price (task t) work es answers cache memory =
+    servedAs (ran t (pricedSheet price t) (idle cache memory) es) (allowed t (pricedSheet price t) es) work answers
 
--- what is judged before the first event: 15, the text, and the lengths of the buffers
-unfoldable pub runJudged : List ℕ → List ℕ → List ℕ → List ℕ → List ℕ → List ℕ → Judged
-runJudged text work events answers cache memory =
-    judge
-    (workRow (length work))
-    (runRows (length events) (length answers) (length cache) (length memory))
-    text
+-- what is judged before the first event: the rows before those of the text, the text, and the lengths of the buffers
+unfoldable pub runJudged : Option Refusal → List ℕ → List ℕ → List ℕ → List ℕ → List ℕ → Judged
+runJudged first text events answers cache memory =
+    judge first (runRows (length events) (length answers) (length cache) (length memory)) text
 
-unfoldable pub runOf : List ℕ → List ℕ → List ℕ → List ℕ → List ℕ → List ℕ → AfterRun
-runOf text work events answers cache memory =
+unfoldable pub runWith : (ℕ → ℕ) → Option Refusal → List ℕ → List ℕ → List ℕ → List ℕ → List ℕ → List ℕ → AfterRun
+runWith price first text work events answers cache memory =
     runAs
-    (runJudged text work events answers cache memory)
+    price
+    (runJudged first text events answers cache memory)
     (cleared work)
     (eventsOf events)
     answers
     cache
     memory
 
--- run, as C calls it: its answer, and a buffer whose first five numbers are code, place, events done, blocks moved and blocks allowed
+-- run, a move having this start and this price of each block
+abbrev pub runOf : List ℕ → ℕ → ℕ → List ℕ → List ℕ → List ℕ → List ℕ → List ℕ → AfterRun
+runOf text start each work events answers cache memory =
+    runWith (movePrice start each) (pricedRows (length work) start each) text work events answers cache memory
+
+-- the run of document 01: in blocks, and without row 23
+abbrev pub blocksRunOf : List ℕ → List ℕ → List ℕ → List ℕ → List ℕ → List ℕ → AfterRun
+blocksRunOf text work events answers cache memory =
+    runWith inBlocks (workRow (length work)) text work events answers cache memory
+
+-- run, as C calls it: its answer, and a buffer whose first five numbers are code, place, events done, moved and allowed
 pub record AfterRunCall : Type 0 where
   pub answer : ℕ
   pub result : List ℕ
@@ -172,21 +185,21 @@ runCalledAs after result =
     }
 
 -- where the buffer of the result has fewer than five numbers, the answer is 0 and nothing is touched
-unfoldable pub runNumbers : List ℕ → List ℕ → List ℕ → List ℕ → List ℕ → List ℕ → List ℕ → AfterRunCall
-runNumbers text work events answers cache memory result =
+unfoldable pub runNumbers : List ℕ → ℕ → ℕ → List ℕ → List ℕ → List ℕ → List ℕ → List ℕ → List ℕ → AfterRunCall
+runNumbers text start each work events answers cache memory result =
     if ltb (length result) 5
     then record { answer = 0; result = result; work = work; answers = answers; cache = cache; memory = memory }
-    else runCalledAs (runOf text work events answers cache memory) result
+    else runCalledAs (runOf text start each work events answers cache memory) result
 
 -- the plain stack behind the same judgement
 abbrev pub plainAs : Judged → List Event → Plain
 plainAs (refused r) es = record { ending = ending.Refused r; done = 0; answers = [] }
 plainAs (task t) es = plain t es
 
--- demand 3, of what a run on these buffers has returned and left: it has ended, counted its events and answered as the plain stack does, and it has
+-- demand 3, of what a run on these buffers has returned and left, first being the rows before those of the text: it has ended, counted its events and answered as the plain stack does, and it has
 -- moved at most what the sheet allows
-pub record Demand3 (text work events answers cache memory : List ℕ) (after : AfterRun) : Type 0 where
-  pub ending : after .result .ending ≡ plainAs (runJudged text work events answers cache memory) (eventsOf events) .ending
-  pub done : after .result .done ≡ plainAs (runJudged text work events answers cache memory) (eventsOf events) .done
-  pub answered : after .answers ≡ over (plainAs (runJudged text work events answers cache memory) (eventsOf events) .answers) answers
+pub record Demand3 (first : Option Refusal) (text events answers cache memory : List ℕ) (after : AfterRun) : Type 0 where
+  pub ending : after .result .ending ≡ plainAs (runJudged first text events answers cache memory) (eventsOf events) .ending
+  pub done : after .result .done ≡ plainAs (runJudged first text events answers cache memory) (eventsOf events) .done
+  pub answered : after .answers ≡ over (plainAs (runJudged first text events answers cache memory) (eventsOf events) .answers) answers
   pub bounded : after .result .moved ≤ after .result .allowed

@@ -1,7 +1,7 @@
 -- The preemption sheet: the figures as one record, the formulas of the cost and its parts, and the bytes of the report.
-use Prim.Native.Nat.{ℕ, zero, suc, _+_, _-_, _/_, _%_}
+use Prim.Native.Nat.{ℕ, zero, suc, _+_, _-_, _*_, _/_, _%_}
 use mathlib.Core.List.{List, [], _∷_, _++_, map}
-use lib.Dec.{ltb}
+use lib.Dec.{eqb, ltb}
 use Rattle.model.specs.Basic.{if_then_else_, joined, upTo}
 use Rattle.model.specs.Text.{bytes}
 use Rattle.model.specs.Task.{Task, func, size, count}
@@ -19,8 +19,15 @@ pub record PointSheet : Type 0 where
   pub cost : ℕ
   pub fill : ℕ
 
--- a sheet: what runs are measured against. Both sides count a move of n blocks by its price, which in document 01 is n itself. Any rule for
--- the figures gives a sheet
+-- the price of a move of n blocks: nothing where none moves, else a start and the same for each block
+unfoldable pub movePrice : ℕ → ℕ → ℕ → ℕ
+movePrice start each n = if eqb n 0 then 0 else start + each * n
+
+-- in document 01 it is n itself
+abbrev pub inBlocks : ℕ → ℕ
+inBlocks n = n
+
+-- a sheet: what runs are measured against. Both sides count a move by its price. Any rule for the figures gives a sheet
 pub record Sheet : Type 0 where
   pub price : ℕ → ℕ
   pub spill : ℕ → ℕ
@@ -65,10 +72,7 @@ sheetWith price t dead need =
 abbrev pub pricedSheet : (ℕ → ℕ) → Task → Sheet
 pricedSheet price t = sheetWith price t (λ f. Figures.dead (func t f)) (λ f. Figures.need (func t f))
 
--- document 01: a price of n blocks is n
-abbrev pub inBlocks : ℕ → ℕ
-inBlocks n = n
-
+-- document 01: in blocks
 abbrev pub sheetOf : Task → Sheet
 sheetOf t = pricedSheet inBlocks t
 
@@ -137,5 +141,5 @@ funcRows t s f = funcRow t s f ++ joined pointRow (recordsIn t s f)
 unfoldable pub reportWith : Task → Sheet → List ℕ
 reportWith t s = bytes "(report\n" ++ (joined (funcRows t s) (upTo (count t)) ++ bytes ")\n")
 
-abbrev pub reportText : Task → List ℕ
-reportText t = reportWith t (sheetOf t)
+abbrev pub reportText : (ℕ → ℕ) → Task → List ℕ
+reportText price t = reportWith t (pricedSheet price t)

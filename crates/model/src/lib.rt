@@ -18,6 +18,10 @@ impl Limits {
     pub const WORK: usize = 16384;
     // Numbers of an event list, two for each event.
     pub const EVENT_NUMBERS: usize = 131072;
+    // The price of a move: its start, and each of its blocks.
+    pub const START: u32 = 255;
+
+    pub const EACH: u32 = 255;
 }
 
 // A point of a function. Offsets, callees, frame sizes and targets are numbers of the text.
@@ -41,9 +45,10 @@ pub enum Line {
     Malformed,
 }
 
-// A row of document 01's table of refusals. specs/Rows.antt gives the number of each.
+// A row of the table of refusals. specs/Rows.antt gives the number of each.
 pub enum Row {
     WorkTooSmall,
+    PriceRange,
     TextTooLong,
     Form,
     StackSize,

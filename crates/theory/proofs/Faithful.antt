@@ -3,11 +3,12 @@
 use Prim.Native.Nat.{ℕ, _/_, _%_, _≤_, _<_}
 use mathlib.Core.Bool.{_&&_}
 use mathlib.Core.List.{List, []}
-use mathlib.Core.Option.{none}
+use mathlib.Core.Option.{Option, none}
 use mathlib.Core.Path.{_≡_, refl, ap}
 use native.Mathlib.Omega.{arith}
 use lib.Dec.{eqb, leb, eqb→eq, leb→le}
 use lib.ListN.{length}
+use Rattle.model.specs.declared.Refusal.{Refusal}
 use Rattle.model.specs.declared.Row.the-variants.{EventList, AnswersTooSmall, CacheSize, MemoryTooSmall}
 use Rattle.model.specs.Limits.{mostEventNumbers}
 use Rattle.model.specs.Rows.{refuse}
@@ -15,12 +16,12 @@ use Rattle.model.specs.Basic.{unless}
 use Rattle.model.specs.Task.{Task, count, Judged, refused, task}
 use Rattle.model.specs.Core.{Core, idle}
 use Rattle.model.specs.Figures.{longest}
-use Rattle.model.specs.Sheet.{Sheet, pricedSheet, inBlocks, sheetOf}
-use Rattle.model.specs.Refusal.{workRow, runRows}
+use Rattle.model.specs.Sheet.{Sheet, movePrice, pricedSheet}
+use Rattle.model.specs.Refusal.{pricedRows, runRows}
 use Rattle.model.specs.WellFormed.{WellFormed}
 use Rattle.model.specs.Plain.{Event, eventsOf}
 use Rattle.model.specs.Run.{Faithful}
-use Rattle.model.specs.Services.{cleared, over, runJudged, runAs, runOf, Demand3}
+use Rattle.model.specs.Services.{cleared, over, runJudged, runAs, runWith, runOf, Demand3}
 use Rattle.theory.specs.Sound.{Price, Sound}
 use Rattle.theory.proofs.Firsts.{row-none, unless-none}
 use Rattle.theory.proofs.Accepted.{accepted}
@@ -28,7 +29,7 @@ use Rattle.theory.proofs.Frames.{Window}
 use Rattle.theory.proofs.Window.{window-idle}
 use Rattle.theory.proofs.Fair.{fair-run}
 use Rattle.theory.proofs.Lawful.{sound}
-use Rattle.theory.proofs.Prices.{price-blocks}
+use Rattle.theory.proofs.Prices.{price-moves}
 
 -- of every sheet that obeys the rules, from every core that has no frames
 pub faithful : (t : Task) (s : Sheet) → WellFormed t → Sound t s → 0 < count t → (c : Core) (es : List Event) → Window t s [] c
@@ -48,33 +49,38 @@ run-room events answers cache memory t e =
     let l = unless-none (leb (longest t 0) memory) (refuse MemoryTooSmall (longest t 0)) .0 (k .1) in
     (eqb→eq cache (t .stack) (k .0), leb→le (longest t 0) memory l)
 
--- of the sheet of every text that run accepts with these buffers, for every price of moves
-pub run-faithful : (price : ℕ → ℕ) → Price price → (text work events answers cache memory : List ℕ) (t : Task)
-    → runJudged text work events answers cache memory ≡ task t
+-- of the sheet of every text that run accepts with these buffers, for every price of moves and every first rows
+pub run-faithful : (price : ℕ → ℕ) → Price price → (first : Option Refusal) (text events answers cache memory : List ℕ) (t : Task)
+    → runJudged first text events answers cache memory ≡ task t
     → (es : List Event) → Faithful t (pricedSheet price t) (idle cache memory) es
 unfolding runJudged
-run-faithful price c text work events answers cache memory t e es =
-    let a = accepted (workRow (length work)) (runRows (length events) (length answers) (length cache) (length memory)) text t e in
+run-faithful price c first text events answers cache memory t e es =
+    let a = accepted first (runRows (length events) (length answers) (length cache) (length memory)) text t e in
     let r = run-room (length events) (length answers) (length cache) (length memory) t (a .no-own) in
     let w = a .task .formed in
     let s = pricedSheet price t in
     faithful t s w (sound t w price c) (w .shaped .some) (idle cache memory) es (window-idle t s cache memory (r .0) (r .1))
 
--- of the service itself, for every text, event list and buffers
-pub demand-3 : (text work events answers cache memory : List ℕ)
-    → Demand3 text work events answers cache memory (runOf text work events answers cache memory)
-unfolding runOf
-demand-3 text work events answers cache memory = go (runJudged text work events answers cache memory) refl
+pub demand-3-with : (price : ℕ → ℕ) → Price price → (first : Option Refusal) (text work events answers cache memory : List ℕ)
+    → Demand3 first text events answers cache memory (runWith price first text work events answers cache memory)
+unfolding runWith
+demand-3-with price c first text work events answers cache memory = go (runJudged first text events answers cache memory) refl
   where
-    go : (j : Judged) → runJudged text work events answers cache memory ≡ j
-        → Demand3 text work events answers cache memory
-        (runAs (runJudged text work events answers cache memory) (cleared work) (eventsOf events) answers cache memory)
+    go : (j : Judged) → runJudged first text events answers cache memory ≡ j
+        → Demand3 first text events answers cache memory
+        (runAs price (runJudged first text events answers cache memory) (cleared work) (eventsOf events) answers cache memory)
     go (refused r) e =
         record { ending = rw e refl; done = rw e refl; answered = unfold over in rw e refl; bounded = rw e (omega arith) }
     go (task t) e =
-        let f = run-faithful inBlocks price-blocks text work events answers cache memory t e (eventsOf events) in record {
+        let f = run-faithful price c first text events answers cache memory t e (eventsOf events) in record {
           ending = rw e (f .ending);
           done = rw e (f .done);
           answered = rw e (ap (λ l. over l answers) (f .answers));
           bounded = rw e (f .bounded);
         }
+
+-- of the service itself, for every text, start, each, event list and buffers
+pub demand-3 : (text : List ℕ) (start each : ℕ) (work events answers cache memory : List ℕ)
+    → Demand3 (pricedRows (length work) start each) text events answers cache memory (runOf text start each work events answers cache memory)
+demand-3 text start each work events answers cache memory =
+    demand-3-with (movePrice start each) (price-moves start each) (pricedRows (length work) start each) text work events answers cache memory

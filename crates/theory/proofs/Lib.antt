@@ -13,7 +13,7 @@
 --   Potential                a step, and a preemption, moves at most what it is allowed and what the potential falls by
 --   Fair                     the state of a task that runs and of one that waits; every event is fair, and so is every list of events
 --   Lawful                   the figures of document 01 obey the rules
---   Prices                   a count of blocks is a price, and the figures counted so are those of document 01
+--   Prices                   the price of a move with a start is a price; with start 0 and each 1 report and run are those of document 01
 --   Faithful                 demand 3, of every sheet that obeys the rules and of the sheet of every text that run accepts
 pub mod Lists
 pub mod Firsts

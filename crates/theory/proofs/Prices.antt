@@ -1,17 +1,74 @@
--- A count of blocks is a price of moves, and with it every figure of a sheet is that of document 01.
-use Prim.Native.Nat.{ℕ, suc, _+_, _-_}
-use mathlib.Core.Path.{_≡_, refl}
+-- The price of a move that has a start is a price of moves. A count of blocks is one too; it is what start 0 and each 1 give, and with it every figure of a
+-- sheet, the report and the run are those of document 01.
+use Prim.Native.Nat.{ℕ, suc, _+_, _-_, _*_, _≤_}
+use mathlib.Core.List.{List}
+use mathlib.Core.Option.{Option, none, some}
+use mathlib.Core.Path.{_≡_, refl, ap}
 use native.Mathlib.Omega.{arith}
+use native.Mathlib.Nat.{mul-le-mul-left}
+use lib.Dec.{eqb, eqb→eq, T-not}
+use lib.ListN.{length}
+use Rattle.model.specs.declared.Refusal.{Refusal}
 use Rattle.model.specs.Task.{Task, func}
+use Rattle.model.specs.Basic.{_orElse_}
 use Rattle.model.specs.Figures.{dead, need, fill, high, spill, keptNext, overCalls}
-use Rattle.model.specs.Sheet.{Sheet, costed, inBlocks, sheetOf}
+use Rattle.model.specs.Sheet.{Sheet, movePrice, inBlocks, costed, pricedSheet, sheetOf, reportText}
+use Rattle.model.specs.Refusal.{workRow, priceRow, pricedRows}
+use Rattle.model.specs.Services.{writtenOf, reportOf, blocksReportOf, runWith, runOf, blocksRunOf}
 use Rattle.model.specs.WellFormed.{WellFormed}
+use Rattle.theory.proofs.Lists.{by-test}
 use Rattle.theory.proofs.Between.{chain-is}
 use Rattle.theory.proofs.Sheet.{calls-later}
 use Rattle.theory.specs.Sound.{Price}
 
+-- what is so of 0 where no block moves, and of a start and each block where some do, is so of the price
+pub by-price : (start each n : ℕ) (P : ℕ → Type 0) → (n ≡ 0 → P 0) → ((n ≡ 0 → ⊥) → P (start + each * n)) → P (movePrice start each n)
+unfolding movePrice
+by-price start each n P a b =
+    by-test P (eqb n 0) (λ h. a (eqb→eq n 0 h)) (λ h. b (λ e. T-not (eqb n 0) h (rw e tt)))
+
+pub price-moves : (start each : ℕ) → Price (movePrice start each)
+price-moves start each = record {
+  none = by-price start each 0 (λ a. a ≡ 0) (λ e. refl) (λ e. absurd (e refl));
+  more = λ m n h.
+      by-price start each m (λ a. a ≤ movePrice start each n) (λ e. omega arith)
+      (λ e. by-price start each n (λ b. start + each * m ≤ b) (λ f. absurd (e (omega arith))) (λ f. omega (arith, mul-le-mul-left each h)));
+  parts = λ m n.
+      by-price start each (m + n) (λ c. c ≤ movePrice start each m + movePrice start each n) (λ e. omega arith)
+      (λ e. by-price start each m (λ a. start + each * (m + n) ≤ a + movePrice start each n)
+      (λ f. by-price start each n (λ b. start + each * (m + n) ≤ 0 + b) (λ g. absurd (e (omega (arith, f, g)))) (λ g. rw f (omega arith)))
+      (λ f. by-price start each n (λ b. start + each * (m + n) ≤ start + each * m + b) (λ g. rw g (omega arith)) (λ g. omega arith)));
+}
+
 pub price-blocks : Price inBlocks
 price-blocks = record { none = refl; more = λ m n h. h; parts = λ m n. omega arith }
+
+-- ---- start 0 and each 1
+
+pub moves-blocks : movePrice 0 1 ≡ inBlocks
+moves-blocks = λ i n. by-price 0 1 n (λ m. m ≡ n) (λ e. omega arith) (λ e. omega arith) i
+
+pub sheet-blocks : (t : Task) → pricedSheet (movePrice 0 1) t ≡ sheetOf t
+sheet-blocks t = ap (λ (price : ℕ → ℕ). pricedSheet price t) moves-blocks
+
+-- they are in their range
+rows-blocks : (work : ℕ) → pricedRows work 0 1 ≡ workRow work
+unfolding priceRow
+rows-blocks work = go (workRow work)
+  where
+    go : (o : Option Refusal) → (o orElse none) ≡ o
+    go none = refl
+    go (some r) = refl
+
+-- the report and the run are those of document 01, for every text and every buffer
+pub report-blocks : (text work output : List ℕ) → reportOf text 0 1 work output ≡ blocksReportOf text work output
+report-blocks text work output =
+    λ i. writtenOf (rows-blocks (length work) i) (reportText (moves-blocks i)) text work output
+
+pub run-blocks : (text work events answers cache memory : List ℕ) → runOf text 0 1 work events answers cache memory
+    ≡ blocksRunOf text work events answers cache memory
+run-blocks text work events answers cache memory =
+    λ i. runWith (moves-blocks i) (rows-blocks (length work) i) text work events answers cache memory
 
 -- the formulas of document 01
 pub record InBlocks (t : Task) (s : Sheet) : Type 0 where
