@@ -18,6 +18,8 @@ use Rattle.tables.specs.declared.Header.{Header}
 use Rattle.tables.specs.declared.Span.{Span}
 use Rattle.tables.specs.Tables.{item}
 use Rattle.columns.specs.Columns.{longestColumn, shortestColumn, fillColumn}
+use Rattle.prices.specs.declared.Price.{Price}
+use Rattle.prices.specs.Prices.{priceOf}
 use Rattle.columns.specs.Values.{numbered, calleeAt, ensureAt, filledAt, keptAt, cutAt, chainedAt}
 
 -- a point that is no call, and one that is no ensure
@@ -74,11 +76,11 @@ pub kept-low : (w : List ℕ) (s : Span) (p : ℕ) {r : ℕ} → r ≡ keptAt w 
 unfolding keptAt
 kept-low w s p e = omega arith
 
-module _ (w : List ℕ) (s : Span) (own p : ℕ) where
-  pub chained-more : {a : ℕ} → p + 1 < s .size → a ≡ keptAt w s (p + 1) → own + a ≡ chainedAt w s own p
+module _ (w : List ℕ) (s : Span) (own : ℕ) (price : Price) (p : ℕ) where
+  pub chained-more : {a b : ℕ} → p + 1 < s .size → a ≡ keptAt w s (p + 1) → b ≡ priceOf price a → own + b ≡ chainedAt w s own price p
   unfolding chainedAt
-  chained-more k e = rw (lt-ltb (p + 1) (s .size) k, e)
+  chained-more k e i = rw (lt-ltb (p + 1) (s .size) k, i, e)
 
-  pub chained-last : s .size ≤ p + 1 → 0 ≡ chainedAt w s own p
+  pub chained-last : s .size ≤ p + 1 → 0 ≡ chainedAt w s own price p
   unfolding chainedAt
   chained-last k = rw (le-ltb (p + 1) (s .size) k)

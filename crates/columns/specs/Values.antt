@@ -1,5 +1,5 @@
 -- The numbers that a point is given, and what a write into one column does.
-use Prim.Native.Nat.{ℕ, zero, suc, _+_, _-_, _≤_, _<_, max}
+use Prim.Native.Nat.{ℕ, zero, suc, _+_, _-_, _*_, _≤_, _<_, max}
 use mathlib.Core.Bool.{Bool}
 use mathlib.Core.List.{List}
 use mathlib.Core.Option.{Option, none, some}
@@ -12,14 +12,16 @@ use Rattle.model.specs.Figures.{callees}
 use Rattle.tables.specs.declared.Header.{Header}
 use Rattle.tables.specs.declared.Span.{Span}
 use Rattle.tables.specs.Tables.{item, pointAt, funcIn}
+use Rattle.prices.specs.declared.Price.{Price}
+use Rattle.prices.specs.Prices.{priceOf, mostPrice, Small}
 use Rattle.columns.specs.declared.Value.{Value}
 use Rattle.columns.specs.declared.Value.the-variants.{Fill, Kept, Cut, High, Chained}
 use Rattle.columns.specs.declared.Bounds.{Bounds}
 use Rattle.columns.specs.Columns.{highColumn, fillColumn, longestColumn, shortestColumn, Changed}
 
--- the most that a chain of calls can be, in blocks
+-- the most that a chain of calls can cost
 abbrev pub mostChain : ℕ
-mostChain = 4096
+mostChain = mostPrice * mostFuncs
 
 -- the function that a point calls, and mostFuncs where it calls none
 abbrev pub numbered : Option ℕ → ℕ
@@ -37,7 +39,7 @@ abbrev pub CallFits : List ℕ → Span → ℕ → Type 0
 CallFits w s p = (g : ℕ) → called (pointAt w (s .base + p)) ≡ some g → g < mostFuncs
 
 -- a number for point p, from the tables and the columns: the fill at p; what is kept there; what the callee at p leaves of the cache; the chain
--- of the callee at p, where that of the caller is own
+-- of the callee at p, where that of the caller is own and a move has this price
 unfoldable pub filledAt : List ℕ → Header → Span → ℕ → ℕ
 filledAt w h s p =
     if ensureAt w s p
@@ -50,23 +52,23 @@ keptAt w s p = s .frame - item w (fillColumn + s .base + p)
 unfoldable pub cutAt : List ℕ → Header → Span → ℕ → ℕ
 cutAt w h s p = if ltb (calleeAt w s p) mostFuncs then h .stack - item w (shortestColumn + calleeAt w s p) else 0
 
-unfoldable pub chainedAt : List ℕ → Span → ℕ → ℕ → ℕ
-chainedAt w s own p = if ltb (p + 1) (s .size) then own + keptAt w s (p + 1) else 0
+unfoldable pub chainedAt : List ℕ → Span → ℕ → Price → ℕ → ℕ
+chainedAt w s own price p = if ltb (p + 1) (s .size) then own + priceOf price (keptAt w s (p + 1)) else 0
 
 abbrev pub valueAt : Value → List ℕ → Header → Span → ℕ → ℕ
 valueAt Fill w h s p = filledAt w h s p
 valueAt Kept w h s p = keptAt w s p
 valueAt Cut w h s p = cutAt w h s p
 valueAt High w h s p = item w (highColumn + s .base + p)
-valueAt (Chained own) w h s p = chainedAt w s own p
+valueAt (Chained own price) w h s p = chainedAt w s own price p
 
--- the number that the value carries is small enough to add to
+-- the numbers that the value carries are small enough to add to
 abbrev pub Adds : Value → Type 0
 Adds Fill = Unit {0}
 Adds Kept = Unit {0}
 Adds Cut = Unit {0}
 Adds High = Unit {0}
-Adds (Chained own) = own ≤ mostChain
+Adds (Chained own price) = (own ≤ mostChain) × Small price
 
 -- a column written from a buffer
 pub record Put (a n : ℕ) (v w w′ : List ℕ) : Type 0 where

@@ -8,6 +8,7 @@ ghost use Rattle.model.specs.Basic.{if_then_else_};
 ghost use Rattle.model.specs.Walk.{called, ensured, present};
 ghost use Rattle.tables.specs.Tables.{item};
 ghost use Rattle.tables.specs.Valid.{Lies};
+ghost use Rattle.prices.specs.Prices.{Small};
 ghost use Rattle.problems.specs.Problems.{Filled};
 ghost use Rattle.columns.specs.Columns.{columnsEnd, entryColumn, chainColumn, fillColumn, Funcs, Changed, OnlyColumns};
 ghost use Rattle.columns.specs.Values.{mostChain, numbered, calleeAt, ensureAt, filledAt, keptAt, cutAt, chainedAt, valueAt, Adds, CallFits};
@@ -15,6 +16,7 @@ ghost use Rattle.columns.specs.Values.{Put, Raised, Bounded};
 ghost use Rattle.columns.specs.Displaced.{Ready, Displacing};
 use model::Limits;
 use model::Point;
+use prices::Price;
 use tables::Header;
 use tables::Span;
 
@@ -46,13 +48,13 @@ impl Columns {
 }
 
 // A number for each point: its fill; what is kept at it; what its callee leaves of the cache; its high; the chain of its callee, where that of the
-// caller is given. specs/Values.antt says each.
+// caller and the price of a move are given. specs/Values.antt says each.
 pub enum Value {
     Fill,
     Kept,
     Cut,
     High,
-    Chained(u32),
+    Chained(u32, Price),
 }
 
 // The largest D and the smallest d of the functions that a function calls.
@@ -196,12 +198,12 @@ fn cut_at(work: &[u32], h: Header, s: Span, p: usize) -> u32
 }
 
 // The chain of the callee at point p of s along this call.
-fn chained_at(work: &[u32], s: Span, own: u32, p: usize) -> u32
-    requires { ⌜ Lies (now work) s × (p < s .size) × (columnsEnd ≤ length (now work)) × (s .frame ≤ mostStack) × (own ≤ mostChain) ⌝ }
-    ensures { λ r. ⌜ r ≡ chainedAt (now (work .entry)) s own p ⌝ }
+fn chained_at(work: &[u32], s: Span, own: u32, price: Price, p: usize) -> u32
+    requires { ⌜ Lies (now work) s × (p < s .size) × (columnsEnd ≤ length (now work)) × (s .frame ≤ mostStack) × (own ≤ mostChain) × Small price ⌝ }
+    ensures { λ r. ⌜ r ≡ chainedAt (now (work .entry)) s own price p ⌝ }
 {
     if p + 1 < s.size {
-        return own + kept_at(work, s, p + 1);
+        return own + price.of_move(kept_at(work, s, p + 1));
     }
     0
 }
@@ -215,7 +217,7 @@ fn value_at(which: Value, work: &[u32], h: Header, s: Span, p: usize) -> u32
         Value::Kept => kept_at(work, s, p),
         Value::Cut => cut_at(work, h, s, p),
         Value::High => figure_at(work, Columns::HIGH, s, p),
-        Value::Chained(own) => chained_at(work, s, own, p),
+        Value::Chained(own, price) => chained_at(work, s, own, price, p),
     }
 }
 

@@ -8,17 +8,18 @@ use Rattle.model.specs.Limits.{mostFuncs}
 use Rattle.model.specs.Task.{Task, point}
 use Rattle.model.specs.Walk.{called, calls}
 use Rattle.model.specs.Figures as model
-use Rattle.model.specs.Sheet.{inBlocks}
 use Rattle.theory.proofs.Between.{entry-is, chain-is}
 use Rattle.theory.proofs.Links.{is-holds}
 use Rattle.theory.proofs.Sheet.{calls-later}
 use Rattle.tables.specs.declared.Header.{Header}
 use Rattle.tables.specs.Tables.{item, pointAt, baseAt, sizeAt, funcOf, taskOf}
 use Rattle.tables.proofs.Laws.{func-is, count-is, length-points, point-there}
+use Rattle.prices.specs.declared.Price.{Price}
+use Rattle.prices.specs.Prices.{priceOf}
 use Rattle.columns.specs.Columns.{entryColumn, chainColumn, Funcs}
 use Rattle.columns.specs.Values.{raisedBy}
 use Rattle.columns.specs.Displaced.{Ready}
-use Rattle.figures.specs.Steps.{Gathered, chainFigure}
+use Rattle.figures.specs.Steps.{Gathered, ChainedTo}
 use Rattle.figures.proofs.Callers.{so-far-none, so-far-more, so-far-all}
 
 pub gathered-none : (t : Task) (figure : ℕ → ℕ → ℕ) (a n : ℕ) (w : List ℕ) → n ≤ mostFuncs → Funcs (λ g. 0) a 0 mostFuncs w → Gathered t figure a n 0 w
@@ -49,9 +50,9 @@ module _ {w : List ℕ} {h : Header} (r : Ready w h) where
   gathered-all {figure} {a} {f} k g l m n =
       k .each g l ∙ so-far-all (taskOf w h) figure g (calls-later (r .settled .formed)) f m (rw (count-is w h) n)
 
-  pub chain-of : {f : ℕ} → Gathered (taskOf w h) (chainFigure (taskOf w h)) chainColumn (h .funcs) f w → (g : ℕ) → g < h .funcs → g ≤ f → f ≤ h .funcs
-      → item w (chainColumn + g) ≡ model.chain inBlocks (taskOf w h) g
-  chain-of k g l m n = gathered-all k g l m n ∙ sym (chain-is (taskOf w h) (calls-later (r .settled .formed)) inBlocks g)
+  pub chain-of : (price : Price) {f : ℕ} → ChainedTo price w h f → (g : ℕ) → g < h .funcs → g ≤ f → f ≤ h .funcs
+      → item w (chainColumn + g) ≡ model.chain (priceOf price) (taskOf w h) g
+  chain-of price k g l m n = gathered-all k g l m n ∙ sym (chain-is (taskOf w h) (calls-later (r .settled .formed)) (priceOf price) g)
 
   pub entry-of : {f : ℕ} → Gathered (taskOf w h) (model.high (taskOf w h)) entryColumn (h .funcs) f w → (g : ℕ) → g < h .funcs → g ≤ f → f ≤ h .funcs
       → item w (entryColumn + g) ≡ model.entry (taskOf w h) g

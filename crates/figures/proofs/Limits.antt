@@ -1,5 +1,5 @@
 -- How large the figures of a task can be.
-use Prim.Native.Nat.{ℕ, zero, suc, pred, _+_, _*_, _≤_, min, max}
+use Prim.Native.Nat.{ℕ, zero, suc, pred, _+_, _-_, _*_, _≤_, min, max}
 use native.Mathlib.Omega.{arith}
 use mathlib.Core.Option.{Option, none, some}
 use lib.Dec.{eqb}
@@ -7,9 +7,12 @@ use Rattle.model.specs.Basic.{upTo}
 use Rattle.model.specs.Limits.{mostStack}
 use Rattle.model.specs.Task.{Task, size, count, func, point}
 use Rattle.model.specs.Walk.{carried, arrival, sources, leads, called, isEnsure}
-use Rattle.model.specs.Figures.{cutBy, after, highFrom, callPoints, overCalls, entryTo, entry, high, kept, chainTo, chain, keptNext}
+use Rattle.model.specs.Figures.{fillAfter, fill, cutBy, after, highFrom, callPoints, overCalls, entryTo, entry, high, kept, chainTo, chain, keptNext}
 use Rattle.model.specs.WellFormed.{Shaped}
 use Rattle.theory.proofs.Lists.{by-test, by-max, by-largest}
+use Rattle.prices.specs.declared.Price.{Price}
+use Rattle.prices.specs.Prices.{priceOf, mostPrice, Small}
+use Rattle.prices.proofs.Laws.{price-small}
 use Rattle.columns.proofs.Limits.{frame-low}
 
 pred-low : (n m k : ℕ) → n ≤ suc m → m ≤ k → pred n ≤ k
@@ -26,16 +29,29 @@ module _ {t : Task} (s : Shaped t) where
   kept-low : (f p : ℕ) → kept t f p ≤ mostStack
   kept-low f p = omega (arith, frame-low s f, s .stack-high)
 
-  chain-to : (n f : ℕ) → chainTo (λ m. m) t n f ≤ mostStack * n
-  unfolding chainTo
-  chain-to zero f = omega arith
-  chain-to (suc n) f =
-      over-low t f (λ h p. chainTo (λ m. m) t n h + kept t h (suc p)) (mostStack * suc n)
-      (λ h p. omega (arith, chain-to n h, kept-low h (suc p)))
+  -- fill
+  fill-after-low : (k : ℕ) (o : Option ℕ) → fillAfter t k o ≤ k
+  fill-after-low k none = omega arith
+  fill-after-low k (some g) = omega arith
 
-  pub chain-low : (f : ℕ) → chain (λ m. m) t f ≤ mostStack * f
-  unfolding chain
-  chain-low f = chain-to f f
+  pub fill-low : (f p : ℕ) → fill t f p ≤ mostStack
+  unfolding fill
+  fill-low f p =
+      by-test (λ m. m ≤ mostStack) (isEnsure (func t f) p)
+      (λ i. omega (arith, fill-after-low (func t f .frame) (called (point (func t f) (p - 1))), frame-low s f, s .stack-high))
+      (λ i. omega arith)
+
+  module _ (price : Price) (small : Small price) where
+    chain-to : (n f : ℕ) → chainTo (priceOf price) t n f ≤ mostPrice * n
+    unfolding chainTo
+    chain-to zero f = omega arith
+    chain-to (suc n) f =
+        over-low t f (λ h p. chainTo (priceOf price) t n h + priceOf price (kept t h (suc p))) (mostPrice * suc n)
+        (λ h p. omega (arith, chain-to n h, price-small price (kept t h (suc p)) small (kept-low h (suc p))))
+
+    pub chain-low : (f : ℕ) → chain (priceOf price) t f ≤ mostPrice * f
+    unfolding chain
+    chain-low f = chain-to f f
 
   -- q
   pub next-low : (f p : ℕ) → keptNext t f p ≤ mostStack

@@ -24,6 +24,8 @@ use Rattle.tables.proofs.Laws.{func-is, size-is, frame-is, point-is, count-is, 
 use Rattle.tables.proofs.Valid.{settled-fits}
 use Rattle.problems.specs.Problems.{Filled, KeptIn, CutIn}
 use Rattle.problems.proofs.Laws.{filled-as}
+use Rattle.prices.specs.declared.Price.{Price}
+use Rattle.prices.specs.Prices.{priceOf}
 use Rattle.columns.specs.Columns.{columnsEnd, longestColumn, shortestColumn, fillColumn, entryColumn, Funcs}
 use Rattle.columns.specs.Values.{numbered, ensureAt, filledAt, keptAt, cutAt, chainedAt}
 use Rattle.columns.specs.Displaced.{Ready}
@@ -62,10 +64,11 @@ module _ {w : List ℕ} {h : Header} {f : ℕ} (r : Ready w h) (k : f < h .funcs
       let c = callee-in r k p g l e in
       rw (e, lt-ltb g mostFuncs (omega (arith, c .1, r .settled .holds .few)), d .each g (omega arith) (c .1))
 
-  pub chained-is : ((p : ℕ) → p < sizeAt w f → item w (fillColumn + baseAt w f + p) ≡ fill (taskOf w h) f p) → (own p g : ℕ) → p < sizeAt w f
-      → called (pointAt w (baseAt w f + p)) ≡ some g → chainedAt w (spanAt w f) own p ≡ own + kept (taskOf w h) f (suc p)
+  pub chained-is : (price : Price) → ((p : ℕ) → p < sizeAt w f → item w (fillColumn + baseAt w f + p) ≡ fill (taskOf w h) f p) → (own p g : ℕ)
+      → p < sizeAt w f → called (pointAt w (baseAt w f + p)) ≡ some g
+      → chainedAt w (spanAt w f) own price p ≡ own + priceOf price (kept (taskOf w h) f (suc p))
   unfolding chainedAt
-  chained-is x own p g l e =
+  chained-is price x own p g l e =
       let i = ensure-after-call (r .settled .formed .linked) f p (rw (count-is w h) k) (rw (point-is w h f k p l, e) tt) .0 in
       let n : p + 1 < sizeAt w f = omega (arith, i, size-is w h f k) in
       rw (lt-ltb (p + 1) (sizeAt w f) n, kept-is (p + 1) (x (p + 1) n), add-one p)

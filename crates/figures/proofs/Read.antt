@@ -7,7 +7,7 @@ use mathlib.Core.Path.{_≡_, ap, sym, subst, _∙_}
 use Rattle.model.specs.Limits.{mostStack}
 use Rattle.model.specs.Task.{func}
 use Rattle.model.specs.Figures as model
-use Rattle.model.specs.Sheet.{costed, sheetOf}
+use Rattle.model.specs.Sheet.{costed}
 use Rattle.theory.proofs.Rules.{need-frame}
 use Rattle.tables.specs.declared.Header.{Header}
 use Rattle.tables.specs.declared.Span.{Span}
@@ -15,14 +15,16 @@ use Rattle.tables.specs.Tables.{item, spanAt, taskOf}
 use Rattle.tables.specs.Valid.{Lies}
 use Rattle.tables.proofs.Laws.{frame-is}
 use Rattle.tables.proofs.Valid.{lies-in}
+use Rattle.prices.specs.declared.Price.{Price}
+use Rattle.prices.specs.Prices.{priceOf}
 use Rattle.columns.specs.Columns.{highColumn, deadColumn, needColumn, nextColumn, fillColumn, longestColumn, shortestColumn, entryColumn}
 use Rattle.columns.specs.Columns.{chainColumn, columnsEnd, Points}
-use Rattle.figures.specs.Figured.{Figured, figuredOf, funcFigures}
+use Rattle.figures.specs.Figured.{Figured, figuredOf, sheetAt, funcFigures}
 use Rattle.columns.specs.Values.{mostChain}
 use Rattle.columns.proofs.Limits.{frame-low}
-use Rattle.figures.proofs.Limits.{high-low, next-low, chain-low, entry-low}
+use Rattle.figures.proofs.Limits.{high-low, next-low, fill-low, chain-low, entry-low}
 
-module _ {w : List ℕ} {h : Header} {f : ℕ} {s : Span} (k : Figured w h) (l : f < h .funcs) (e : s ≡ spanAt w f) where
+module _ {price : Price} {w : List ℕ} {h : Header} {f : ℕ} {s : Span} (k : Figured price w h) (l : f < h .funcs) (e : s ≡ spanAt w f) where
   lies-there : Lies w s
   lies-there = subst (λ (s : Span). Lies w s) (sym e) (lies-in (k .settled .holds) f l)
 
@@ -52,13 +54,18 @@ module _ {w : List ℕ} {h : Header} {f : ℕ} {s : Span} (k : Figured w h) (l :
     pub small-next : item w (nextColumn + s .base + p) ≤ mostStack
     small-next = omega (arith, column-there (k .next) p i, next-low (k .settled .formed .shaped) f p)
 
-    pub small-chain : item w (chainColumn + f) ≤ mostChain
-    small-chain = omega (arith, k .chain .each f (omega arith) l, chain-low (k .settled .formed .shaped) f, k .settled .holds .few)
+    pub small-fill : item w (fillColumn + s .base + p) ≤ mostStack
+    small-fill = omega (arith, column-there (k .fill) p i, fill-low (k .settled .formed .shaped) f p)
 
-    pub figures-are : {high dead need next fill save reload later cost : ℕ} → high ≡ item w (highColumn + s .base + p)
+    pub small-chain : item w (chainColumn + f) ≤ mostChain
+    small-chain =
+        omega (arith, k .chain .each f (omega arith) l, chain-low (k .settled .formed .shaped) price (k .small) f, k .settled .holds .few)
+
+    pub figures-are : {high dead need next fill save reload later filled cost : ℕ} → high ≡ item w (highColumn + s .base + p)
         → dead ≡ item w (deadColumn + s .base + p)
         → need ≡ item w (needColumn + s .base + p) → next ≡ item w (nextColumn + s .base + p) → fill ≡ item w (fillColumn + s .base + p)
-        → save ≡ high - dead → reload ≡ need - dead → later ≡ next - need → cost ≡ save + reload + later + item w (chainColumn + f)
+        → save ≡ priceOf price (high - dead) → reload ≡ priceOf price (need - dead) → later ≡ priceOf price (next - need)
+        → filled ≡ priceOf price fill → cost ≡ save + reload + later + item w (chainColumn + f)
         → figuredOf (record {
           high = high;
           dead = dead;
@@ -68,20 +75,20 @@ module _ {w : List ℕ} {h : Header} {f : ℕ} {s : Span} (k : Figured w h) (l :
           later = later;
           chain = item w (chainColumn + f);
           cost = cost;
-          fill = fill;
+          fill = filled;
         })
-        ≡ sheetOf (taskOf w h) .at f p
+        ≡ sheetAt price (taskOf w h) .at f p
     unfolding costed
-    figures-are a b c d x y z q m =
+    figures-are a b c d x y z q n m =
         let high-is = a ∙ column-there (k .high) p i in
         let dead-is = b ∙ column-there (k .dead) p i in
         let need-is = c ∙ column-there (k .need) p i in
         let next-is = d ∙ column-there (k .next) p i in
-        let fill-is = x ∙ column-there (k .fill) p i in
+        let fill-is = n ∙ ap (priceOf price) (x ∙ column-there (k .fill) p i) in
         let chain-is = k .chain .each f (omega arith) l in
-        let save-is = y ∙ (λ j. high-is j - dead-is j) in
-        let reload-is = z ∙ (λ j. need-is j - dead-is j) in
-        let later-is = q ∙ (λ j. next-is j - need-is j) in
+        let save-is = y ∙ (λ j. priceOf price (high-is j - dead-is j)) in
+        let reload-is = z ∙ (λ j. priceOf price (need-is j - dead-is j)) in
+        let later-is = q ∙ (λ j. priceOf price (next-is j - need-is j)) in
         let cost-is = m ∙ (λ j. save-is j + reload-is j + later-is j + chain-is j) in
         λ j. record {
           high = high-is j;
@@ -95,7 +102,7 @@ module _ {w : List ℕ} {h : Header} {f : ℕ} {s : Span} (k : Figured w h) (l :
           fill = fill-is j;
         }
 
-module _ {w : List ℕ} {h : Header} {f : ℕ} {s : Span} (k : Figured w h) (l : f < h .funcs) (e : s ≡ spanAt w f) where
+module _ {price : Price} {w : List ℕ} {h : Header} {f : ℕ} {s : Span} (k : Figured price w h) (l : f < h .funcs) (e : s ≡ spanAt w f) where
   frame-there : s .frame ≡ func (taskOf w h) f .frame
   frame-there = ap (λ (s : Span). s .frame) e ∙ sym (frame-is w h f l)
 
@@ -105,7 +112,12 @@ module _ {w : List ℕ} {h : Header} {f : ℕ} {s : Span} (k : Figured w h) (l :
   pub small-entry : item w (entryColumn + f) ≤ mostStack
   small-entry = omega (arith, k .entry .each f (omega arith) l, entry-low (k .settled .formed .shaped) f)
 
-  pub func-figures-are : {spill : ℕ} → spill ≡ item w (entryColumn + f) + s .frame - h .stack
+  -- what is spilled is some of the frame
+  pub small-spill : item w (entryColumn + f) + s .frame - h .stack ≤ mostStack
+  small-spill =
+      omega (arith, small-entry, frame-there, frame-low (k .settled .formed .shaped) f)
+
+  pub func-figures-are : {spill : ℕ} → spill ≡ priceOf price (item w (entryColumn + f) + s .frame - h .stack)
       → record {
         frame = s .frame;
         shortest = item w (shortestColumn + f);
@@ -114,11 +126,11 @@ module _ {w : List ℕ} {h : Header} {f : ℕ} {s : Span} (k : Figured w h) (l :
         chain = item w
             (chainColumn + f);
       }
-      ≡ funcFigures (taskOf w h) f
+      ≡ funcFigures price (taskOf w h) f
   unfolding funcFigures model.spill
   func-figures-are x =
       let entry-is = k .entry .each f (omega arith) l in
-      let spill-is = x ∙ (λ j. entry-is j + frame-there j - h .stack) in
+      let spill-is = x ∙ (λ j. priceOf price (entry-is j + frame-there j - h .stack)) in
       let shortest-is = k .shortest .each f (omega arith) l in
       let longest-is = k .longest .each f (omega arith) l in
       let chain-is = k .chain .each f (omega arith) l in

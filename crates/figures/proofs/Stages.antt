@@ -15,14 +15,17 @@ use Rattle.tables.specs.Valid.{Kept}
 use Rattle.tables.proofs.Laws.{stacked-within}
 use Rattle.tables.proofs.Writes.{points-agree}
 use Rattle.problems.specs.Problems.{Filled}
-use Rattle.columns.specs.Columns.{columnsEnd, highColumn, entryColumn, chainColumn, Points, Funcs, Changed, OnlyColumns}
+use Rattle.prices.specs.declared.Price.{Price}
+use Rattle.prices.specs.Prices.{priceOf, Small}
+use Rattle.columns.specs.Columns.{columnsEnd, highColumn, longestColumn, entryColumn, chainColumn, Points, Funcs, Changed, OnlyColumns}
 use Rattle.columns.specs.Values.{mostChain, chainedAt, Put, raisedBy, Raised}
 use Rattle.columns.proofs.Writes.{changed-on, changed-wider, changed-agree, points-kept, funcs-kept, stacked-order, changed-past}
 use Rattle.figures.specs.declared.Figure.{Figure}
 use Rattle.figures.specs.declared.Figure.the-variants.{High, Dead, Need, Next, Fill}
 use Rattle.columns.specs.Displaced.{Ready, Displaced, Displacing}
 use Rattle.figures.specs.Figured.{Figured}
-use Rattle.figures.specs.Steps.{figureOf, placeOf, columnOf, pointColumns, Figures, FiguredTo, Worked, Working, WorkingOn}
+use Rattle.figures.specs.Steps.{figureOf, placeOf, columnOf, pointColumns, Figures, Gathered, chainFigure, ChainedTo, FiguredTo, Worked, Done}
+use Rattle.figures.specs.Steps.{OnlyPoints, Working, WorkingOn}
 use Rattle.figures.proofs.Limits.{chain-low}
 use Rattle.columns.proofs.Within.{within-ready, within-task}
 use Rattle.figures.proofs.Gathers.{gathered-none, gathered-kept, gathered-more, chain-of, entry-of}
@@ -61,26 +64,39 @@ displaced-kept h same x =
     }
 
 -- D and d are worked out, and no caller has raised anything
-pub worked-none : {w v w′ : List ℕ} {h : Header} → Displacing w h 0 → Changed chainColumn mostFuncs w v → Funcs (λ g. 0) chainColumn 0 mostFuncs v
-    → Changed entryColumn mostFuncs v w′ → Funcs (λ g. 0) entryColumn 0 mostFuncs w′ → Worked w′ h 0 pointColumns × OnlyColumns w w′
-worked-none {w} {v} {w′} {h} d c x b y =
+pub done-none : {price : Price} {w v w′ : List ℕ} {h : Header} → Small price → Displacing w h 0 → Changed chainColumn mostFuncs w v
+    → Funcs (λ g. 0) chainColumn 0 mostFuncs v → Changed entryColumn mostFuncs v w′ → Funcs (λ g. 0) entryColumn 0 mostFuncs w′
+    → Done price w′ h 0 × OnlyColumns w w′
+done-none {price} {w} {v} {w′} {h} small d c x b y =
     let few = d .ready .settled .holds .few in
     let i : OnlyColumns w w′ =
     changed-on (changed-wider highColumn _ (omega arith) (omega arith) c) (changed-wider highColumn _ (omega arith) (omega arith) b) in
     let t = within-task i (d .ready) in (
       record {
-        ready = within-ready i (d .ready);
-        stands = record {
-          away = subst (λ (t : Task). Displaced t 0 (h .funcs) w′) (sym t)
-              (displaced-kept few (λ i l k. b .before i k ∙ c .before i (omega arith)) (d .away));
-          chain = gathered-none _ _ _ _ _ few (funcs-kept (λ f l k. b .behind (chainColumn + f) (omega arith)) x);
-          entry = gathered-none _ _ _ _ _ few y;
-          below = λ which. record { each = λ f p l k. absurd (omega arith) };
-          own = λ which l. absurd (omega (arith, place-low which));
+        worked = record {
+          ready = within-ready i (d .ready);
+          stands = record {
+            away = subst (λ (t : Task). Displaced t 0 (h .funcs) w′) (sym t)
+                (displaced-kept few (λ i l k. b .before i k ∙ c .before i (omega arith)) (d .away));
+            entry = gathered-none _ _ _ _ _ few y;
+            below = λ which. record { each = λ f p l k. absurd (omega arith) };
+            own = λ which l. absurd (omega (arith, place-low which));
+          };
         };
+        chained = gathered-none _ _ _ _ _ few (funcs-kept (λ f l k. b .behind (chainColumn + f) (omega arith)) x);
+        small = small;
       },
       i,
     )
+
+-- the columns of the points are some of the columns, and the chain is none of them
+pub points-columns : {w w′ : List ℕ} → OnlyPoints w w′ → OnlyColumns w w′
+points-columns c = changed-wider highColumn _ (omega arith) (omega arith) c
+
+pub chained-kept : (price : Price) {w w′ : List ℕ} {h : Header} {f : ℕ} → Ready w h → OnlyPoints w w′ → ChainedTo price w h f → ChainedTo price w′ h f
+chained-kept price {w} {w′} {h} {f} r c x =
+    subst (λ (t : Task). Gathered t (chainFigure price t) chainColumn (h .funcs) f w′) (sym (within-task (points-columns c) r))
+    (gathered-kept (λ g l. c .behind (chainColumn + g) (omega arith)) x)
 
 -- the column of one figure is written
 module _ {w w′ v : List ℕ} {h : Header} {f : ℕ} (which : Figure) (x : Worked w h f (suc (placeOf which))) (l : f < h .funcs)
@@ -88,8 +104,11 @@ module _ {w w′ v : List ℕ} {h : Header} {f : ℕ} (which : Figure) (x : Work
   in-column : baseAt w f + sizeAt w f ≤ mostInAll
   in-column = omega (arith, stacked-within (x .ready .settled .holds .stacked) f l, x .ready .settled .holds .all)
 
+  put-points : OnlyPoints w w′
+  put-points = changed-wider highColumn _ (omega arith) (omega (arith, in-column, place-low which)) (put .changed)
+
   put-within : OnlyColumns w w′
-  put-within = changed-wider highColumn _ (omega arith) (omega (arith, in-column, place-low which)) (put .changed)
+  put-within = points-columns put-points
 
   -- the other columns, and the functions before f in this one
   other-column : (other : Figure) (g p : ℕ) → g < f → p < sizeAt w g → item w′ (columnOf other + baseAt w g + p) ≡ item w (columnOf other + baseAt w g + p)
@@ -106,7 +125,7 @@ module _ {w w′ v : List ℕ} {h : Header} {f : ℕ} (which : Figure) (x : Work
   behind-points : (i : ℕ) → highColumn + mostInAll * pointColumns ≤ i → item w′ i ≡ item w i
   behind-points i m = put .changed .behind i (omega (arith, in-column, place-low which))
 
-  pub worked-more : ((p : ℕ) → p < sizeAt w f → item v p ≡ figureOf which (taskOf w h) f p) → Worked w′ h f (placeOf which) × OnlyColumns w w′
+  pub worked-more : ((p : ℕ) → p < sizeAt w f → item v p ≡ figureOf which (taskOf w h) f p) → Worked w′ h f (placeOf which) × OnlyPoints w w′
   worked-more new =
       let few = x .ready .settled .holds .few in
       let s = x .stands in
@@ -118,7 +137,6 @@ module _ {w w′ v : List ℕ} {h : Header} {f : ℕ} (which : Figure) (x : Work
           stands = subst (λ (t : Task). FiguredTo t (h .funcs) f (placeOf which) w′) (sym (within-task put-within (x .ready)))
               (record {
                 away = displaced-kept few (λ i m n. behind-points i m) (s .away);
-                chain = gathered-kept (λ g m. behind-points _ (omega arith)) (s .chain);
                 entry = gathered-kept (λ g m. behind-points _ (omega arith)) (s .entry);
                 below = λ other. points-kept (omega arith) put-within (omega arith) (other-column other) (s .below other);
                 own = λ other m p i.
@@ -132,7 +150,7 @@ module _ {w w′ v : List ℕ} {h : Header} {f : ℕ} (which : Figure) (x : Work
                     ];
               });
         },
-        put-within,
+        put-points,
       )
 
 pub turn-of : {w : List ℕ} {h : Header} {f k : ℕ} {s : Span} → Working w h f k → s ≡ spanAt w f → WorkingOn w h f k s
@@ -140,7 +158,7 @@ turn-of x e = record { begun = x; same = e }
 
 pub worked-put : (which : Figure) {w w′ v v₀ : List ℕ} {h : Header} {f column : ℕ} {s : Span} → WorkingOn w h f (suc (placeOf which)) s
     → column ≡ columnOf which → Figures which (taskOf w h) f (s .size) v₀ v → Put (column + s .base) (s .size) v w w′
-    → Working w′ h f (placeOf which) × OnlyColumns w w′
+    → Working w′ h f (placeOf which) × OnlyPoints w w′
 worked-put which {w} {w′} {v} {f = f} {s = s} x n y put =
     let r = worked-more which (x .begun .worked) (x .begun .below)
     (subst (λ (s : Span). Put (columnOf which + s .base) (s .size) v w w′) (x .same) (subst (λ (m : ℕ). Put (m + s .base) (s .size) v w w′) n put))
@@ -148,7 +166,7 @@ worked-put which {w} {w′} {v} {f = f} {s = s} x n y put =
     (record { worked = r .0; below = x .begun .below }, r .1)
 
 -- function f has all its figures, and its callees are raised
-module _ {w v w′ c e : List ℕ} {h : Header} {f : ℕ} (x : Worked w h f 0) (l : f < h .funcs)
+module _ (price : Price) {w v w′ c e : List ℕ} {h : Header} {f : ℕ} (x : Worked w h f 0) (before : ChainedTo price w h f) (l : f < h .funcs)
     (raised : Raised chainColumn (spanAt w f) c w v) (last : Raised entryColumn (spanAt w f) e v w′) where
   raise-within : OnlyColumns w w′
   raise-within =
@@ -181,65 +199,74 @@ module _ {w v w′ c e : List ℕ} {h : Header} {f : ℕ} (x : Worked w h f 0) (
       (arith, stacked-within (x .ready .settled .holds .stacked) f l, x .ready .settled .holds .all)) in
       last .each g m ∙ (λ j. raisedBy (calls (record { frame = frameAt w f; points = q j }) g) (item e) (sizeAt w f) (i j))
 
-  pub worked-next : {c₀ e₀ : List ℕ} → Filled (λ p n. n ≡ chainedAt w (spanAt w f) (item w (chainColumn + f)) p) (sizeAt w f) c₀ c
+  pub done-next : {c₀ e₀ : List ℕ} → Small price
+      → Filled (λ p n. n ≡ chainedAt w (spanAt w f) (item w (chainColumn + f)) price p) (sizeAt w f) c₀ c
       → Filled (λ p n. n ≡ item w (highColumn + baseAt w f + p)) (sizeAt w f) e₀ e
-      → Worked w′ h (f + 1) pointColumns × OnlyColumns w w′
-  worked-next y z =
+      → Done price w′ h (f + 1) × OnlyColumns w w′
+  done-next small y z =
       let r = x .ready in
       let s = x .stands in
       let few = r .settled .holds .few in
-      let own = chain-of r (s .chain) f l (omega arith) (omega arith) in (
+      let same = sym (within-task raise-within r) in
+      let own = chain-of r price before f l (omega arith) (omega arith) in (
         record {
-          ready = within-ready raise-within r;
-          stands = subst (λ (t : Task). FiguredTo t (h .funcs) (f + 1) pointColumns w′) (sym (within-task raise-within r))
-              (record {
-                away = displaced-kept few (λ i m n. before-raised i n) (s .away);
-                chain = gathered-kept {w = v} (λ g m. last .changed .behind _ (omega arith)) (gathered-more r c l (raised .each)
-                    (λ p g m q.
-                    y .each p m
-                    ∙ (chained-is r l (λ p i. s .own Fill (omega arith) p i) (item w (chainColumn + f)) p g m q
-                    ∙ ap (λ (n : ℕ). n + model.kept (taskOf w h) f (suc p)) own)) (s .chain));
-                entry = gathered-more r e l entry-raised (λ p g m q. z .each p m ∙ s .own High (omega arith) p m) (s .entry);
-                below = λ which. points-kept (omega arith) raise-within (omega arith) (point-cell which) (points-all which);
-                own = λ which m. absurd (omega (arith, place-low which));
-              });
+          worked = record {
+            ready = within-ready raise-within r;
+            stands = subst (λ (t : Task). FiguredTo t (h .funcs) (f + 1) pointColumns w′) same
+                (record {
+                  away = displaced-kept few (λ i m n. before-raised i n) (s .away);
+                  entry = gathered-more r e l entry-raised (λ p g m q. z .each p m ∙ s .own High (omega arith) p m) (s .entry);
+                  below = λ which. points-kept (omega arith) raise-within (omega arith) (point-cell which) (points-all which);
+                  own = λ which m. absurd (omega (arith, place-low which));
+                });
+          };
+          chained = subst (λ (t : Task). Gathered t (chainFigure price t) chainColumn (h .funcs) (f + 1) w′) same
+              (gathered-kept {w = v} (λ g m. last .changed .behind _ (omega arith)) (gathered-more r c l (raised .each)
+              (λ p g m q.
+              y .each p m
+              ∙ (chained-is r l price (λ p i. s .own Fill (omega arith) p i) (item w (chainColumn + f)) p g m q
+              ∙ ap (λ (n : ℕ). n + priceOf price (model.kept (taskOf w h) f (suc p))) own)) before));
+          small = small;
         },
         raise-within,
       )
 
-pub worked-raised : {w v w′ c c₀ e e₀ : List ℕ} {h : Header} {f : ℕ} {s : Span} → WorkingOn w h f 0 s → Raised chainColumn s c w v
-    → Raised entryColumn s e v w′ → Filled (λ p n. n ≡ chainedAt w s (item w (chainColumn + f)) p) (s .size) c₀ c
-    → Filled (λ p n. n ≡ item w (highColumn + s .base + p)) (s .size) e₀ e → Worked w′ h (f + 1) pointColumns × OnlyColumns w w′
-worked-raised {w} {v} {w′} {c} {c₀} {e} {e₀} {f = f} x raised last y z =
-    worked-next (x .begun .worked) (x .begun .below) (subst (λ (s : Span). Raised chainColumn s c w v) (x .same) raised)
-    (subst (λ (s : Span). Raised entryColumn s e v w′) (x .same) last)
-    (subst (λ (s : Span). Filled (λ p n. n ≡ chainedAt w s (item w (chainColumn + f)) p) (s .size) c₀ c) (x .same) y)
+pub done-raised : (price : Price) {w v w′ c c₀ e e₀ : List ℕ} {h : Header} {f : ℕ} {s : Span} → Small price → WorkingOn w h f 0 s → ChainedTo price w h f
+    → Raised chainColumn s c w v → Raised entryColumn s e v w′ → Filled (λ p n. n ≡ chainedAt w s (item w (chainColumn + f)) price p) (s .size) c₀ c
+    → Filled (λ p n. n ≡ item w (highColumn + s .base + p)) (s .size) e₀ e → Done price w′ h (f + 1) × OnlyColumns w w′
+done-raised price {w} {v} {w′} {c} {c₀} {e} {e₀} {f = f} small x before raised last y z =
+    done-next price (x .begun .worked) before (x .begun .below) (subst (λ (s : Span). Raised chainColumn s c w v) (x .same) raised)
+    (subst (λ (s : Span). Raised entryColumn s e v w′) (x .same) last) small
+    (subst (λ (s : Span). Filled (λ p n. n ≡ chainedAt w s (item w (chainColumn + f)) price p) (s .size) c₀ c) (x .same) y)
     (subst (λ (s : Span). Filled (λ p n. n ≡ item w (highColumn + s .base + p)) (s .size) e₀ e) (x .same) z)
 
 -- the chain of function f, from which it raises those of its callees
-pub own-chain : {w : List ℕ} {h : Header} {f k : ℕ} → Working w h f k → item w (chainColumn + f) ≤ mostChain
-own-chain {f = f} x =
+pub own-chain : (price : Price) {w : List ℕ} {h : Header} {f k : ℕ} → Small price → Working w h f k → ChainedTo price w h f
+    → item w (chainColumn + f) ≤ mostChain
+own-chain price {f = f} small x before =
     let r = x .worked .ready in
     omega (
       arith,
-      chain-of r (x .worked .stands .chain) f (x .below) (omega arith) (omega (arith, x .below)),
-      chain-low (r .settled .formed .shaped) f,
+      chain-of r price before f (x .below) (omega arith) (omega (arith, x .below)),
+      chain-low (r .settled .formed .shaped) price small f,
       r .settled .holds .few,
       x .below,
     )
 
 -- every function has all its figures
-pub all-figured : {w w′ : List ℕ} {h : Header} → Ready w h → OnlyColumns w w′ → Worked w′ h (h .funcs) pointColumns
-    → Figured w′ h × (taskOf w′ h ≡ taskOf w h) × Kept columnsEnd w w′
-all-figured r c x =
+pub all-figured : (price : Price) {w w′ : List ℕ} {h : Header} → Ready w h → OnlyColumns w w′ → Done price w′ h (h .funcs)
+    → Figured price w′ h × (taskOf w′ h ≡ taskOf w h) × Kept columnsEnd w w′
+all-figured price r c d =
+    let x = d .worked in
     let s = x .stands in (
       record {
         settled = x .ready .settled;
         room = x .ready .room;
+        small = d .small;
         longest = s .away .longest;
         shortest = s .away .shortest;
         entry = record { each = λ g m n. entry-of (x .ready) (s .entry) g n (omega arith) (omega arith) };
-        chain = record { each = λ g m n. chain-of (x .ready) (s .chain) g n (omega arith) (omega arith) };
+        chain = record { each = λ g m n. chain-of (x .ready) price (d .chained) g n (omega arith) (omega arith) };
         high = s .below High;
         dead = s .below Dead;
         need = s .below Need;

@@ -1,17 +1,18 @@
 -- How far the figures stand while they are worked out.
-use Prim.Native.Nat.{ℕ, zero, suc, _+_, _*_, _≤_, _<_}
+use Prim.Native.Nat.{ℕ, zero, suc, _+_, _-_, _*_, _≤_, _<_}
 use mathlib.Core.List.{List}
 use mathlib.Core.Path.{_≡_}
 use Rattle.model.specs.Limits.{mostInAll}
 use Rattle.model.specs.Task.{Task, size, func}
 use Rattle.model.specs.Walk.{calls}
 use Rattle.model.specs.Figures as model
-use Rattle.model.specs.Sheet.{inBlocks}
 use Rattle.tables.specs.declared.Header.{Header}
 use Rattle.tables.specs.declared.Span.{Span}
 use Rattle.tables.specs.Tables.{item, baseAt, sizeAt, spanAt, taskOf}
+use Rattle.prices.specs.declared.Price.{Price}
+use Rattle.prices.specs.Prices.{priceOf, Small}
 use Rattle.problems.specs.Problems.{Filled}
-use Rattle.columns.specs.Columns.{highColumn, entryColumn, chainColumn, Points}
+use Rattle.columns.specs.Columns.{highColumn, longestColumn, entryColumn, chainColumn, Points, Changed}
 use Rattle.columns.specs.Displaced.{Ready, Displaced}
 use Rattle.columns.specs.Values.{raisedBy}
 use Rattle.figures.specs.declared.Figure.{Figure}
@@ -52,13 +53,16 @@ pub record Gathered (t : Task) (figure : ℕ → ℕ → ℕ) (a n f : ℕ) (w :
   pub each : (g : ℕ) → g < n → item w (a + g) ≡ soFar t figure f g
 
 -- what a caller f brings to the chain of the function that its point p calls
-abbrev pub chainFigure : Task → ℕ → ℕ → ℕ
-chainFigure t f p = model.chain inBlocks t f + inBlocks (model.kept t f (suc p))
+abbrev pub chainFigure : Price → Task → ℕ → ℕ → ℕ
+chainFigure price t f p = model.chain (priceOf price) t f + priceOf price (model.kept t f (suc p))
 
--- of the n functions of t, those below f have all figures, and function f has those whose place is k or more
+-- each function has the chain along its callers below f
+abbrev pub ChainedTo : Price → List ℕ → Header → ℕ → Type 0
+ChainedTo price w h f = Gathered (taskOf w h) (chainFigure price (taskOf w h)) chainColumn (h .funcs) f w
+
+-- of the n functions of t, those below f have all figures but the chain, and function f has those whose place is k or more
 pub record FiguredTo (t : Task) (n f k : ℕ) (w : List ℕ) : Type 0 where
   pub away : Displaced t 0 n w
-  pub chain : Gathered t (chainFigure t) chainColumn n f w
   pub entry : Gathered t (model.high t) entryColumn n f w
   pub below : (which : Figure) → Points (figureOf which t) (columnOf which) f w
   pub own : (which : Figure) → k ≤ placeOf which → (p : ℕ) → p < sizeAt w f → item w (columnOf which + baseAt w f + p) ≡ figureOf which t f p
@@ -66,6 +70,16 @@ pub record FiguredTo (t : Task) (n f k : ℕ) (w : List ℕ) : Type 0 where
 pub record Worked (w : List ℕ) (h : Header) (f k : ℕ) : Type 0 where
   pub ready : Ready w h
   pub stands : FiguredTo (taskOf w h) (h .funcs) f k w
+
+-- the functions below f have all figures, and have raised the chain and E of those that they call
+pub record Done (price : Price) (w : List ℕ) (h : Header) (f : ℕ) : Type 0 where
+  pub worked : Worked w h f pointColumns
+  pub chained : ChainedTo price w h f
+  pub small : Small price
+
+-- w′ is w but for the columns of the points
+abbrev pub OnlyPoints : List ℕ → List ℕ → Type 0
+OnlyPoints w w′ = Changed highColumn (longestColumn - highColumn) w w′
 
 -- function f is being worked on
 pub record Working (w : List ℕ) (h : Header) (f k : ℕ) : Type 0 where

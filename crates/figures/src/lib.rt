@@ -1,21 +1,22 @@
 // The figures of a task that judge accepted, for every function and point: worked out in columns behind the tables, and read back as one record.
 // What costs work to find has a column; what is a difference or a sum is computed where it is read.
 ghost use mathlib.Core.Path.{_≡_};
-ghost use Prim.Native.Nat.{suc, _+_, _<_, _≤_};
+ghost use Prim.Native.Nat.{suc, _+_, _-_, _<_, _≤_};
 ghost use lib.ListN.{length};
 ghost use Rattle.model.specs.Limits.{workLength, mostStack};
-ghost use Rattle.model.specs.Sheet.{sheetOf};
 ghost use Rattle.tables.specs.Tables.{spanAt, taskOf};
 ghost use Rattle.tables.specs.Valid.{Kept, Settled};
+ghost use Rattle.prices.specs.Prices.{priceOf, mostPrice, Small};
 ghost use Rattle.columns.specs.Columns.{columnsEnd, OnlyColumns};
 ghost use Rattle.figures.specs.declared.Figure.the-variants.{Next, High};
 ghost use Rattle.columns.specs.Values.{mostChain};
 ghost use Rattle.columns.specs.Displaced.{Ready};
-ghost use Rattle.figures.specs.Figured.{Figured, figuredOf, funcFigures};
-ghost use Rattle.figures.specs.Steps.{placeOf, columnOf, pointColumns, Figures, Worked, Working, Due};
+ghost use Rattle.figures.specs.Figured.{Figured, figuredOf, sheetAt, funcFigures};
+ghost use Rattle.figures.specs.Steps.{placeOf, columnOf, pointColumns, Figures, Working, Due, ChainedTo, Done, OnlyPoints};
 pub use columns::Columns;
 use columns::Value;
 use model::Limits;
+use prices::Price;
 use tables::Header;
 use tables::Span;
 
@@ -142,7 +143,7 @@ fn write_figure(
     out: &mut [u32; Limits::POINTS],
 )
     requires { ⌜ Working (now work) h f (suc (placeOf which)) ⌝ }
-    ensures { λ r. ⌜ Working (now (work .exit)) h f (placeOf which) × OnlyColumns (now (work .entry)) (now (work .exit)) ⌝ }
+    ensures { λ r. ⌜ Working (now (work .exit)) h f (placeOf which) × OnlyPoints (now (work .entry)) (now (work .exit)) ⌝ }
 {
     let s = tables::span_at(work, f);
     figure_points(which, work, h, f, s, values, gens, kills, sets, state, out);
@@ -154,16 +155,17 @@ fn write_figure(
 fn raise_callees(
     work: &mut [u32],
     h: Header,
+    price: Price,
     f: usize,
     values: &mut [u32; Limits::POINTS],
     out: &mut [u32; Limits::POINTS],
 )
-    requires { ⌜ Working (now work) h f 0 ⌝ }
-    ensures { λ r. ⌜ Worked (now (work .exit)) h (f + 1) pointColumns × OnlyColumns (now (work .entry)) (now (work .exit)) ⌝ }
+    requires { ⌜ Working (now work) h f 0 × ChainedTo price (now work) h f × Small price ⌝ }
+    ensures { λ r. ⌜ Done price (now (work .exit)) h (f + 1) × OnlyColumns (now (work .entry)) (now (work .exit)) ⌝ }
 {
     let s = tables::span_at(work, f);
     let own = work[Columns::CHAIN + f];
-    columns::value_points(Value::Chained(own), work, h, s, values);
+    columns::value_points(Value::Chained(own, price), work, h, s, values);
     columns::value_points(Value::High, work, h, s, out);
     columns::raise(work, s, Columns::CHAIN, values);
     columns::raise(work, s, Columns::ENTRY, out);
@@ -195,7 +197,7 @@ fn write_figures(
     out: &mut [u32; Limits::POINTS],
 )
     requires { ⌜ Working (now work) h f pointColumns ⌝ }
-    ensures { λ r. ⌜ Working (now (work .exit)) h f 0 × OnlyColumns (now (work .entry)) (now (work .exit)) ⌝ }
+    ensures { λ r. ⌜ Working (now (work .exit)) h f 0 × OnlyPoints (now (work .entry)) (now (work .exit)) ⌝ }
 {
     let mut place = Columns::OF_POINTS;
     while 0 < place {
@@ -209,6 +211,7 @@ fn write_figures(
 fn figure_func(
     work: &mut [u32],
     h: Header,
+    price: Price,
     f: usize,
     values: &mut [u32; Limits::POINTS],
     gens: &mut [u64; Limits::POINTS],
@@ -217,17 +220,18 @@ fn figure_func(
     state: &mut [u8; Limits::POINTS],
     out: &mut [u32; Limits::POINTS],
 )
-    requires { ⌜ Working (now work) h f pointColumns ⌝ }
-    ensures { λ r. ⌜ Worked (now (work .exit)) h (f + 1) pointColumns × OnlyColumns (now (work .entry)) (now (work .exit)) ⌝ }
+    requires { ⌜ Done price (now work) h f × (f < h .funcs) ⌝ }
+    ensures { λ r. ⌜ Done price (now (work .exit)) h (f + 1) × OnlyColumns (now (work .entry)) (now (work .exit)) ⌝ }
 {
     write_figures(work, h, f, values, gens, kills, sets, state, out);
-    raise_callees(work, h, f, values, out);
+    raise_callees(work, h, price, f, values, out);
 }
 
 // The figures of every function, from the first to the last.
 fn figure_funcs(
     work: &mut [u32],
     h: Header,
+    price: Price,
     values: &mut [u32; Limits::POINTS],
     gens: &mut [u64; Limits::POINTS],
     kills: &mut [u64; Limits::POINTS],
@@ -235,13 +239,13 @@ fn figure_funcs(
     state: &mut [u8; Limits::POINTS],
     out: &mut [u32; Limits::POINTS],
 )
-    requires { ⌜ Worked (now work) h 0 pointColumns ⌝ }
-    ensures { λ r. ⌜ Worked (now (work .exit)) h (h .funcs) pointColumns × OnlyColumns (now (work .entry)) (now (work .exit)) ⌝ }
+    requires { ⌜ Done price (now work) h 0 ⌝ }
+    ensures { λ r. ⌜ Done price (now (work .exit)) h (h .funcs) × OnlyColumns (now (work .entry)) (now (work .exit)) ⌝ }
 {
     let n = h.funcs;
     let mut f = 0;
     while f < n {
-        figure_func(work, h, f, values, gens, kills, sets, state, out);
+        figure_func(work, h, price, f, values, gens, kills, sets, state, out);
         f += 1;
     }
 }
@@ -250,6 +254,7 @@ fn figure_funcs(
 fn figure_with(
     work: &mut [u32],
     h: Header,
+    price: Price,
     values: &mut [u32; Limits::POINTS],
     gens: &mut [u64; Limits::POINTS],
     kills: &mut [u64; Limits::POINTS],
@@ -257,20 +262,20 @@ fn figure_with(
     state: &mut [u8; Limits::POINTS],
     out: &mut [u32; Limits::POINTS],
 )
-    requires { ⌜ Ready (now work) h ⌝ }
-    ensures { λ r. ⌜ Figured (now (work .exit)) h × (taskOf (now (work .exit)) h ≡ taskOf (now (work .entry)) h)
+    requires { ⌜ Ready (now work) h × Small price ⌝ }
+    ensures { λ r. ⌜ Figured price (now (work .exit)) h × (taskOf (now (work .exit)) h ≡ taskOf (now (work .entry)) h)
         × Kept columnsEnd (now (work .entry)) (now (work .exit)) ⌝ }
 {
     columns::displacements(work, h, gens, kills, sets);
     columns::clear_column(work, Columns::CHAIN);
     columns::clear_column(work, Columns::ENTRY);
-    figure_funcs(work, h, values, gens, kills, sets, state, out);
+    figure_funcs(work, h, price, values, gens, kills, sets, state, out);
 }
 
-// Works out all figures of the task that the tables hold and keeps them in the columns. The task and everything past the columns are as they were.
-pub fn figure_task(work: &mut [u32], h: Header)
-    requires { ⌜ Settled (now work) h × (workLength ≤ length (now work)) ⌝ }
-    ensures { λ r. ⌜ Figured (now (work .exit)) h × (taskOf (now (work .exit)) h ≡ taskOf (now (work .entry)) h)
+// Works out all figures of the task that the tables hold, at this price of a move, and keeps them in the columns. The task and everything past the columns are as they were.
+pub fn figure_task(work: &mut [u32], h: Header, price: Price)
+    requires { ⌜ Settled (now work) h × (workLength ≤ length (now work)) × Small price ⌝ }
+    ensures { λ r. ⌜ Figured price (now (work .exit)) h × (taskOf (now (work .exit)) h ≡ taskOf (now (work .entry)) h)
         × Kept columnsEnd (now (work .entry)) (now (work .exit)) ⌝ }
 {
     let mut values = [0u32; Limits::POINTS];
@@ -282,6 +287,7 @@ pub fn figure_task(work: &mut [u32], h: Header)
     figure_with(
         work,
         h,
+        price,
         &mut values,
         &mut gens,
         &mut kills,
@@ -291,27 +297,42 @@ pub fn figure_task(work: &mut [u32], h: Header)
     );
 }
 
+// The price of a move of what a has above b.
+fn price_above(price: Price, a: u32, b: u32) -> u32
+    requires { ⌜ Small price × (a - b ≤ mostStack) ⌝ }
+    ensures { λ r. ⌜ (r ≡ priceOf price (a - b)) × (r ≤ mostPrice) ⌝ }
+{
+    price.of_move(columns::above(a, b))
+}
+
 fn cost_of(save: u32, reload: u32, later: u32, chain: u32) -> u32
-    requires { ⌜ (save ≤ mostStack) × (reload ≤ mostStack) × (later ≤ mostStack) × (chain ≤ mostChain) ⌝ }
+    requires { ⌜ (save ≤ mostPrice) × (reload ≤ mostPrice) × (later ≤ mostPrice) × (chain ≤ mostChain) ⌝ }
     ensures { λ r. ⌜ r ≡ save + reload + later + chain ⌝ }
 {
     save + reload + later + chain
 }
 
 // The figures of point p of function f, which is s.
-pub fn point_figures(work: &[u32], h: Header, f: usize, s: Span, p: usize) -> PointFigures
-    requires { ⌜ Figured (now work) h × (f < h .funcs) × (s ≡ spanAt (now work) f) × (p < s .size) ⌝ }
-    ensures { λ r. ⌜ figuredOf r ≡ sheetOf (taskOf (now (work .entry)) h) .at f p ⌝ }
+pub fn point_figures(
+    work: &[u32],
+    h: Header,
+    price: Price,
+    f: usize,
+    s: Span,
+    p: usize,
+) -> PointFigures
+    requires { ⌜ Figured price (now work) h × (f < h .funcs) × (s ≡ spanAt (now work) f) × (p < s .size) ⌝ }
+    ensures { λ r. ⌜ figuredOf r ≡ sheetAt price (taskOf (now (work .entry)) h) .at f p ⌝ }
 {
     let high = columns::figure_at(work, Columns::HIGH, s, p);
     let dead = columns::figure_at(work, Columns::DEAD, s, p);
     let need = columns::figure_at(work, Columns::NEED, s, p);
     let next = columns::figure_at(work, Columns::NEXT, s, p);
-    let fill = columns::figure_at(work, Columns::FILL, s, p);
     let chain = work[Columns::CHAIN + f];
-    let save = columns::above(high, dead);
-    let reload = columns::above(need, dead);
-    let later = columns::above(next, need);
+    let save = price_above(price, high, dead);
+    let reload = price_above(price, need, dead);
+    let later = price_above(price, next, need);
+    let fill = price.of_move(columns::figure_at(work, Columns::FILL, s, p));
     let cost = cost_of(save, reload, later, chain);
     PointFigures {
         high,
@@ -327,15 +348,15 @@ pub fn point_figures(work: &[u32], h: Header, f: usize, s: Span, p: usize) -> Po
 }
 
 // The figures of function f.
-pub fn func_figures(work: &[u32], h: Header, f: usize) -> FuncFigures
-    requires { ⌜ Figured (now work) h × (f < h .funcs) ⌝ }
-    ensures { λ r. ⌜ r ≡ funcFigures (taskOf (now (work .entry)) h) f ⌝ }
+pub fn func_figures(work: &[u32], h: Header, price: Price, f: usize) -> FuncFigures
+    requires { ⌜ Figured price (now work) h × (f < h .funcs) ⌝ }
+    ensures { λ r. ⌜ r ≡ funcFigures price (taskOf (now (work .entry)) h) f ⌝ }
 {
     let s = tables::span_at(work, f);
     let frame = s.frame;
     let shortest = work[Columns::SHORTEST + f];
     let longest = work[Columns::LONGEST + f];
-    let spill = columns::above(work[Columns::ENTRY + f] + frame, h.stack);
+    let spill = price_above(price, work[Columns::ENTRY + f] + frame, h.stack);
     let chain = work[Columns::CHAIN + f];
     FuncFigures {
         frame,

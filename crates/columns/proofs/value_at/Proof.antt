@@ -6,7 +6,8 @@ use Rattle.columns.proofs.value_at.Tie as tie
 chained-at-requires : tie.Need-chained-at-requires
 chained-at-requires c κs =
     let s = c .before .before .before .before .pre in
-    (s .0, s .1, s .2, s .3, rw (c .before .which .given .1) at (s .4))
+    let own = rw (c .before .which .given .1) at (s .4) in
+    (s .0, s .1, s .2, s .3, own .0, own .1)
 
 returns-5 : tie.Need-returns-5
 returns-5 c =

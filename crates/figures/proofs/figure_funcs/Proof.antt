@@ -4,26 +4,26 @@ use native.Mathlib.Omega.{arith}
 use mathlib.Core.Path.{_≡_, subst}
 use Rattle.columns.specs.Columns.{OnlyColumns}
 use Rattle.columns.proofs.Writes.{changed-none, changed-on}
-use Rattle.figures.specs.Steps.{pointColumns, Worked}
+use Rattle.figures.specs.Steps.{Done}
 use Rattle.figures.proofs.figure_funcs.Statement.{statement}
 use Rattle.figures.proofs.figure_funcs.Tie as tie
 
 abbrev Inv-loop : tie.InvT-loop
-Inv-loop work₀ h values₀ gens₀ kills₀ sets₀ state₀ out₀ n f₀ work values gens kills sets state out f =
-    (f ≤ n) × Worked work h f pointColumns × OnlyColumns work₀ work
+Inv-loop work₀ h price values₀ gens₀ kills₀ sets₀ state₀ out₀ n f₀ work values gens kills sets state out f =
+    (f ≤ n) × Done price work h f × OnlyColumns work₀ work
 
 abbrev μ-loop : tie.MeasureT-loop
-μ-loop work₀ h values₀ gens₀ kills₀ sets₀ state₀ out₀ n f₀ work values gens kills sets state out f = n - f
+μ-loop work₀ h price values₀ gens₀ kills₀ sets₀ state₀ out₀ n f₀ work values gens kills sets state out f = n - f
 
 figure-func-requires : tie.Need-figure-func-requires Inv-loop μ-loop
 figure-func-requires c κs =
     let l = c .before .before .before .before .before .before .before .before .loop in
-    record { worked = l .inv .1; below = omega (arith, c .before .before .before .before .before .before .before .loop-test .taken) }
+    (l .inv .1, omega (arith, c .before .before .before .before .before .before .before .loop-test .taken))
 
 add-f : tie.Need-add-f Inv-loop μ-loop
 add-f c =
     let c10 = c .before .before .before .before .before .before .before .before .before .before in
-    omega (arith, c10 .loop-test .taken, c10 .before .loop .inv .1 .ready .settled .holds .few)
+    omega (arith, c10 .loop-test .taken, c10 .before .loop .inv .1 .worked .ready .settled .holds .few)
 
 loop-less : tie.Need-loop-less Inv-loop μ-loop
 loop-less c =
@@ -39,9 +39,9 @@ loop-again c =
 returns : tie.Need-returns Inv-loop μ-loop
 returns c =
     let l = c .before .loop in
-    let h = c .before .before .before .args .h in
-    let e : l .f ≡ h .funcs = omega arith in
-    (subst (λ (n : ℕ). Worked (l .work) h n pointColumns) e (l .inv .1), l .inv .2)
+    let a = c .before .before .before .args in
+    let e : l .f ≡ a .h .funcs = omega arith in
+    (subst (λ (n : ℕ). Done (a .price) (l .work) (a .h) n) e (l .inv .1), l .inv .2)
 
 pub figure-funcs-spec : {M : Type 1} → statement M
 figure-funcs-spec =

@@ -1,29 +1,30 @@
 -- The columns have the figures of the function.
 use native.Mathlib.Omega.{arith}
 use borrow.Author.Needs.{needs}
-use Rattle.figures.proofs.Read.{small-frame, small-entry, func-figures-are}
+use Rattle.figures.proofs.Read.{small-frame, small-entry, small-spill, func-figures-are}
 use Rattle.figures.proofs.func_figures.Statement.{statement}
 use Rattle.figures.proofs.func_figures.Tie as tie
 
-add-above-2 : tie.Need-add-above-2
-add-above-2 c =
+add-price-above-2 : tie.Need-add-price-above-2
+add-price-above-2 c =
     let a = c .before .before .before .before .before .pre in
-    omega (
-      arith,
-      small-frame (a .0) (a .1) (c .before .before .before .span-at .ensures),
-      small-entry (a .0) (a .1)
-          (c .before .before .before .span-at .ensures),
-    )
+    let e = c .before .before .before .span-at .ensures in
+    omega (arith, small-frame (a .0) (a .1) e, small-entry (a .0) (a .1) e)
+
+price-above-requires : tie.Need-price-above-requires
+price-above-requires c κs =
+    let a = c .before .before .before .before .before .pre in
+    (a .0 .small, small-spill (a .0) (a .1) (c .before .before .before .span-at .ensures))
 
 returns : tie.Need-returns
 returns c =
     let a = c .before .before .before .before .before .before .before .pre in
-    func-figures-are (a .0) (a .1) (c .before .before .before .before .before .span-at .ensures) (c .before .above .ensures)
+    func-figures-are (a .0) (a .1) (c .before .before .before .before .before .span-at .ensures) (c .before .price-above .ensures .0)
 
 pub func-figures-spec : {M : Type 1} → statement M
 func-figures-spec =
     tie.close
     (tie.spec
     (λ c κs. search needs) (λ c. search needs) (λ c. search needs) (λ c. search needs) (λ c. search needs) (λ c. search needs) (λ c. search needs)
-    (λ c. search needs) (λ c. search needs) (λ c. search needs) add-above-2 (λ c κs. search needs) (λ c. search needs) (λ c. search needs)
+    (λ c. search needs) (λ c. search needs) (λ c. search needs) add-price-above-2 price-above-requires (λ c. search needs) (λ c. search needs)
     (λ c. search needs) returns)

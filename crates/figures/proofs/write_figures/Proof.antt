@@ -5,15 +5,14 @@ use mathlib.Core.List.{List}
 use mathlib.Core.Path.{_≡_, subst, sym}
 use borrow.Author.Needs.{needs}
 use Rattle.tables.specs.declared.Header.{Header}
-use Rattle.columns.specs.Columns.{OnlyColumns}
 use Rattle.columns.proofs.Writes.{changed-none, changed-on}
-use Rattle.figures.specs.Steps.{pointColumns, Working}
+use Rattle.figures.specs.Steps.{pointColumns, OnlyPoints, Working}
 use Rattle.figures.proofs.write_figures.Statement.{statement}
 use Rattle.figures.proofs.write_figures.Tie as tie
 
 abbrev Inv-loop : tie.InvT-loop
 Inv-loop work₀ h f values₀ gens₀ kills₀ sets₀ state₀ out₀ place₀ work values gens kills sets state out place =
-    (place ≤ pointColumns) × Working work h f place × OnlyColumns work₀ work
+    (place ≤ pointColumns) × Working work h f place × OnlyPoints work₀ work
 
 abbrev μ-loop : tie.MeasureT-loop
 μ-loop work₀ h f values₀ gens₀ kills₀ sets₀ state₀ out₀ place₀ work values gens kills sets state out place = place

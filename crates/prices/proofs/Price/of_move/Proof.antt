@@ -19,8 +19,7 @@ add-result c =
 
 returns-2 : tie.Need-returns-2
 returns-2 c =
-    let a = c .before .before .before in
-    (
+    let a = c .before .before .before in (
       price-some (a .args .self) (a .args .blocks) (c .before .before .if1 .left),
       omega (arith, a .pre .0 .start, each-small (a .args .self) (a .args .blocks) (a .pre .0) (a .pre .1)),
     )
