@@ -6,19 +6,21 @@ ghost use Rattle.model.specs.Text.{bytes};
 ghost use Rattle.model.specs.Sheet.{row, reportText};
 ghost use Rattle.model.specs.Services.{over};
 ghost use Rattle.tables.specs.Tables.{sizeAt, taskOf};
+ghost use Rattle.prices.specs.Prices.{priceOf};
 ghost use Rattle.print.specs.Print.{Wrote};
 ghost use Rattle.figures.specs.Figured.{Figured};
 ghost use Rattle.report.specs.Report.{InFunc, pointText, pointsText, headText, funcText, funcsText};
 ghost use Rattle.report.specs.Report.{mostPointText, mostHeadText, mostReport};
+use prices::Price;
 use tables::Header;
 use tables::Span;
 
 // The numbers of the line of point p of function f, which is s.
-fn point_numbers(work: &[u32], h: Header, f: usize, s: Span, p: usize) -> [u32; 10]
-    requires { ⌜ InFunc (now work) h f s × (p < s .size) ⌝ }
-    ensures { λ r. ⌜ (row (bytes "  (at") r ≡ pointText (taskOf (now (work .entry)) h) f p) × (length r ≡ 10) ⌝ }
+fn point_numbers(work: &[u32], h: Header, price: Price, f: usize, s: Span, p: usize) -> [u32; 10]
+    requires { ⌜ InFunc price (now work) h f s × (p < s .size) ⌝ }
+    ensures { λ r. ⌜ (row (bytes "  (at") r ≡ pointText price (taskOf (now (work .entry)) h) f p) × (length r ≡ 10) ⌝ }
 {
-    let x = figures::point_figures(work, h, f, s, p);
+    let x = figures::point_figures(work, h, price, f, s, p);
     [
         p as u32,
         x.high,
@@ -34,11 +36,11 @@ fn point_numbers(work: &[u32], h: Header, f: usize, s: Span, p: usize) -> [u32; 
 }
 
 // How many bytes the line has.
-fn point_length(work: &[u32], h: Header, f: usize, s: Span, p: usize) -> usize
-    requires { ⌜ InFunc (now work) h f s × (p < s .size) ⌝ }
-    ensures { λ r. ⌜ (r ≡ length (pointText (taskOf (now (work .entry)) h) f p)) × (r ≤ mostPointText) ⌝ }
+fn point_length(work: &[u32], h: Header, price: Price, f: usize, s: Span, p: usize) -> usize
+    requires { ⌜ InFunc price (now work) h f s × (p < s .size) ⌝ }
+    ensures { λ r. ⌜ (r ≡ length (pointText price (taskOf (now (work .entry)) h) f p)) × (r ≤ mostPointText) ⌝ }
 {
-    print::row_length(b"  (at", &point_numbers(work, h, f, s, p))
+    print::row_length(b"  (at", &point_numbers(work, h, price, f, s, p))
 }
 
 // Writes the line from byte at on, and returns where it ends.
@@ -47,113 +49,123 @@ fn put_point(
     at: usize,
     work: &[u32],
     h: Header,
+    price: Price,
     f: usize,
     s: Span,
     p: usize,
 ) -> usize
-    requires { ⌜ InFunc (now work) h f s × (p < s .size) × (at + length (pointText (taskOf (now work) h) f p) ≤ length (now out)) ⌝ }
-    ensures { λ r. ⌜ Wrote at (pointText (taskOf (now (work .entry)) h) f p) (now (out .entry)) r (now (out .exit)) ⌝ }
+    requires { ⌜ InFunc price (now work) h f s × (p < s .size) × (at + length (pointText price (taskOf (now work) h) f p) ≤ length (now out)) ⌝ }
+    ensures { λ r. ⌜ Wrote at (pointText price (taskOf (now (work .entry)) h) f p) (now (out .entry)) r (now (out .exit)) ⌝ }
 {
-    print::put_row(out, at, b"  (at", &point_numbers(work, h, f, s, p))
+    print::put_row(out, at, b"  (at", &point_numbers(work, h, price, f, s, p))
 }
 
 // The numbers of the line that opens function f.
-fn func_numbers(work: &[u32], h: Header, f: usize) -> [u32; 6]
-    requires { ⌜ Figured (now work) h × (f < h .funcs) ⌝ }
-    ensures { λ r. ⌜ (row (bytes "  (func") r ≡ headText (taskOf (now (work .entry)) h) f) × (length r ≡ 6) ⌝ }
+fn func_numbers(work: &[u32], h: Header, price: Price, f: usize) -> [u32; 6]
+    requires { ⌜ Figured price (now work) h × (f < h .funcs) ⌝ }
+    ensures { λ r. ⌜ (row (bytes "  (func") r ≡ headText price (taskOf (now (work .entry)) h) f) × (length r ≡ 6) ⌝ }
 {
-    let x = figures::func_figures(work, h, f);
+    let x = figures::func_figures(work, h, price, f);
     [f as u32, x.frame, x.shortest, x.longest, x.spill, x.chain]
 }
 
 // How many bytes the lines of the points of function f have, which is s.
-fn points_length(work: &[u32], h: Header, f: usize, s: Span) -> usize
-    requires { ⌜ InFunc (now work) h f s ⌝ }
-    ensures { λ r. ⌜ (r ≡ length (pointsText (taskOf (now (work .entry)) h) f (s .size))) × (r ≤ mostPointText * s .size) ⌝ }
+fn points_length(work: &[u32], h: Header, price: Price, f: usize, s: Span) -> usize
+    requires { ⌜ InFunc price (now work) h f s ⌝ }
+    ensures { λ r. ⌜ (r ≡ length (pointsText price (taskOf (now (work .entry)) h) f (s .size))) × (r ≤ mostPointText * s .size) ⌝ }
 {
     let size = s.size;
     let mut n: usize = 0;
     let mut p: usize = 0;
     while p < size {
-        n += point_length(work, h, f, s, p);
+        n += point_length(work, h, price, f, s, p);
         p += 1;
     }
     n
 }
 
 // Writes them from byte at on, and returns where they end.
-fn put_points(out: &mut [u8], at: usize, work: &[u32], h: Header, f: usize, s: Span) -> usize
-    requires { ⌜ InFunc (now work) h f s × (at + length (pointsText (taskOf (now work) h) f (s .size)) ≤ length (now out)) ⌝ }
-    ensures { λ r. ⌜ Wrote at (pointsText (taskOf (now (work .entry)) h) f (s .size)) (now (out .entry)) r (now (out .exit)) ⌝ }
+fn put_points(
+    out: &mut [u8],
+    at: usize,
+    work: &[u32],
+    h: Header,
+    price: Price,
+    f: usize,
+    s: Span,
+) -> usize
+    requires { ⌜ InFunc price (now work) h f s × (at + length (pointsText price (taskOf (now work) h) f (s .size)) ≤ length (now out)) ⌝ }
+    ensures { λ r. ⌜ Wrote at (pointsText price (taskOf (now (work .entry)) h) f (s .size)) (now (out .entry)) r (now (out .exit)) ⌝ }
 {
     let size = s.size;
     let mut end = at;
     let mut p: usize = 0;
     while p < size {
-        end = put_point(out, end, work, h, f, s, p);
+        end = put_point(out, end, work, h, price, f, s, p);
         p += 1;
     }
     end
 }
 
 // How many bytes the lines of function f have.
-fn func_length(work: &[u32], h: Header, f: usize) -> usize
-    requires { ⌜ Figured (now work) h × (f < h .funcs) ⌝ }
-    ensures { λ r. ⌜ (r ≡ length (funcText (taskOf (now (work .entry)) h) f))
+fn func_length(work: &[u32], h: Header, price: Price, f: usize) -> usize
+    requires { ⌜ Figured price (now work) h × (f < h .funcs) ⌝ }
+    ensures { λ r. ⌜ (r ≡ length (funcText price (taskOf (now (work .entry)) h) f))
         × (r ≤ mostHeadText + mostPointText * sizeAt (now (work .entry)) f) ⌝ }
 {
     let s = tables::span_at(work, f);
-    print::row_length(b"  (func", &func_numbers(work, h, f)) + points_length(work, h, f, s)
+    print::row_length(b"  (func", &func_numbers(work, h, price, f))
+        + points_length(work, h, price, f, s)
 }
 
 // Writes them from byte at on, and returns where they end.
-fn put_func(out: &mut [u8], at: usize, work: &[u32], h: Header, f: usize) -> usize
-    requires { ⌜ Figured (now work) h × (f < h .funcs)
-        × (at + length (funcText (taskOf (now work) h) f) ≤ length (now out)) ⌝ }
-    ensures { λ r. ⌜ Wrote at (funcText (taskOf (now (work .entry)) h) f) (now (out .entry)) r (now (out .exit)) ⌝ }
+fn put_func(out: &mut [u8], at: usize, work: &[u32], h: Header, price: Price, f: usize) -> usize
+    requires { ⌜ Figured price (now work) h × (f < h .funcs)
+        × (at + length (funcText price (taskOf (now work) h) f) ≤ length (now out)) ⌝ }
+    ensures { λ r. ⌜ Wrote at (funcText price (taskOf (now (work .entry)) h) f) (now (out .entry)) r (now (out .exit)) ⌝ }
 {
     let s = tables::span_at(work, f);
-    let end = print::put_row(out, at, b"  (func", &func_numbers(work, h, f));
-    put_points(out, end, work, h, f, s)
+    let end = print::put_row(out, at, b"  (func", &func_numbers(work, h, price, f));
+    put_points(out, end, work, h, price, f, s)
 }
 
 // How many bytes the report has.
-pub fn report_length(work: &[u32], h: Header) -> usize
-    requires { ⌜ Figured (now work) h ⌝ }
-    ensures { λ r. ⌜ (r ≡ length (reportText (taskOf (now (work .entry)) h))) × (r ≤ mostReport) ⌝ }
+pub fn report_length(work: &[u32], h: Header, price: Price) -> usize
+    requires { ⌜ Figured price (now work) h ⌝ }
+    ensures { λ r. ⌜ (r ≡ length (reportText (priceOf price) (taskOf (now (work .entry)) h))) × (r ≤ mostReport) ⌝ }
 {
     let funcs = h.funcs;
     let mut n = b"(report\n".len() + b")\n".len();
     let mut f: usize = 0;
     while f < funcs {
-        n += func_length(work, h, f);
+        n += func_length(work, h, price, f);
         f += 1;
     }
     n
 }
 
 // Writes the lines of all functions from byte at on, and returns where they end.
-fn put_funcs(out: &mut [u8], at: usize, work: &[u32], h: Header) -> usize
-    requires { ⌜ Figured (now work) h × (at + length (funcsText (taskOf (now work) h) (h .funcs)) ≤ length (now out)) ⌝ }
-    ensures { λ r. ⌜ Wrote at (funcsText (taskOf (now (work .entry)) h) (h .funcs)) (now (out .entry)) r (now (out .exit)) ⌝ }
+fn put_funcs(out: &mut [u8], at: usize, work: &[u32], h: Header, price: Price) -> usize
+    requires { ⌜ Figured price (now work) h × (at + length (funcsText price (taskOf (now work) h) (h .funcs)) ≤ length (now out)) ⌝ }
+    ensures { λ r. ⌜ Wrote at (funcsText price (taskOf (now (work .entry)) h) (h .funcs)) (now (out .entry)) r (now (out .exit)) ⌝ }
 {
     let funcs = h.funcs;
     let mut end = at;
     let mut f: usize = 0;
     while f < funcs {
-        end = put_func(out, end, work, h, f);
+        end = put_func(out, end, work, h, price, f);
         f += 1;
     }
     end
 }
 
 // Writes the report over the first bytes of the output, and returns how many they are.
-pub fn put_report(output: &mut [u8], work: &[u32], h: Header) -> usize
-    requires { ⌜ Figured (now work) h × (length (reportText (taskOf (now work) h)) ≤ length (now output)) ⌝ }
-    ensures { λ r. ⌜ (r ≡ length (reportText (taskOf (now (work .entry)) h)))
-        × (now (output .exit) ≡ over (reportText (taskOf (now (work .entry)) h)) (now (output .entry))) ⌝ }
+pub fn put_report(output: &mut [u8], work: &[u32], h: Header, price: Price) -> usize
+    requires { ⌜ Figured price (now work) h × (length (reportText (priceOf price) (taskOf (now work) h)) ≤ length (now output)) ⌝ }
+    ensures { λ r. ⌜ (r ≡ length (reportText (priceOf price) (taskOf (now (work .entry)) h)))
+        × (now (output .exit) ≡ over (reportText (priceOf price) (taskOf (now (work .entry)) h)) (now (output .entry))) ⌝ }
 {
     let first = print::put(output, 0, b"(report\n");
-    let end = put_funcs(output, first, work, h);
+    let end = put_funcs(output, first, work, h, price);
     print::put(output, end, b")\n")
 }

@@ -15,11 +15,12 @@ use Rattle.model.specs.Rows.{refuse, rowVerdict}
 use Rattle.model.specs.Task.{Task, func, point}
 use Rattle.model.specs.Core.{Core}
 use Rattle.model.specs.Refusal.{isEither, eventRows}
-use Rattle.model.specs.Sheet.{sheetOf}
 use Rattle.model.specs.Plain.{Frame, Act, takes, preempted, act}
 use Rattle.model.specs.Run.{Place, runningPlace, stepTurn, stepBound, turnAt, turn, eventBound}
 use Rattle.tables.specs.declared.Header.{Header}
 use Rattle.tables.specs.Tables.{taskOf}
+use Rattle.prices.specs.declared.Price.{Price}
+use Rattle.figures.specs.Figured.{sheetAt}
 use Rattle.machine.specs.Moves.{coreOf}
 use Rattle.turns.specs.declared.State.{State}
 use Rattle.turns.specs.declared.Turned.{Turned}
@@ -38,21 +39,21 @@ act-preempt : (k v : ℕ) → (k ≡ 0 → ⊥) → actOf k v ≡ preempted v
 unfolding act
 act-preempt k v n = rw (ne-eqb k 0 n) refl
 
-module _ (w : List ℕ) (h : Header) (x : State) (cache memory : List ℕ) (some : 0 < x .depth) where
+module _ (price : Price) (w : List ℕ) (h : Header) (x : State) (cache memory : List ℕ) (some : 0 < x .depth) where
   abbrev t : Task
   t = taskOf w h
 
   -- the turn of an event, by what it asks for
-  turn-of : (a : Act) → turn t (sheetOf t) (stateOf w x cache memory) a
-      ≡ turnAt t (sheetOf t) (record { fn = x .f; at = x .p } ∷ placesIn w (x .depth - 1)) (coreOf (x .machine) cache memory) a
+  turn-of : (a : Act) → turn t (sheetAt price t) (stateOf w x cache memory) a
+      ≡ turnAt t (sheetAt price t) (record { fn = x .f; at = x .p } ∷ placesIn w (x .depth - 1)) (coreOf (x .machine) cache memory) a
   unfolding turn
   turn-of a =
-      ap (λ (fs : List Place). turnAt t (sheetOf t) fs (coreOf (x .machine) cache memory) a) (frames-some w (x .depth) (x .f) (x .p) some)
+      ap (λ (fs : List Place). turnAt t (sheetAt price t) fs (coreOf (x .machine) cache memory) a) (frames-some w (x .depth) (x .f) (x .p) some)
 
   pub step-turns : {r : Turned} {w′ cache′ memory′ : List ℕ} (y : Point) (k v : ℕ) → point (func t (x .f)) (x .p) ≡ y → k ≡ 0
-      → Steps t x y v w cache memory r w′ cache′ memory′
+      → Steps (sheetAt price t) t x y v w cache memory r w′ cache′ memory′
       → Stays w w′
-      → Turns w h x cache memory (actOf k v) r w′ cache′ memory′
+      → Turns price w h x cache memory (actOf k v) r w′ cache′ memory′
   unfolding eventBound
   step-turns y k v i e d s =
       rw (act-step k v e)
@@ -63,14 +64,14 @@ module _ (w : List ℕ) (h : Header) (x : State) (cache memory : List ℕ) (some
             ∙ sym (turn-of (takes v));
         bound = λ fs j.
             d .bound
-            ∙ ap (stepBound (sheetOf t) (x .f) (x .p)) (sym i)
-            ∙ ap (λ (gs : List Frame). eventBound t (sheetOf t) gs (takes v)) (sym (top-of w (x .depth) (x .f) (x .p) fs some j .whole));
+            ∙ ap (stepBound (sheetAt price t) (x .f) (x .p)) (sym i)
+            ∙ ap (λ (gs : List Frame). eventBound t (sheetAt price t) gs (takes v)) (sym (top-of w (x .depth) (x .f) (x .p) fs some j .whole));
         stays = s;
       })
 
   pub preempt-turns : {r : Turned} {cache′ memory′ : List ℕ} (k v : ℕ) → (k ≡ 0 → ⊥)
-      → IsPreemption t x v w cache memory r cache′ memory′
-      → Turns w h x cache memory (actOf k v) r w cache′ memory′
+      → IsPreemption (sheetAt price t) t x v w cache memory r cache′ memory′
+      → Turns price w h x cache memory (actOf k v) r w cache′ memory′
   unfolding eventBound
   preempt-turns k v n d =
       rw (act-preempt k v n)
@@ -78,7 +79,7 @@ module _ (w : List ℕ) (h : Header) (x : State) (cache memory : List ℕ) (some
         turn = d .turn ∙ sym (turn-of (preempted v));
         bound = λ fs j.
             d .bound
-            ∙ ap (λ (gs : List Frame). eventBound t (sheetOf t) gs (preempted v)) (sym (top-of w (x .depth) (x .f) (x .p) fs some j .whole));
+            ∙ ap (λ (gs : List Frame). eventBound t (sheetAt price t) gs (preempted v)) (sym (top-of w (x .depth) (x .f) (x .p) fs some j .whole));
         stays = stays-same w;
       })
 

@@ -12,7 +12,6 @@ use Rattle.model.specs.declared.Point.the-variants.{Load, Store, Call, Ensure}
 use Rattle.model.specs.Limits.{mostFuncs, mostPoints, mostInAll}
 use Rattle.model.specs.Task.{Task, size, func, point}
 use Rattle.model.specs.Walk.{called, touches}
-use Rattle.model.specs.Sheet.{sheetOf}
 use Rattle.model.specs.Plain.{Frame}
 use Rattle.model.specs.Run.{Place}
 use Rattle.model.specs.WellFormed.{WellFormed}
@@ -26,6 +25,8 @@ use Rattle.tables.specs.declared.Span.{Span}
 use Rattle.tables.specs.Layout.{tablesLength}
 use Rattle.tables.specs.Tables.{pointAt, baseAt, sizeAt, spanAt, taskOf}
 use Rattle.tables.proofs.Laws.{size-is, frame-is, point-is, count-is, stacked-within}
+use Rattle.prices.specs.declared.Price.{Price}
+use Rattle.figures.specs.Figured.{sheetAt}
 use Rattle.machine.specs.Moves.{coreOf, mostAddress, Good}
 use Rattle.machine.proofs.Kept.{window-good, window-frame}
 use Rattle.turns.specs.declared.State.{State}
@@ -82,7 +83,7 @@ length-places (x ∷ fs) = ap suc (length-places fs)
 stands-in : {t : Task} {x : Frame} {fs : List Frame} → Standing t (x ∷ fs) → In t x × Below t (x .fn) fs
 stands-in (Standing.runs i b) = (i, b)
 
-module _ {w : List ℕ} {h : Header} {x : State} {cache memory : List ℕ} (k : Runs w h x cache memory) (some : 0 < x .depth) where
+module _ {price : Price} {w : List ℕ} {h : Header} {x : State} {cache memory : List ℕ} (k : Runs price w h x cache memory) (some : 0 < x .depth) where
   abbrev t : Task
   t = taskOf w h
 
@@ -95,9 +96,9 @@ module _ {w : List ℕ} {h : Header} {x : State} {cache memory : List ℕ} (k : 
   abbrev frame : Frame
   frame = record { fn = x .f; at = x .p; numbers = top .numbers }
 
-  runs-top : Running t (sheetOf t) (k .sound .ground) (frame ∷ top .rest) (coreOf (x .machine) cache memory)
+  runs-top : Running t (sheetAt price t) (k .sound .ground) (frame ∷ top .rest) (coreOf (x .machine) cache memory)
   runs-top =
-      subst (λ (fs : List Frame). Running t (sheetOf t) (k .sound .ground) fs (coreOf (x .machine) cache memory)) (top .whole) (k .running)
+      subst (λ (fs : List Frame). Running t (sheetAt price t) (k .sound .ground) fs (coreOf (x .machine) cache memory)) (top .whole) (k .running)
 
   top-in : In t frame
   top-in = stands-in (runs-top .standing) .0
@@ -112,14 +113,14 @@ module _ {w : List ℕ} {h : Header} {x : State} {cache memory : List ℕ} (k : 
   at-within = omega (arith, top-in .at-in, size-is w h (x .f) fn-within)
 
   pub runs-good : Good (coreOf (x .machine) cache memory)
-  runs-good = window-good t (sheetOf t) _ _ (formed .shaped .stack-low) (runs-top .window)
+  runs-good = window-good t (sheetAt price t) _ _ (formed .shaped .stack-low) (runs-top .window)
 
   pub depth-few : x .depth ≤ mostFuncs
   depth-few =
       let e = sym (length-callers w (x .depth - 1)) ∙ ap length (top .below) ∙ length-places (top .rest) in
       omega (arith, e, below-few formed top-below, fn-within, k .figured .settled .holds .few)
 
-  pub runs-inside : (s : Span) → s ≡ spanAt w (x .f) → Inside w h x s
+  pub runs-inside : (s : Span) → s ≡ spanAt w (x .f) → Inside price w h x s
   runs-inside s e =
       let z : s .size ≡ sizeAt w (x .f) = ap (λ (y : Span). y .size) e in
       record { figured = k .figured; some = some; fn-in = fn-within; span = e; at-in = omega (arith, z, at-within) }
@@ -128,11 +129,11 @@ module _ {w : List ℕ} {h : Header} {x : State} {cache memory : List ℕ} (k : 
 
   touch-reaches : (o : ℕ) → T (touches (func t (x .f)) o (x .p)) → x .p < mostPoints → length memory ≤ mostAddress → Reaches x cache o
   touch-reaches o j l m =
-      let c = touched-cached t (sheetOf t) formed (k .sound) frame (top .rest) _ o top-in j (runs-top .window) in
+      let c = touched-cached t (sheetAt price t) formed (k .sound) frame (top .rest) _ o top-in j (runs-top .window) in
       record { some = some; small = l; blocks = runs-good .nonempty; address = omega (arith, c .1, runs-good .inside) }
 
 -- what a run gives at any time
-pub runs-placed : {w : List ℕ} {h : Header} {x : State} {cache memory : List ℕ} → Runs w h x cache memory → Placed w h x
+pub runs-placed : {price : Price} {w : List ℕ} {h : Header} {x : State} {cache memory : List ℕ} → Runs price w h x cache memory → Placed w h x
 runs-placed k = record { settled = k .figured .settled; fn-in = λ i. fn-within k i; at-in = λ i. at-within k i }
 
 -- ---- the point at which the running frame stands
@@ -153,7 +154,7 @@ module _ {w : List ℕ} {h : Header} {x : State} (k : Placed w h x) (some : 0 < 
 
 -- ---- each kind of point
 
-module _ {w : List ℕ} {h : Header} {x : State} {cache memory : List ℕ} {s : Span} {y : Point} (k : StandsAt w h x cache memory s y) where
+module _ {price : Price} {w : List ℕ} {h : Header} {x : State} {cache memory : List ℕ} {s : Span} {y : Point} (k : StandsAt price w h x cache memory s y) where
   pub load-given : {o : ℕ} → y ≡ Load o → length memory ≤ mostAddress → Reaches x cache o
   load-given {o} e m =
       let i = k .here ∙ e in
@@ -163,7 +164,7 @@ module _ {w : List ℕ} {h : Header} {x : State} {cache memory : List ℕ} {s : 
   store-given {o} e m =
       let i = k .here ∙ e in touch-reaches (k .runs) (k .inside .some) o (rw i (eqb-refl o)) (inside-small (k .inside)) m
 
-  pub call-given : {g : ℕ} → y ≡ Call g → Enters w h x cache memory g
+  pub call-given : {g : ℕ} → y ≡ Call g → Enters price w h x cache memory g
   call-given {g} e =
       let r = k .runs in
       let some = k .inside .some in
@@ -180,7 +181,7 @@ module _ {w : List ℕ} {h : Header} {x : State} {cache memory : List ℕ} {s : 
         small = inside-small (k .inside);
         callee = omega (arith, l .1, count-is w h);
         good = runs-good r some;
-        room = room-below t (sheetOf t) m (r .sound) (frame r some) _ _ g j (top-below r some) i (runs-top r some .window);
+        room = room-below t (sheetAt price t) m (r .sound) (frame r some) _ _ g j (top-below r some) i (runs-top r some .window);
       }
 
   -- the frame that runs lies in the memory

@@ -13,7 +13,7 @@ use Rattle.model.specs.Task.{Task, size, func, point}
 use Rattle.model.specs.Walk.{called}
 use Rattle.model.specs.Core.{Core, idle}
 use Rattle.model.specs.Figures as model
-use Rattle.model.specs.Sheet.{Sheet, sheetOf, inBlocks}
+use Rattle.model.specs.Sheet.{Sheet}
 use Rattle.model.specs.Plain.{Frame, Act, takes, preempted, afterEvent, firstFrames}
 use Rattle.model.specs.Run as run
 use Rattle.model.specs.Run.{runningPlace, stepTurn, turn, eventBound}
@@ -24,7 +24,7 @@ use Rattle.theory.proofs.Frames.{places, In, Standing, Window}
 use Rattle.theory.proofs.Window.{ensures-frame, window-idle}
 use Rattle.theory.proofs.Fair.{Running, fair-event, runs-start}
 use Rattle.theory.proofs.Lawful.{sound}
-use Rattle.theory.proofs.Prices.{price-blocks}
+use Rattle.theory.proofs.Prices.{price-moves}
 use Rattle.tables.specs.declared.Header.{Header}
 use Rattle.tables.specs.Layout.{firstTable, secondTable, frameTable, baseTable, sizeTable}
 use Rattle.tables.specs.Tables.{item, pointOf, baseAt, sizeAt, taskOf}
@@ -32,8 +32,10 @@ use Rattle.tables.specs.Valid.{Holds}
 use Rattle.tables.proofs.Laws.{stacked-within}
 use Rattle.tables.proofs.Writes.{Agree}
 use Rattle.tables.proofs.Valid.{task-same, settled-same}
+use Rattle.prices.specs.declared.Price.{Price}
+use Rattle.prices.specs.Prices.{priceOf}
 use Rattle.figures.specs.Columns.{columnsEnd, Points, Funcs}
-use Rattle.figures.specs.Figured.{Figured}
+use Rattle.figures.specs.Figured.{Figured, sheetAt}
 use Rattle.machine.specs.Moves.{coreOf}
 use Rattle.machine.proofs.Kept.{reserve-blocks, ensure-blocks}
 use Rattle.turns.specs.declared.State.{State}
@@ -80,15 +82,16 @@ module _ {w w′ : List ℕ} {h : Header} (k : Holds w h) (a : Stays w w′) whe
   }
 
 -- figures that a service reads stay figures
-pub figured-same : {w w′ : List ℕ} {h : Header} → Figured w h → Stays w w′ → Figured w′ h
-figured-same {w} {w′} {h} k a =
+pub figured-same : {price : Price} {w w′ : List ℕ} {h : Header} → Figured price w h → Stays w w′ → Figured price w′ h
+figured-same {price} {w} {w′} {h} k a =
     let s = k .settled .holds in record {
       settled = settled-same s (agree s a) (a .kept .size) (k .settled);
       room = omega (arith, k .room, a .kept .size);
+      small = k .small;
       longest = funcs-stay s a (λ t. model.longest t) _ (omega arith) (k .longest);
       shortest = funcs-stay s a (λ t. model.shortest t) _ (omega arith) (k .shortest);
       entry = funcs-stay s a (λ t. model.entry t) _ (omega arith) (k .entry);
-      chain = funcs-stay s a (λ t. model.chain inBlocks t) _ (omega arith) (k .chain);
+      chain = funcs-stay s a (λ t. model.chain (priceOf price) t) _ (omega arith) (k .chain);
       high = points-stay s a (λ t. model.high t) _ (omega arith) (k .high);
       dead = points-stay s a (λ t f. model.dead (func t f)) _ (omega arith) (k .dead);
       need = points-stay s a (λ t f. model.need (func t f)) _ (omega arith) (k .need);
@@ -99,12 +102,12 @@ figured-same {w} {w′} {h} k a =
 -- ---- a state that a run can be in
 
 -- what a loop goes on with after an event: k is the state before it, and r what it returned
-pub record Goes {w : List ℕ} {h : Header} {x : State} {cache memory : List ℕ} (k : Runs w h x cache memory) (a : Act) (r : Turned)
+pub record Goes {price : Price} {w : List ℕ} {h : Header} {x : State} {cache memory : List ℕ} (k : Runs price w h x cache memory) (a : Act) (r : Turned)
     (w′ cache′ memory′ : List ℕ) : Type 0 where
-  pub runs : Runs w′ h (r .state) cache′ memory′
+  pub runs : Runs price w′ h (r .state) cache′ memory′
   pub frames : runs .frames ≡ afterEvent (taskOf w h) (k .frames) a
   pub task : taskOf w′ h ≡ taskOf w h
-  pub bound : r .bound ≡ eventBound (taskOf w h) (sheetOf (taskOf w h)) (k .frames) a
+  pub bound : r .bound ≡ eventBound (taskOf w h) (sheetAt price (taskOf w h)) (k .frames) a
   pub out-few : r .out ≤ mostStack
   pub back-few : r .back ≤ mostStack
 
@@ -141,30 +144,30 @@ module _ (t : Task) (s : Sheet) (f : WellFormed t) where
   few-event (x ∷ fs) c (takes v) (Standing.runs i b) w = few-step x fs c (point (func t (x .fn)) (x .at)) v refl i w
   few-event (x ∷ fs) c (preempted v) (Standing.runs i b) w = record { out = omega (arith, w .fits); back = omega (arith, w .fits) }
 
-module _ {w : List ℕ} {h : Header} {x : State} {cache memory : List ℕ} (k : Runs w h x cache memory) {a : Act} {r : Turned} {w′ cache′ memory′ : List ℕ}
-    (u : Turns w h x cache memory a r w′ cache′ memory′) where
+module _ {price : Price} {w : List ℕ} {h : Header} {x : State} {cache memory : List ℕ} (k : Runs price w h x cache memory) {a : Act} {r : Turned}
+    {w′ cache′ memory′ : List ℕ} (u : Turns price w h x cache memory a r w′ cache′ memory′) where
   abbrev t : Task
   t = taskOf w h
 
   -- the turn that the event does, on the frames of the plain stack
   turn-plain : turnOf w′ r cache′ memory′
-      ≡ turn t (sheetOf t) (record { frames = places (k .frames); core = coreOf (x .machine) cache memory }) a
+      ≡ turn t (sheetAt price t) (record { frames = places (k .frames); core = coreOf (x .machine) cache memory }) a
   turn-plain =
       u .turn
-      ∙ ap (λ (y : run.State). turn t (sheetOf t) y a) (λ i. record { frames = k .same i; core = coreOf (x .machine) cache memory })
+      ∙ ap (λ (y : run.State). turn t (sheetAt price t) y a) (λ i. record { frames = k .same i; core = coreOf (x .machine) cache memory })
 
   -- after an event that no row refuses a run can go on
   pub goes-on : Goes k a r w′ cache′ memory′
   goes-on =
       let m = k .figured .settled .formed in
       let o = coreOf (x .machine) cache memory in
-      let f = fair-event t (sheetOf t) m (k .sound) (k .frames) o a (k .running .standing) (k .running) in
-      let n = few-event t (sheetOf t) m (k .frames) o a (k .running .standing) (k .running .window) in
+      let f = fair-event t (sheetAt price t) m (k .sound) (k .frames) o a (k .running .standing) (k .running) in
+      let n = few-event t (sheetAt price t) m (k .frames) o a (k .running .standing) (k .running .window) in
       let e = task-stays (k .figured .settled .holds) (u .stays) in
       let fs = afterEvent t (k .frames) a in
       let c = coreOf (r .state .machine) cache′ memory′ in
-      let here = subst (Running t (sheetOf t) (k .sound .ground) fs) (sym (ap (λ (z : run.Turn). z .state .core) turn-plain)) (f .runs) in
-      let there = subst (λ (z : Task). (i : Sound z (sheetOf z)) × Running z (sheetOf z) (i .ground) fs c) (sym e) (k .sound, here) in
+      let here = subst (Running t (sheetAt price t) (k .sound .ground) fs) (sym (ap (λ (z : run.Turn). z .state .core) turn-plain)) (f .runs) in
+      let there = subst (λ (z : Task). (i : Sound z (sheetAt price z)) × Running z (sheetAt price z) (i .ground) fs c) (sym e) (k .sound, here) in
       record {
         runs = record {
           figured = figured-same (k .figured) (u .stays);
@@ -183,26 +186,26 @@ module _ {w : List ℕ} {h : Header} {x : State} {cache memory : List ℕ} (k : 
 -- ---- the first state
 
 -- a loop begins with a state in which function 0 has just been entered
-pub record FirstState (w : List ℕ) (h : Header) (x : State) (cache memory : List ℕ) : Type 0 where
-  pub runs : Runs w h x cache memory
+pub record FirstState (price : Price) (w : List ℕ) (h : Header) (x : State) (cache memory : List ℕ) : Type 0 where
+  pub runs : Runs price w h x cache memory
   pub frames : runs .frames ≡ firstFrames (taskOf w h)
 
-pub begins : {w : List ℕ} {h : Header} {x : State} (cache memory : List ℕ) → Figured w h → Started w h (length memory) x → length cache ≡ h .stack
-    → model.longest (taskOf w h) 0 ≤ length memory → FirstState w h x cache memory
+pub begins : {price : Price} {w : List ℕ} {h : Header} {x : State} (cache memory : List ℕ) → Figured price w h → Started w h (length memory) x → length cache ≡ h .stack
+    → model.longest (taskOf w h) 0 ≤ length memory → FirstState price w h x cache memory
 unfolding places
-begins {w} {h} {x} cache memory k a i j =
+begins {price} {w} {h} {x} cache memory k a i j =
     let t = taskOf w h in
     let f = k .settled .formed in
-    let s = sound t f inBlocks price-blocks in
+    let s = sound t f (priceOf price) (price-moves (price .start) (price .each)) in
     let e = a cache memory i refl in
-    let r = runs-start t (sheetOf t) f s (f .shaped .some) (idle cache memory) (window-idle t (sheetOf t) cache memory i j) in
+    let r = runs-start t (sheetAt price t) f s (f .shaped .some) (idle cache memory) (window-idle t (sheetAt price t) cache memory i j) in
     record {
       runs = record {
         figured = k;
         frames = firstFrames t;
         same = ap (λ (z : run.State). z .frames) e;
         sound = s;
-        running = subst (λ (z : Core). Running t (sheetOf t) (s .ground) (firstFrames t) z) (sym (ap (λ (z : run.State). z .core) e)) r;
+        running = subst (λ (z : Core). Running t (sheetAt price t) (s .ground) (firstFrames t) z) (sym (ap (λ (z : run.State). z .core) e)) r;
       };
       frames = refl;
     }

@@ -16,18 +16,19 @@ use Rattle.model.specs.Limits.{mostFuncs, mostPoints}
 use Rattle.model.specs.Task.{Task, count, func}
 use Rattle.model.specs.Core.{Core, reserve, idle, ensure, preempt, filledWith, saveMoves, resumeMoves}
 use Rattle.model.specs.Figures.{longest}
-use Rattle.model.specs.Sheet.{PointSheet, sheetOf}
+use Rattle.model.specs.Sheet.{PointSheet, Sheet}
 use Rattle.model.specs.Run.{Place, onwards}
 use Rattle.theory.proofs.Window.{frame-room}
 use Rattle.tables.specs.declared.Header.{Header}
 use Rattle.tables.specs.declared.Span.{Span}
 use Rattle.tables.specs.Tables.{item, spanAt, taskOf}
+use Rattle.tables.specs.Valid.{Settled}
 use Rattle.tables.proofs.Laws.{here, elsewhere, count-is, frame-is}
 use Rattle.tables.proofs.Valid.{kept-same, settled-fits}
+use Rattle.prices.specs.declared.Price.{Price}
 use Rattle.figures.specs.declared.FuncFigures.{FuncFigures}
 use Rattle.figures.specs.declared.PointFigures.{PointFigures}
-use Rattle.figures.specs.Figured.{funcFigures, figuredOf}
-use Rattle.figures.specs.Figured as figures
+use Rattle.figures.specs.Figured.{sheetAt, funcFigures, figuredOf}
 use Rattle.machine.specs.declared.Moved.{Moved}
 use Rattle.machine.specs.declared.Preempted.{Preempted}
 use Rattle.machine.specs.Moves as machine
@@ -141,9 +142,9 @@ leave-does x w cache memory n c e k =
     record { turn = λ i. record { state = record { frames = e i; core = k i }; answer = 0; out = 0; back = 0 }; bound = refl }
 
 -- a step at a point that is known
-pub steps-at : (t : Task) (x : State) (y z : Point) (v : ℕ) (w cache memory : List ℕ) {r : Turned} {w′ cache′ memory′ : List ℕ} → y ≡ z
-    → Steps t x z v w cache memory r w′ cache′ memory′ → Steps t x y v w cache memory r w′ cache′ memory′
-steps-at t x y z v w cache memory e d = rw e d
+pub steps-at : (s : Sheet) (t : Task) (x : State) (y z : Point) (v : ℕ) (w cache memory : List ℕ) {r : Turned} {w′ cache′ memory′ : List ℕ} → y ≡ z
+    → Steps s t x z v w cache memory r w′ cache′ memory′ → Steps s t x y v w cache memory r w′ cache′ memory′
+steps-at s t x y z v w cache memory e d = rw e d
 
 pub stays-same : (w : List ℕ) → Stays w w
 stays-same w = record { below = λ i l. refl; kept = kept-same framesEnd w }
@@ -165,35 +166,37 @@ call-does x r w w′ cache memory g o n c h l u e d f p k a i j b =
 -- ---- the figures that bound an event
 
 -- frame and spill of a callee
-pub callee-is : (t : Task) (r : FuncFigures) (f g : ℕ) → r ≡ funcFigures t f → f ≡ g → (r .frame ≡ func t g .frame) × (r .spill ≡ sheetOf t .spill g)
+pub callee-is : (price : Price) (t : Task) (r : FuncFigures) (f g : ℕ) → r ≡ funcFigures price t f → f ≡ g
+    → (r .frame ≡ func t g .frame) × (r .spill ≡ sheetAt price t .spill g)
 unfolding funcFigures
-callee-is t r f g e j = (ap (λ (z : FuncFigures). z .frame) e ∙ ap (λ z. func t z .frame) j, ap (λ (z : FuncFigures). z .spill) e ∙ ap (sheetOf t .spill) j)
+callee-is price t r f g e j =
+    (ap (λ (z : FuncFigures). z .frame) e ∙ ap (λ z. func t z .frame) j, ap (λ (z : FuncFigures). z .spill) e ∙ ap (sheetAt price t .spill) j)
 
 -- the running frame of a call goes on behind the callee, which is entered
-pub enters-does : (t : Task) (x : State) (q : FuncFigures) (e : Moved) (w w′ cache memory memory′ : List ℕ) (f g v : ℕ) → 0 < x .depth → x .depth ≤ mostFuncs
-    → framesEnd ≤ length w → q ≡ funcFigures t f → f ≡ g → w′ ≡ putCaller w (x .depth - 1) (x .f) (x .p + 1)
+pub enters-does : (price : Price) (t : Task) (x : State) (q : FuncFigures) (e : Moved) (w w′ cache memory memory′ : List ℕ) (f g v : ℕ) → 0 < x .depth → x .depth ≤ mostFuncs
+    → framesEnd ≤ length w → q ≡ funcFigures price t f → f ≡ g → w′ ≡ putCaller w (x .depth - 1) (x .f) (x .p + 1)
     → machine.Does e cache memory′ (reserve (q .frame) (coreOf (x .machine) cache memory))
-    → Steps t x (Call g) v w cache memory
+    → Steps (sheetAt price t) t x (Call g) v w cache memory
     (record { state = record { depth = x .depth + 1; f = f; p = 0; machine = e .machine }; answer = 0; out = e .blocks; back = 0; bound = q .spill })
     w′ cache memory′
-enters-does t x q e w w′ cache memory memory′ f g v h l u b k a d =
+enters-does price t x q e w w′ cache memory memory′ f g v h l u b k a d =
     let c = coreOf (x .machine) cache memory in
-    let n = callee-is t q f g b k in
+    let n = callee-is price t q f g b k in
     call-does x _ w w′ cache memory′ g _ _ _ h l u a refl k refl
     (d .core ∙ ap (λ (z : ℕ). reserve z c .core) (n .0)) refl (d .blocks ∙ ap (λ (z : ℕ). reserve z c .blocks) (n .0)) refl (n .1)
 
 -- an ensure, and a preemption, by the figures of the point
-module _ (t : Task) (x : State) (q : PointFigures) (w cache memory cache′ : List ℕ) (v : ℕ) (h : 0 < x .depth)
-    (i : figuredOf q ≡ sheetOf t .at (x .f) (x .p)) where
+module _ (price : Price) (t : Task) (x : State) (q : PointFigures) (w cache memory cache′ : List ℕ) (v : ℕ) (h : 0 < x .depth)
+    (i : figuredOf q ≡ sheetAt price t .at (x .f) (x .p)) where
   pub ensure-does : (e : Moved) (p k : ℕ) → p ≡ suc (x .p) → machine.Does e cache′ memory (ensure k (coreOf (x .machine) cache memory))
-      → Steps t x (Ensure k) v w cache memory
+      → Steps (sheetAt price t) t x (Ensure k) v w cache memory
       (record { state = record { depth = x .depth; f = x .f; p = p; machine = e .machine }; answer = 0; out = 0; back = e .blocks; bound = q .fill })
       w cache′ memory
   ensure-does e p k j d =
       moved-does x _ _ _ _ _ w cache′ memory _ h refl refl j (d .core) refl refl (d .blocks) (ap (λ (z : PointSheet). z .fill) i)
 
   pub preempt-does : (e : Preempted) (memory′ : List ℕ) → machine.Preempts e cache′ memory′ (q .dead) (q .need) v (coreOf (x .machine) cache memory)
-      → IsPreemption t x v w cache memory
+      → IsPreemption (sheetAt price t) t x v w cache memory
       (record { state = record { depth = x .depth; f = x .f; p = x .p; machine = e .machine }; answer = 0; out = e .out; back = e .back; bound = q .cost })
       cache′ memory′
   preempt-does e memory′ d =
@@ -205,23 +208,23 @@ module _ (t : Task) (x : State) (q : PointFigures) (w cache memory cache′ : Li
       (ap (λ (z : PointSheet). z .cost) i)
 
 -- a point of a function has a small number
-pub inside-small : {w : List ℕ} {h : Header} {x : State} {s : Span} → Inside w h x s → x .p < mostPoints
+pub inside-small : {price : Price} {w : List ℕ} {h : Header} {x : State} {s : Span} → Inside price w h x s → x .p < mostPoints
 inside-small {x = x} {s = s} k =
     let e : s .size ≡ _ = ap (λ (z : Span). z .size) (k .span) in
     omega (arith, e, k .at-in, settled-fits (k .figured .settled) (x .f) (k .fn-in) .small)
 
 -- ---- a start
 
-module _ {w : List ℕ} {h : Header} (k : figures.Figured w h) where
+module _ {w : List ℕ} {h : Header} (k : Settled w h) where
   some-funcs : 0 < h .funcs
-  some-funcs = omega (arith, count-is w h, k .settled .formed .shaped .some)
+  some-funcs = omega (arith, count-is w h, k .formed .shaped .some)
 
   first-frame : (s : Span) → s ≡ spanAt w 0 → s .frame ≡ func (taskOf w h) 0 .frame
   first-frame s e = ap (λ (z : Span). z .frame) e ∙ sym (frame-is w h 0 some-funcs)
 
   pub start-room : (s : Span) (n : ℕ) → s ≡ spanAt w 0 → longest (taskOf w h) 0 ≤ n → (s .frame ≤ h .stack) × (s .frame ≤ n)
   start-room s n e l =
-      let t = k .settled .formed in
+      let t = k .formed in
       let c : 0 < count (taskOf w h) = t .shaped .some in
       let f = first-frame s e in
       (omega (arith, f, t .shaped .frames 0 c), omega (arith, f, frame-room (taskOf w h) t 0 c))

@@ -7,7 +7,7 @@ use Rattle.model.specs.declared.Point.{Point}
 use Rattle.model.specs.Limits.{mostFuncs, mostPoints}
 use Rattle.model.specs.Task.{Task, func, point}
 use Rattle.model.specs.Core.{idle}
-use Rattle.model.specs.Sheet.{sheetOf}
+use Rattle.model.specs.Sheet.{Sheet}
 use Rattle.model.specs.Plain.{Frame, Act, act}
 use Rattle.model.specs.Run as run
 use Rattle.model.specs.Run.{stepTurn, preemptTurn, stepBound, eventBound, freshState}
@@ -18,8 +18,9 @@ use Rattle.tables.specs.declared.Header.{Header}
 use Rattle.tables.specs.declared.Span.{Span}
 use Rattle.tables.specs.Tables.{item, sizeAt, spanAt, taskOf}
 use Rattle.tables.specs.Valid.{Kept, Settled}
+use Rattle.prices.specs.declared.Price.{Price}
 use Rattle.figures.specs.Columns.{columnsEnd}
-use Rattle.figures.specs.Figured.{Figured}
+use Rattle.figures.specs.Figured.{Figured, sheetAt}
 use Rattle.machine.specs.Moves.{coreOf, mostAddress, Good}
 use Rattle.turns.specs.declared.State.{State}
 use Rattle.turns.specs.declared.Turned.{Turned}
@@ -27,12 +28,12 @@ use Rattle.turns.specs.Frames.{framesEnd, placesIn, framesOf, stateOf, t
 
 -- the working space has the task and its figures, and the state is one that a run can be in: what an event starts from. frames: those of the plain
 -- stack; sound: the sheet obeys the rules
-pub record Runs (w : List ℕ) (h : Header) (x : State) (cache memory : List ℕ) : Type 0 where
-  pub figured : Figured w h
+pub record Runs (price : Price) (w : List ℕ) (h : Header) (x : State) (cache memory : List ℕ) : Type 0 where
+  pub figured : Figured price w h
   pub frames : List Frame
   pub same : framesOf w x ≡ places frames
-  pub sound : Sound (taskOf w h) (sheetOf (taskOf w h))
-  pub running : Running (taskOf w h) (sheetOf (taskOf w h)) (sound .ground) frames (coreOf (x .machine) cache memory)
+  pub sound : Sound (taskOf w h) (sheetAt price (taskOf w h))
+  pub running : Running (taskOf w h) (sheetAt price (taskOf w h)) (sound .ground) frames (coreOf (x .machine) cache memory)
 
 -- the running frame, where there is one, is at a point of the task: all that a row of an event looks at
 pub record Placed (w : List ℕ) (h : Header) (x : State) : Type 0 where
@@ -50,19 +51,19 @@ pub record IsTurn (r : Turned) (w cache memory : List ℕ) (u : run.Turn) (allow
   pub turn : turnOf w r cache memory ≡ u
   pub bound : r .bound ≡ allowed
 
--- a step with value v at point y of the running frame of x, in a task t
-abbrev pub Steps : Task → State → Point → ℕ → (w cache memory : List ℕ) → Turned → (w′ cache′ memory′ : List ℕ) → Type 0
-Steps t x y v w cache memory r w′ cache′ memory′ =
+-- a step with value v at point y of the running frame of x, in a task t with the sheet s
+abbrev pub Steps : Sheet → Task → State → Point → ℕ → (w cache memory : List ℕ) → Turned → (w′ cache′ memory′ : List ℕ) → Type 0
+Steps s t x y v w cache memory r w′ cache′ memory′ =
     IsTurn r w′ cache′ memory′
     (stepTurn t (x .f) (x .p) (placesIn w (x .depth - 1)) (coreOf (x .machine) cache memory) y v)
-    (stepBound (sheetOf t) (x .f) (x .p) y)
+    (stepBound s (x .f) (x .p) y)
 
 -- a preemption there by a task that leaves v in every block
-abbrev pub IsPreemption : Task → State → ℕ → (w cache memory : List ℕ) → Turned → (cache′ memory′ : List ℕ) → Type 0
-IsPreemption t x v w cache memory r cache′ memory′ =
+abbrev pub IsPreemption : Sheet → Task → State → ℕ → (w cache memory : List ℕ) → Turned → (cache′ memory′ : List ℕ) → Type 0
+IsPreemption s t x v w cache memory r cache′ memory′ =
     IsTurn r w cache′ memory′
-    (preemptTurn (sheetOf t) (x .f) (x .p) (placesIn w (x .depth - 1)) (coreOf (x .machine) cache memory) (replicate (length cache) v))
-    (sheetOf t .at (x .f) (x .p) .cost)
+    (preemptTurn s (x .f) (x .p) (placesIn w (x .depth - 1)) (coreOf (x .machine) cache memory) (replicate (length cache) v))
+    (s .at (x .f) (x .p) .cost)
 
 -- what an event of this kind and value asks for
 abbrev pub actOf : ℕ → ℕ → Act
@@ -70,9 +71,9 @@ actOf kind value = act (record { kind = kind; value = value })
 
 -- an event does what the model's turn does, the sheet allows what it allows on any plain stack with these frames, and the working space is as it was
 -- but for the callers
-pub record Turns (w : List ℕ) (h : Header) (x : State) (cache memory : List ℕ) (a : Act) (r : Turned) (w′ cache′ memory′ : List ℕ) : Type 0 where
-  pub turn : turnOf w′ r cache′ memory′ ≡ run.turn (taskOf w h) (sheetOf (taskOf w h)) (stateOf w x cache memory) a
-  pub bound : (fs : List Frame) → framesOf w x ≡ places fs → r .bound ≡ eventBound (taskOf w h) (sheetOf (taskOf w h)) fs a
+pub record Turns (price : Price) (w : List ℕ) (h : Header) (x : State) (cache memory : List ℕ) (a : Act) (r : Turned) (w′ cache′ memory′ : List ℕ) : Type 0 where
+  pub turn : turnOf w′ r cache′ memory′ ≡ run.turn (taskOf w h) (sheetAt price (taskOf w h)) (stateOf w x cache memory) a
+  pub bound : (fs : List Frame) → framesOf w x ≡ places fs → r .bound ≡ eventBound (taskOf w h) (sheetAt price (taskOf w h)) fs a
   pub stays : Stays w w′
 
 -- function 0 has been entered, on any cache of the task's size and any memory of this many numbers
@@ -90,16 +91,16 @@ pub record Reaches (x : State) (cache : List ℕ) (o : ℕ) : Type 0 where
   pub address : x .machine .st + o ≤ mostAddress
 
 -- the running frame is at a point of its function, which is s
-pub record Inside (w : List ℕ) (h : Header) (x : State) (s : Span) : Type 0 where
-  pub figured : Figured w h
+pub record Inside (price : Price) (w : List ℕ) (h : Header) (x : State) (s : Span) : Type 0 where
+  pub figured : Figured price w h
   pub some : 0 < x .depth
   pub fn-in : x .f < h .funcs
   pub span : s ≡ spanAt w (x .f)
   pub at-in : x .p < s .size
 
 -- there is room for one more caller, and for the frame of function g below ST
-pub record Enters (w : List ℕ) (h : Header) (x : State) (cache memory : List ℕ) (g : ℕ) : Type 0 where
-  pub figured : Figured w h
+pub record Enters (price : Price) (w : List ℕ) (h : Header) (x : State) (cache memory : List ℕ) (g : ℕ) : Type 0 where
+  pub figured : Figured price w h
   pub some : 0 < x .depth
   pub few : x .depth ≤ mostFuncs
   pub fn-in : x .f < h .funcs
@@ -116,7 +117,7 @@ pub record Leaves (w : List ℕ) (x : State) (frame : ℕ) : Type 0 where
   pub address : x .machine .st + frame ≤ mostAddress
 
 -- the running frame of a run stands at point y of s
-pub record StandsAt (w : List ℕ) (h : Header) (x : State) (cache memory : List ℕ) (s : Span) (y : Point) : Type 0 where
-  pub runs : Runs w h x cache memory
-  pub inside : Inside w h x s
+pub record StandsAt (price : Price) (w : List ℕ) (h : Header) (x : State) (cache memory : List ℕ) (s : Span) (y : Point) : Type 0 where
+  pub runs : Runs price w h x cache memory
+  pub inside : Inside price w h x s
   pub here : point (func (taskOf w h) (x .f)) (x .p) ≡ y

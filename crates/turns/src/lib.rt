@@ -9,10 +9,12 @@ ghost use Rattle.model.specs.Limits.{mostFuncs, mostPoints};
 ghost use Rattle.model.specs.Rows.{rowVerdict};
 ghost use Rattle.model.specs.Task.{Task, func};
 ghost use Rattle.model.specs.Figures.{longest};
+ghost use Rattle.model.specs.Sheet.{Sheet};
 ghost use Rattle.model.specs.Refusal.{isEither, eventRows};
 ghost use Rattle.model.specs.Run.{runningPlace};
 ghost use Rattle.tables.specs.Tables.{taskOf};
-ghost use Rattle.figures.specs.Figured.{Figured};
+ghost use Rattle.tables.specs.Valid.{Settled};
+ghost use Rattle.figures.specs.Figured.{sheetAt};
 ghost use Rattle.machine.specs.Moves.{coreOf, Good};
 ghost use Rattle.turns.specs.Frames.{framesEnd, placesIn, putCaller, framesOf, plainTurn};
 ghost use Rattle.turns.specs.Turns.{Runs, Placed, Stays, Steps, IsPreemption, Turns, actOf, Started, Reaches, Inside, Enters, Leaves, StandsAt};
@@ -22,6 +24,7 @@ use model::Point;
 use model::Refusal;
 use model::Row;
 use model::Verdict;
+use prices::Price;
 use tables::Header;
 use tables::Span;
 
@@ -40,7 +43,7 @@ pub struct State {
     pub machine: Machine,
 }
 
-// A state after an event, its answer, how many blocks went out and came back, and how many the sheet allows.
+// A state after an event, its answer, how many blocks went out and came back, and what the sheet allows.
 pub struct Turned {
     pub state: State,
     pub answer: u32,
@@ -115,7 +118,7 @@ fn onwards(x: State, p: usize, answer: u32) -> Turned
 
 fn load_step(x: State, cache: &[u32], o: u32) -> Turned
     requires { ⌜ Reaches x (now cache) o ⌝ }
-    ensures { λ r. ⌜ ((t : Task) (v : ℕ) (w memory : List ℕ) → Steps t x (Load o) v w (now (cache .entry)) memory r w (now (cache .entry)) memory) ⌝ }
+    ensures { λ r. ⌜ ((s : Sheet) (t : Task) (v : ℕ) (w memory : List ℕ) → Steps s t x (Load o) v w (now (cache .entry)) memory r w (now (cache .entry)) memory) ⌝ }
 {
     let machine = x.machine;
     let answer = machine.load(cache, o);
@@ -124,7 +127,7 @@ fn load_step(x: State, cache: &[u32], o: u32) -> Turned
 
 fn store_step(x: State, cache: &mut [u32], o: u32, v: u32) -> Turned
     requires { ⌜ Reaches x (now cache) o ⌝ }
-    ensures { λ r. ⌜ ((t : Task) (w memory : List ℕ) → Steps t x (Store o) v w (now (cache .entry)) memory r w (now (cache .exit)) memory) ⌝ }
+    ensures { λ r. ⌜ ((s : Sheet) (t : Task) (w memory : List ℕ) → Steps s t x (Store o) v w (now (cache .entry)) memory r w (now (cache .exit)) memory) ⌝ }
 {
     let machine = x.machine;
     machine.store(cache, o, v);
@@ -133,14 +136,14 @@ fn store_step(x: State, cache: &mut [u32], o: u32, v: u32) -> Turned
 
 fn goto_step(x: State, q: u32) -> Turned
     requires { ⌜ 0 < x .depth ⌝ }
-    ensures { λ r. ⌜ ((t : Task) (v : ℕ) (w cache memory : List ℕ) → Steps t x (Goto q) v w cache memory r w cache memory) ⌝ }
+    ensures { λ r. ⌜ ((s : Sheet) (t : Task) (v : ℕ) (w cache memory : List ℕ) → Steps s t x (Goto q) v w cache memory r w cache memory) ⌝ }
 {
     onwards(x, wide(q), 0)
 }
 
 fn either_step(x: State, q: u32, r: u32, v: u32) -> Turned
     requires { ⌜ 0 < x .depth ⌝ }
-    ensures { λ u. ⌜ ((t : Task) (w cache memory : List ℕ) → Steps t x (Either q r) v w cache memory u w cache memory) ⌝ }
+    ensures { λ u. ⌜ ((s : Sheet) (t : Task) (w cache memory : List ℕ) → Steps s t x (Either q r) v w cache memory u w cache memory) ⌝ }
 {
     if v == 0 {
         return onwards(x, wide(q), 0);
@@ -151,8 +154,8 @@ fn either_step(x: State, q: u32, r: u32, v: u32) -> Turned
 // The frame of the running function is left, and its caller runs.
 fn return_step(work: &[u32], x: State, frame: u32) -> Turned
     requires { ⌜ Leaves (now work) x frame ⌝ }
-    ensures { λ r. ⌜ ((t : Task) (v : ℕ) (cache memory : List ℕ) → func t (x .f) .frame ≡ frame →
-        Steps t x Return v (now (work .entry)) cache memory r (now (work .entry)) cache memory) ⌝ }
+    ensures { λ r. ⌜ ((s : Sheet) (t : Task) (v : ℕ) (cache memory : List ℕ) → func t (x .f) .frame ≡ frame →
+        Steps s t x Return v (now (work .entry)) cache memory r (now (work .entry)) cache memory) ⌝ }
 {
     let machine = x.machine;
     let freed = machine.free(frame);
@@ -170,17 +173,18 @@ fn return_step(work: &[u32], x: State, frame: u32) -> Turned
 fn call_step(
     work: &mut [u32],
     h: Header,
+    price: Price,
     x: State,
     cache: &[u32],
     memory: &mut [u32],
     g: u32,
 ) -> Turned
-    requires { ⌜ Enters (now work) h x (now cache) (now memory) g ⌝ }
-    ensures { λ r. ⌜ ((v : ℕ) → Steps (taskOf (now (work .entry)) h) x (Call g) v (now (work .entry)) (now (cache .entry)) (now (memory .entry))
+    requires { ⌜ Enters price (now work) h x (now cache) (now memory) g ⌝ }
+    ensures { λ r. ⌜ ((v : ℕ) → Steps (sheetAt price (taskOf (now (work .entry)) h)) (taskOf (now (work .entry)) h) x (Call g) v (now (work .entry)) (now (cache .entry)) (now (memory .entry))
         r (now (work .exit)) (now (cache .entry)) (now (memory .exit))) × Stays (now (work .entry)) (now (work .exit)) ⌝ }
 {
     let f = wide(g);
-    let callee = figures::func_figures(work, h, f);
+    let callee = figures::func_figures(work, h, price, f);
     put_caller(work, x.depth - 1, x.f, x.p + 1);
     let machine = x.machine;
     let moved = machine.reserve(cache, memory, callee.frame);
@@ -203,17 +207,18 @@ fn call_step(
 fn ensure_step(
     work: &[u32],
     h: Header,
+    price: Price,
     x: State,
     s: Span,
     cache: &mut [u32],
     memory: &[u32],
     k: u32,
 ) -> Turned
-    requires { ⌜ Inside (now work) h x s × Good (coreOf (x .machine) (now cache) (now memory)) × (x .machine .st + k ≤ length (now memory)) ⌝ }
-    ensures { λ r. ⌜ ((v : ℕ) → Steps (taskOf (now (work .entry)) h) x (Ensure k) v (now (work .entry)) (now (cache .entry)) (now (memory .entry))
+    requires { ⌜ Inside price (now work) h x s × Good (coreOf (x .machine) (now cache) (now memory)) × (x .machine .st + k ≤ length (now memory)) ⌝ }
+    ensures { λ r. ⌜ ((v : ℕ) → Steps (sheetAt price (taskOf (now (work .entry)) h)) (taskOf (now (work .entry)) h) x (Ensure k) v (now (work .entry)) (now (cache .entry)) (now (memory .entry))
         r (now (work .entry)) (now (cache .exit)) (now (memory .entry))) ⌝ }
 {
-    let figures = figures::point_figures(work, h, x.f, s, x.p);
+    let figures = figures::point_figures(work, h, price, x.f, s, x.p);
     let machine = x.machine;
     let moved = machine.ensure(cache, memory, k);
     let filled = moved.machine;
@@ -236,6 +241,7 @@ fn ensure_step(
 fn step(
     work: &mut [u32],
     h: Header,
+    price: Price,
     x: State,
     s: Span,
     y: Point,
@@ -243,15 +249,15 @@ fn step(
     memory: &mut [u32],
     v: u32,
 ) -> Turned
-    requires { ⌜ StandsAt (now work) h x (now cache) (now memory) s y ⌝ }
-    ensures { λ r. ⌜ Steps (taskOf (now (work .entry)) h) x y v (now (work .entry)) (now (cache .entry)) (now (memory .entry))
+    requires { ⌜ StandsAt price (now work) h x (now cache) (now memory) s y ⌝ }
+    ensures { λ r. ⌜ Steps (sheetAt price (taskOf (now (work .entry)) h)) (taskOf (now (work .entry)) h) x y v (now (work .entry)) (now (cache .entry)) (now (memory .entry))
         r (now (work .exit)) (now (cache .exit)) (now (memory .exit)) × Stays (now (work .entry)) (now (work .exit)) ⌝ }
 {
     match y {
         Point::Load(o) => load_step(x, cache, o),
         Point::Store(o) => store_step(x, cache, o, v),
-        Point::Call(g) => call_step(work, h, x, cache, memory, g),
-        Point::Ensure(k) => ensure_step(work, h, x, s, cache, memory, k),
+        Point::Call(g) => call_step(work, h, price, x, cache, memory, g),
+        Point::Ensure(k) => ensure_step(work, h, price, x, s, cache, memory, k),
         Point::Goto(q) => goto_step(x, q),
         Point::Either(q, r) => either_step(x, q, r, v),
         Point::Return => return_step(work, x, s.frame),
@@ -264,17 +270,18 @@ fn step(
 fn preempt(
     work: &[u32],
     h: Header,
+    price: Price,
     x: State,
     s: Span,
     cache: &mut [u32],
     memory: &mut [u32],
     v: u32,
 ) -> Turned
-    requires { ⌜ Inside (now work) h x s × Good (coreOf (x .machine) (now cache) (now memory)) ⌝ }
-    ensures { λ r. ⌜ IsPreemption (taskOf (now (work .entry)) h) x v (now (work .entry)) (now (cache .entry)) (now (memory .entry))
+    requires { ⌜ Inside price (now work) h x s × Good (coreOf (x .machine) (now cache) (now memory)) ⌝ }
+    ensures { λ r. ⌜ IsPreemption (sheetAt price (taskOf (now (work .entry)) h)) (taskOf (now (work .entry)) h) x v (now (work .entry)) (now (cache .entry)) (now (memory .entry))
         r (now (cache .exit)) (now (memory .exit)) ⌝ }
 {
-    let figures = figures::point_figures(work, h, x.f, s, x.p);
+    let figures = figures::point_figures(work, h, price, x.f, s, x.p);
     let machine = x.machine;
     let back = machine.preempt(cache, memory, figures.dead, figures.need, v);
     let resumed = back.machine;
@@ -295,7 +302,7 @@ fn preempt(
 
 // Function 0 has been entered on a memory of this length.
 pub fn start(work: &[u32], h: Header, length: usize) -> State
-    requires { ⌜ Figured (now work) h × (longest (taskOf (now work) h) 0 ≤ length) ⌝ }
+    requires { ⌜ Settled (now work) h × (longest (taskOf (now work) h) 0 ≤ length) ⌝ }
     ensures { λ r. ⌜ Started (now (work .entry)) h length r ⌝ }
 {
     let s = tables::span_at(work, 0);
@@ -355,21 +362,22 @@ pub fn event_row(work: &[u32], h: Header, x: State, i: u32, kind: u32, value: u3
 pub fn turn(
     work: &mut [u32],
     h: Header,
+    price: Price,
     x: State,
     cache: &mut [u32],
     memory: &mut [u32],
     kind: u32,
     value: u32,
 ) -> Turned
-    requires { ⌜ Runs (now work) h x (now cache) (now memory) × (0 < x .depth) ⌝ }
-    ensures { λ r. ⌜ Turns (now (work .entry)) h x (now (cache .entry)) (now (memory .entry)) (actOf kind value)
+    requires { ⌜ Runs price (now work) h x (now cache) (now memory) × (0 < x .depth) ⌝ }
+    ensures { λ r. ⌜ Turns price (now (work .entry)) h x (now (cache .entry)) (now (memory .entry)) (actOf kind value)
         r (now (work .exit)) (now (cache .exit)) (now (memory .exit)) ⌝ }
 {
     let s = tables::span_at(work, x.f);
     if kind == 0 {
         let base = s.base;
         let y = tables::point_at(work, base + x.p);
-        return step(work, h, x, s, y, cache, memory, value);
+        return step(work, h, price, x, s, y, cache, memory, value);
     }
-    preempt(work, h, x, s, cache, memory, value)
+    preempt(work, h, price, x, s, cache, memory, value)
 }

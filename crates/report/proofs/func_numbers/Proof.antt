@@ -9,7 +9,7 @@ use Rattle.report.proofs.func_numbers.Tie as tie
 returns : tie.Need-returns
 returns c =
     let a = c .before .before .args in
-    (func-row (taskOf (a .work .now) (a .h)) (a .f) (c .func-figures .result) (c .func-figures .ensures), refl)
+    (func-row (a .price) (taskOf (a .work .now) (a .h)) (a .f) (c .func-figures .result) (c .func-figures .ensures), refl)
 
 pub func-numbers-spec : {M : Type 1} → statement M
 func-numbers-spec =

@@ -7,18 +7,18 @@ use borrow.Author.Needs.{needs}
 use Rattle.report.proofs.point_numbers.Statement.{statement}
 use Rattle.report.proofs.point_numbers.Tie as tie
 
-cast-t7 : tie.Need-cast-t7
-cast-t7 c = omega (arith, size-low (c .before .before .pre .0))
+cast-t8 : tie.Need-cast-t8
+cast-t8 c = omega (arith, size-low (c .before .before .pre .0))
 
 returns : tie.Need-returns
 returns c =
     let a = c .before .before .args in
-    (point-row (taskOf (a .work .now) (a .h)) (a .f) (a .p) (c .point-figures .result) (c .point-figures .ensures), refl)
+    (point-row (a .price) (taskOf (a .work .now) (a .h)) (a .f) (a .p) (c .point-figures .result) (c .point-figures .ensures), refl)
 
 pub point-numbers-spec : {M : Type 1} → statement M
 point-numbers-spec =
     tie.close
     (tie.spec
     (λ c κs. search needs)
-    cast-t7
+    cast-t8
     returns)

@@ -12,16 +12,16 @@ use Rattle.report.proofs.points_length.Statement.{statement}
 use Rattle.report.proofs.points_length.Tie as tie
 
 abbrev Inv-loop : tie.InvT-loop
-Inv-loop work h f s size n₀ p₀ n p =
-    (p ≤ s .size) × (n ≡ length (pointsText (taskOf work h) f p)) × (n ≤ mostPointText * p)
+Inv-loop work h price f s size n₀ p₀ n p =
+    (p ≤ s .size) × (n ≡ length (pointsText price (taskOf work h) f p)) × (n ≤ mostPointText * p)
 
 abbrev μ-loop : tie.MeasureT-loop
-μ-loop work h f s size n₀ p₀ n p = s .size - p
+μ-loop work h price f s size n₀ p₀ n p = s .size - p
 
 loop-holds : tie.Need-loop-holds Inv-loop μ-loop
 loop-holds c =
     let a = c .before .args in
-    (omega arith, omega (arith, none-length (pointText (taskOf (a .work .now) (a .h)) (a .f))), omega arith)
+    (omega arith, omega (arith, none-length (pointText (a .price) (taskOf (a .work .now) (a .h)) (a .f))), omega arith)
 
 point-length-requires : tie.Need-point-length-requires Inv-loop μ-loop
 point-length-requires c κs = (c .before .before .before .pre, omega arith)
@@ -39,7 +39,7 @@ loop-again : tie.Need-loop-again Inv-loop μ-loop
 loop-again c =
     let a = c .before .before .before .before .args in
     let l = c .before .before .loop in
-    (omega arith, omega (arith, next-length (pointText (taskOf (a .work .now) (a .h)) (a .f)) (l .p)), omega arith)
+    (omega arith, omega (arith, next-length (pointText (a .price) (taskOf (a .work .now) (a .h)) (a .f)) (l .p)), omega arith)
 
 returns : tie.Need-returns Inv-loop μ-loop
 returns c =

@@ -12,22 +12,22 @@ use Rattle.report.proofs.put_funcs.Statement.{statement}
 use Rattle.report.proofs.put_funcs.Tie as tie
 
 abbrev Inv-loop : tie.InvT-loop
-Inv-loop out₀ at work h funcs end₀ f₀ out end f =
-    (f ≤ h .funcs) × (length out ≡ length out₀) × Wrote at (funcsText (taskOf work h) f) out₀ end out
+Inv-loop out₀ at work h price funcs end₀ f₀ out end f =
+    (f ≤ h .funcs) × (length out ≡ length out₀) × Wrote at (funcsText price (taskOf work h) f) out₀ end out
 
 abbrev μ-loop : tie.MeasureT-loop
-μ-loop out₀ at work h funcs end₀ f₀ out end f = h .funcs - f
+μ-loop out₀ at work h price funcs end₀ f₀ out end f = h .funcs - f
 
 loop-holds : tie.Need-loop-holds Inv-loop μ-loop
 loop-holds c =
     let a = c .before .before .args in
-    (omega arith, refl, none-wrote (funcText (taskOf (a .work .now) (a .h))) (a .at) (a .out .now))
+    (omega arith, refl, none-wrote (funcText (a .price) (taskOf (a .work .now) (a .h))) (a .at) (a .out .now))
 
 put-func-requires : tie.Need-put-func-requires Inv-loop μ-loop
 put-func-requires c κs =
     let start = c .before .before .before .before .before in
     let a = start .args in
-    let g = funcText (taskOf (a .work .now) (a .h)) in
+    let g = funcText (a .price) (taskOf (a .work .now) (a .h)) in
     (start .pre .0, omega arith, omega (arith, next-room g (c .before .before .loop .f) (a .h .funcs) (omega arith)))
 
 add-f : tie.Need-add-f Inv-loop μ-loop
@@ -40,7 +40,8 @@ loop-again : tie.Need-loop-again Inv-loop μ-loop
 loop-again c =
     let a = c .before .before .before .before .before .before .before .before .args in
     let l = c .before .before .before .before .before .loop in
-    (omega arith, omega arith, next-wrote (funcText (taskOf (a .work .now) (a .h))) (l .f) (omega arith) (l .inv .2) (c .before .before .put-func .ensures))
+    let g = funcText (a .price) (taskOf (a .work .now) (a .h)) in
+    (omega arith, omega arith, next-wrote g (l .f) (omega arith) (l .inv .2) (c .before .before .put-func .ensures))
 
 same-length : tie.Need-same-length Inv-loop μ-loop
 same-length c = omega arith

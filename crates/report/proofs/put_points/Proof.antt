@@ -13,22 +13,22 @@ use Rattle.report.proofs.put_points.Statement.{statement}
 use Rattle.report.proofs.put_points.Tie as tie
 
 abbrev Inv-loop : tie.InvT-loop
-Inv-loop out₀ at work h f s size end₀ p₀ out end p =
-    (p ≤ s .size) × (length out ≡ length out₀) × Wrote at (pointsText (taskOf work h) f p) out₀ end out
+Inv-loop out₀ at work h price f s size end₀ p₀ out end p =
+    (p ≤ s .size) × (length out ≡ length out₀) × Wrote at (pointsText price (taskOf work h) f p) out₀ end out
 
 abbrev μ-loop : tie.MeasureT-loop
-μ-loop out₀ at work h f s size end₀ p₀ out end p = s .size - p
+μ-loop out₀ at work h price f s size end₀ p₀ out end p = s .size - p
 
 loop-holds : tie.Need-loop-holds Inv-loop μ-loop
 loop-holds c =
     let a = c .before .before .args in
-    (omega arith, refl, none-wrote (pointText (taskOf (a .work .now) (a .h)) (a .f)) (a .at) (a .out .now))
+    (omega arith, refl, none-wrote (pointText (a .price) (taskOf (a .work .now) (a .h)) (a .f)) (a .at) (a .out .now))
 
 put-point-requires : tie.Need-put-point-requires Inv-loop μ-loop
 put-point-requires c κs =
     let start = c .before .before .before .before .before in
     let a = start .args in
-    let g = pointText (taskOf (a .work .now) (a .h)) (a .f) in
+    let g = pointText (a .price) (taskOf (a .work .now) (a .h)) (a .f) in
     (start .pre .0, omega arith, omega (arith, next-room g (c .before .before .loop .p) (a .s .size) (omega arith)))
 
 add-p : tie.Need-add-p Inv-loop μ-loop
@@ -41,7 +41,7 @@ loop-again : tie.Need-loop-again Inv-loop μ-loop
 loop-again c =
     let a = c .before .before .before .before .before .before .before .before .args in
     let l = c .before .before .before .before .before .loop in
-    let g = pointText (taskOf (a .work .now) (a .h)) (a .f) in
+    let g = pointText (a .price) (taskOf (a .work .now) (a .h)) (a .f) in
     (omega arith, omega arith, next-wrote g (l .p) (omega arith) (l .inv .2) (c .before .before .put-point .ensures))
 
 same-length : tie.Need-same-length Inv-loop μ-loop

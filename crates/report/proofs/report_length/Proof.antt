@@ -12,13 +12,13 @@ use Rattle.report.proofs.report_length.Statement.{statement}
 use Rattle.report.proofs.report_length.Tie as tie
 
 abbrev Inv-loop : tie.InvT-loop
-Inv-loop work h funcs n₀ f₀ n f =
+Inv-loop work h price funcs n₀ f₀ n f =
     (f ≤ h .funcs)
-    × (n ≡ 10 + length (funcsText (taskOf work h) f))
+    × (n ≡ 10 + length (funcsText price (taskOf work h) f))
     × (n ≤ 10 + mostHeadText * f + mostPointText * sum (sizeAt work) f)
 
 abbrev μ-loop : tie.MeasureT-loop
-μ-loop work h funcs n₀ f₀ n f = h .funcs - f
+μ-loop work h price funcs n₀ f₀ n f = h .funcs - f
 
 add-n : tie.Need-add-n Inv-loop μ-loop
 add-n c = omega arith
@@ -26,7 +26,7 @@ add-n c = omega arith
 loop-holds : tie.Need-loop-holds Inv-loop μ-loop
 loop-holds c =
     let a = c .before .before .before .args in
-    (omega arith, omega (arith, none-length (funcText (taskOf (a .work .now) (a .h)))), omega arith)
+    (omega arith, omega (arith, none-length (funcText (a .price) (taskOf (a .work .now) (a .h)))), omega arith)
 
 func-length-requires : tie.Need-func-length-requires Inv-loop μ-loop
 func-length-requires c κs = (c .before .before .before .before .before .pre, omega arith)
@@ -48,7 +48,7 @@ loop-again : tie.Need-loop-again Inv-loop μ-loop
 loop-again c =
     let a = c .before .before .before .before .before .before .args in
     let f = c .before .before .loop .f in
-    (omega arith, omega (arith, next-length (funcText (taskOf (a .work .now) (a .h))) f), omega (arith, points-next (a .work .now) f))
+    (omega arith, omega (arith, next-length (funcText (a .price) (taskOf (a .work .now) (a .h))) f), omega (arith, points-next (a .work .now) f))
 
 returns : tie.Need-returns Inv-loop μ-loop
 returns c =
@@ -56,7 +56,7 @@ returns c =
     let l = c .before .loop in
     let k = c .before .before .before .before .before .pre .settled .holds in
     let e : l .f ≡ a .h .funcs = omega arith in
-    (rw e at (l .inv .1) ∙ sym (report-size (a .work .now) (a .h)), omega (arith, points-most k (l .f) (omega arith), k .few))
+    (rw e at (l .inv .1) ∙ sym (report-size (a .price) (a .work .now) (a .h)), omega (arith, points-most k (l .f) (omega arith), k .few))
 
 pub report-length-spec : {M : Type 1} → statement M
 report-length-spec =

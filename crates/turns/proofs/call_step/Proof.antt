@@ -17,7 +17,7 @@ returns c =
     let p = s .pre in
     let u = w .put-caller .ensures in (
       λ v.
-          enters-does _ (s .args .x) (f .func-figures .result) _ _ _ _ _ _ _ _ v (p .some) (p .few) (omega (arith, p .figured .room))
+          enters-does _ _ (s .args .x) (f .func-figures .result) _ _ _ _ _ _ _ _ v (p .some) (p .few) (omega (arith, p .figured .room))
           (f .func-figures .ensures) (n .wide .ensures) u (e .reserve .ensures),
       caller-stays _ (s .args .x .depth - 1) _ _ (omega (arith, p .some, p .few)) _ u,
     )
@@ -27,11 +27,11 @@ reserve-requires c κs =
     let f = c .before .before .before .before .before .before .before .before in
     let n = f .before .before in
     let s = n .before .before .before .before in
-    let k = callee-is (taskOf (s .args .work .now) (s .args .h)) _ _ _ (f .func-figures .ensures) (n .wide .ensures) in
+    let k = callee-is (s .args .price) (taskOf (s .args .work .now) (s .args .h)) _ _ _ (f .func-figures .ensures) (n .wide .ensures) in
     (s .pre .good, omega (arith, k .0, s .pre .room))
 
-add-t18 : tie.Need-add-t18
-add-t18 c =
+add-t19 : tie.Need-add-t19
+add-t19 c =
     let f = c .before .before .before .before .before .before .before .before .before .before .before .before .before in
     let s = f .before .before .before .before .before .before in
     let h = s .pre .few in omega arith
@@ -46,7 +46,7 @@ call-step-spec =
     (λ c. search needs)
     (λ c κs. search needs)
     reserve-requires
-    add-t18
+    add-t19
     (λ c. search needs)
     (λ c. search needs)
     returns)

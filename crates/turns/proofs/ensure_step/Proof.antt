@@ -10,13 +10,13 @@ returns c =
     let e = c .before .before .before .before in
     let f = e .before .before .before in
     let s = f .before .before .before .before in
-    λ v. ensure-does _ _ (f .point-figures .result) _ _ _ _ v (s .pre .0 .some) (f .point-figures .ensures) _ _ _ (omega arith) (e .ensure .ensures)
+    λ v. ensure-does (s .args .price) _ _ (f .point-figures .result) _ _ _ _ v (s .pre .0 .some) (f .point-figures .ensures) _ _ _ (omega arith) (e .ensure .ensures)
 
-add-t15 : tie.Need-add-t15
-add-t15 c =
+add-t16 : tie.Need-add-t16
+add-t16 c =
     let f = c .before .before .before .before .before .before .before in
     let s = f .before .before .before .before in
     omega (arith, inside-small (s .pre .0))
 
 pub ensure-step-spec : {M : Type 1} → statement M
-ensure-step-spec = tie.close (tie.spec (λ c κs. search needs) (λ c κs. search needs) add-t15 (λ c. search needs) returns)
+ensure-step-spec = tie.close (tie.spec (λ c κs. search needs) (λ c κs. search needs) add-t16 (λ c. search needs) returns)

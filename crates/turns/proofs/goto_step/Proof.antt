@@ -8,7 +8,7 @@ use Rattle.turns.proofs.goto_step.Tie as tie
 returns : tie.Need-returns
 returns c =
     let s = c .before .before in
-    λ t v w cache memory.
+    λ z t v w cache memory.
     plain-does (s .args .x) _ _ _ _ _ w cache memory _ (s .pre) (c .onwards .ensures) (c .before .wide .ensures) refl refl
 
 pub goto-step-spec : {M : Type 1} → statement M

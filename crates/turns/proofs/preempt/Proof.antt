@@ -9,7 +9,7 @@ returns c =
     let e = c .before .before .before .before .before in
     let f = e .before .before .before .before in
     let s = f .before .before .before .before in
-    preempt-does _ _ (f .point-figures .result) _ _ _ _ _ (s .pre .0 .some) (f .point-figures .ensures) _ _ (e .preempt .ensures)
+    preempt-does (s .args .price) _ _ (f .point-figures .result) _ _ _ _ _ (s .pre .0 .some) (f .point-figures .ensures) _ _ (e .preempt .ensures)
 
 pub preempt-spec : {M : Type 1} → statement M
 preempt-spec = tie.close (tie.spec (λ c κs. search needs) (λ c κs. search needs) (λ c. search needs) (λ c. search needs) returns)

@@ -2,6 +2,7 @@
 use native.Mathlib.Omega.{arith}
 use borrow.Author.Needs.{needs}
 use Rattle.tables.specs.Tables.{taskOf}
+use Rattle.figures.specs.Figured.{sheetAt}
 use Rattle.turns.proofs.Laws.{stays-same, steps-at}
 use Rattle.turns.proofs.Given.{load-given, store-given, call-given, ensure-given, return-given, frame-same}
 use Rattle.turns.proofs.step.Statement.{statement}
@@ -13,8 +14,8 @@ returns c =
     let s = y .before .before .before .before .before in
     let a = s .args in
     let t = taskOf (a .work .now) (a .h) in (
-      steps-at t (a .x) (a .y) _ (a .v) (a .work .now) (a .cache .now) (a .memory .now) (y .y .given .1)
-          (c .load-step .ensures t (a .v) (a .work .now) (a .memory .now)),
+      steps-at (sheetAt (a .price) t) t (a .x) (a .y) _ (a .v) (a .work .now) (a .cache .now) (a .memory .now) (y .y .given .1)
+          (c .load-step .ensures (sheetAt (a .price) t) t (a .v) (a .work .now) (a .memory .now)),
       stays-same (a .work .now),
     )
 
@@ -24,8 +25,8 @@ returns-2 c =
     let s = y .before .before .before .before .before in
     let a = s .args in
     let t = taskOf (a .work .now) (a .h) in (
-      steps-at t (a .x) (a .y) _ (a .v) (a .work .now) (a .cache .now) (a .memory .now) (y .y2 .given .1)
-          (c .before .before .store-step .ensures t (a .work .now) (a .memory .now)),
+      steps-at (sheetAt (a .price) t) t (a .x) (a .y) _ (a .v) (a .work .now) (a .cache .now) (a .memory .now) (y .y2 .given .1)
+          (c .before .before .store-step .ensures (sheetAt (a .price) t) t (a .work .now) (a .memory .now)),
       stays-same (a .work .now),
     )
 
@@ -35,7 +36,7 @@ returns-3 c =
     let s = y .before .before .before .before .before in
     let a = s .args in
     let t = taskOf (a .work .now) (a .h) in (
-      steps-at t (a .x) (a .y) _ (a .v) (a .work .now) (a .cache .now) (a .memory .now) (y .y3 .given .1)
+      steps-at (sheetAt (a .price) t) t (a .x) (a .y) _ (a .v) (a .work .now) (a .cache .now) (a .memory .now) (y .y3 .given .1)
           (c .before .before .before .before .call-step .ensures .0 (a .v)),
       c .before .before .before .before .call-step .ensures .1,
     )
@@ -46,7 +47,7 @@ returns-4 c =
     let s = y .before .before .before .before .before in
     let a = s .args in
     let t = taskOf (a .work .now) (a .h) in (
-      steps-at t (a .x) (a .y) _ (a .v) (a .work .now) (a .cache .now) (a .memory .now) (y .y4 .given .1)
+      steps-at (sheetAt (a .price) t) t (a .x) (a .y) _ (a .v) (a .work .now) (a .cache .now) (a .memory .now) (y .y4 .given .1)
           (c .before .before .ensure-step .ensures (a .v)),
       stays-same (a .work .now),
     )
@@ -57,8 +58,8 @@ returns-5 c =
     let s = y .before .before .before .before .before in
     let a = s .args in
     let t = taskOf (a .work .now) (a .h) in (
-      steps-at t (a .x) (a .y) _ (a .v) (a .work .now) (a .cache .now) (a .memory .now) (y .y5 .given .1)
-          (c .goto-step .ensures t (a .v) (a .work .now) (a .cache .now) (a .memory .now)),
+      steps-at (sheetAt (a .price) t) t (a .x) (a .y) _ (a .v) (a .work .now) (a .cache .now) (a .memory .now) (y .y5 .given .1)
+          (c .goto-step .ensures (sheetAt (a .price) t) t (a .v) (a .work .now) (a .cache .now) (a .memory .now)),
       stays-same (a .work .now),
     )
 
@@ -68,8 +69,8 @@ returns-6 c =
     let s = y .before .before .before .before .before in
     let a = s .args in
     let t = taskOf (a .work .now) (a .h) in (
-      steps-at t (a .x) (a .y) _ (a .v) (a .work .now) (a .cache .now) (a .memory .now) (y .y6 .given .1)
-          (c .either-step .ensures t (a .work .now) (a .cache .now) (a .memory .now)),
+      steps-at (sheetAt (a .price) t) t (a .x) (a .y) _ (a .v) (a .work .now) (a .cache .now) (a .memory .now) (y .y6 .given .1)
+          (c .either-step .ensures (sheetAt (a .price) t) t (a .work .now) (a .cache .now) (a .memory .now)),
       stays-same (a .work .now),
     )
 
@@ -79,8 +80,8 @@ returns-7 c =
     let s = y .before .before .before .before .before in
     let a = s .args in
     let t = taskOf (a .work .now) (a .h) in (
-      steps-at t (a .x) (a .y) _ (a .v) (a .work .now) (a .cache .now) (a .memory .now) (y .enum-told .given .1)
-          (c .return-step .ensures t (a .v) (a .cache .now) (a .memory .now) (frame-same (s .pre))),
+      steps-at (sheetAt (a .price) t) t (a .x) (a .y) _ (a .v) (a .work .now) (a .cache .now) (a .memory .now) (y .enum-told .given .1)
+          (c .return-step .ensures (sheetAt (a .price) t) t (a .v) (a .cache .now) (a .memory .now) (frame-same (s .pre))),
       stays-same (a .work .now),
     )
 

@@ -14,14 +14,14 @@ returns c =
     let f = i .before in
     let s = f .before .before .before .before .before in
     let e = placed-is (runs-placed (s .pre .0)) (s .pre .1) _ _ (f .span-at .ensures) (y .point-at .ensures) in
-    step-turns _ _ (s .args .x) _ _ (s .pre .1) _ _ _ e (i .if1 .taken) (r .step .ensures .0) (r .step .ensures .1)
+    step-turns _ _ _ (s .args .x) _ _ (s .pre .1) _ _ _ e (i .if1 .taken) (r .step .ensures .0) (r .step .ensures .1)
 
 returns-2 : tie.Need-returns-2
 returns-2 c =
     let r = c .before .before .before .before in
     let i = r .before .before .before .before in
     let s = i .before .before .before .before .before .before in
-    preempt-turns _ _ (s .args .x) _ _ (s .pre .1) _ _ (i .if1 .left) (r .preempt .ensures)
+    preempt-turns _ _ _ (s .args .x) _ _ (s .pre .1) _ _ (i .if1 .left) (r .preempt .ensures)
 
 step-requires : tie.Need-step-requires
 step-requires c κs =
