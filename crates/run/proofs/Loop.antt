@@ -15,9 +15,8 @@ use Rattle.model.specs.Limits.{mostStack}
 use Rattle.model.specs.Rows.{rowVerdict}
 use Rattle.model.specs.Task.{Task}
 use Rattle.model.specs.Core.{Core}
-use Rattle.model.specs.Sheet.{sheetOf}
 use Rattle.model.specs.Refusal.{eventRows}
-use Rattle.model.specs.Plain.{eventsOf, running, afterEvent}
+use Rattle.model.specs.Plain.{Act, eventsOf, running, afterEvent}
 use Rattle.model.specs.Run.{runningPlace, turn, eventBound}
 use Rattle.theory.proofs.Search.{verdict-none, verdict-some}
 use Rattle.theory.proofs.Frames.{running-same}
@@ -25,6 +24,9 @@ use Rattle.tables.specs.declared.Header.{Header}
 use Rattle.tables.specs.Tables.{taskOf}
 use Rattle.tables.specs.Valid.{Kept}
 use Rattle.tables.proofs.Valid.{kept-on}
+use Rattle.prices.specs.declared.Price.{Price}
+use Rattle.prices.specs.Prices.{priceOf, mostPrice, Small}
+use Rattle.figures.specs.Figured.{sheetAt}
 use Rattle.turns.specs.declared.State.{State}
 use Rattle.turns.specs.declared.Turned.{Turned}
 use Rattle.turns.specs.Frames.{framesEnd, framesOf, stateOf, turnOf}
@@ -37,32 +39,32 @@ use Rattle.run.proofs.Going.{next-event, no-event, Ended, Going, going-
 abbrev pub mostBound : ℕ
 mostBound = 4294967295
 
--- w₀, buffer, cache₀ and memory₀ as they were lent; after i events the state is x, m blocks have moved and a are allowed. m and a fit 64 bits
-pub record Loops (h : Header) (events buffer cache₀ memory₀ w₀ : List ℕ) (i : ℕ) (x : State) (m a : ℕ) (answers cache memory w : List ℕ) : Type 0 where
-  pub runs : Runs w h x cache memory
+-- w₀, buffer, cache₀ and memory₀ as they were lent; after i events the state is x, m was moved and a is allowed. m and a fit 64 bits
+pub record Loops (price : Price) (h : Header) (events buffer cache₀ memory₀ w₀ : List ℕ) (i : ℕ) (x : State) (m a : ℕ) (answers cache memory w : List ℕ) : Type 0 where
+  pub runs : Runs price w h x cache memory
   pub task : taskOf w h ≡ taskOf w₀ h
   pub kept : Kept framesEnd w₀ w
-  pub going : Going (taskOf w₀ h) (sheetOf (taskOf w₀ h)) (ranOn (taskOf w₀ h) events cache₀ memory₀) (allowedOn (taskOf w₀ h) events) buffer i
+  pub going : Going (taskOf w₀ h) (sheetAt price (taskOf w₀ h)) (ranOn price (taskOf w₀ h) events cache₀ memory₀) (allowedOn price (taskOf w₀ h) events) buffer i
       (stateOf w x cache memory) (runs .frames) (eventsOf (drop (2 * i) events)) m a answers
-  pub small : m ≤ 2 * mostStack * i
+  pub small : m ≤ 2 * mostPrice * i
   pub little : a ≤ mostBound * i
 
-module _ {h : Header} {events buffer cache₀ memory₀ w₀ : List ℕ} where
+module _ {price : Price} {h : Header} {events buffer cache₀ memory₀ w₀ : List ℕ} where
   -- function 0 has been entered
-  pub loops-start : {x : State} → Fitting w₀ h events buffer cache₀ memory₀ → Started w₀ h (length memory₀) x
-      → Loops h events buffer cache₀ memory₀ w₀ 0 x 0 0 buffer cache₀ memory₀ w₀
+  pub loops-start : {x : State} → Fitting price w₀ h events buffer cache₀ memory₀ → Started w₀ h (length memory₀) x
+      → Loops price h events buffer cache₀ memory₀ w₀ 0 x 0 0 buffer cache₀ memory₀ w₀
   loops-start {x} f s =
       let j = begins cache₀ memory₀ (f .figured) s (f .blocks) (f .room) in
       record {
         runs = j .runs;
         task = refl;
         kept = record { size = refl; past = refl };
-        going = rw (s cache₀ memory₀ (f .blocks) refl, j .frames) (going-start (taskOf w₀ h) (sheetOf (taskOf w₀ h)) buffer _ _ (eventsOf events));
+        going = rw (s cache₀ memory₀ (f .blocks) refl, j .frames) (going-start (taskOf w₀ h) (sheetAt price (taskOf w₀ h)) buffer _ _ (eventsOf events));
         small = omega arith;
         little = omega arith;
       }
 
-  module _ {i : ℕ} {x : State} {m a : ℕ} {answers cache memory w : List ℕ} (l : Loops h events buffer cache₀ memory₀ w₀ i x m a answers cache memory w) where
+  module _ {i : ℕ} {x : State} {m a : ℕ} {answers cache memory w : List ℕ} (l : Loops price h events buffer cache₀ memory₀ w₀ i x m a answers cache memory w) where
     -- the point that runs is that of the plain stack
     place-same : runningPlace (taskOf w₀ h) (framesOf w x) ≡ running (taskOf w₀ h) (l .runs .frames)
     place-same = ap (runningPlace (taskOf w₀ h)) (l .runs .same) ∙ running-same (taskOf w₀ h) (l .runs .frames)
@@ -73,8 +75,8 @@ module _ {h : Header} {events buffer cache₀ memory₀ w₀ : List ℕ} where
     row-lent kind value o e = subst (λ (t : Task). eventRows i kind value (runningPlace t (framesOf w x)) ≡ o) (l .task) e
 
     served : {q : RunResult} {z : Ending} → q ≡ endedWith z i m a
-        → Ended (ranOn (taskOf w₀ h) events cache₀ memory₀) (allowedOn (taskOf w₀ h) events) buffer z i m a answers (stateOf w x cache memory .core)
-        → Serves (taskOf w₀ h) events buffer cache₀ memory₀ w₀ q answers cache memory w
+        → Ended (ranOn price (taskOf w₀ h) events cache₀ memory₀) (allowedOn price (taskOf w₀ h) events) buffer z i m a answers (stateOf w x cache memory .core)
+        → Serves price (taskOf w₀ h) events buffer cache₀ memory₀ w₀ q answers cache memory w
     served e d = record {
       returned = e ∙ d .result;
       answered = d .written;
@@ -85,48 +87,54 @@ module _ {h : Header} {events buffer cache₀ memory₀ w₀ : List ℕ} where
 
     -- no event is left
     pub loops-end : {q : RunResult} → length events % 2 ≡ 0 → length events / 2 ≤ length buffer → i ≡ length events / 2 → q ≡ endedWith AllDone i m a
-        → Serves (taskOf w₀ h) events buffer cache₀ memory₀ w₀ q answers cache memory w
+        → Serves price (taskOf w₀ h) events buffer cache₀ memory₀ w₀ q answers cache memory w
     loops-end p b e k =
         served k
-        (going-end (taskOf w₀ h) (sheetOf (taskOf w₀ h)) _ _ _ _ _ _ _ _ _ (omega arith) (rw (no-event events i p (omega arith)) at (l .going)))
+        (going-end (taskOf w₀ h) (sheetAt price (taskOf w₀ h)) _ _ _ _ _ _ _ _ _ (omega arith) (rw (no-event events i p (omega arith)) at (l .going)))
 
     -- a row refuses the next event
     pub loops-off : {q : RunResult} {v : Verdict} (r : Refusal) → i < length events / 2 → length events / 2 ≤ length buffer
         → v ≡ verdict.Refused r
         → v ≡ rowVerdict (eventRows i (getD events (2 * i) 0) (getD events (2 * i + 1) 0) (runningPlace (taskOf w h) (framesOf w x)))
         → q ≡ endedWith (Refused r) i m a
-        → Serves (taskOf w₀ h) events buffer cache₀ memory₀ w₀ q answers cache memory w
+        → Serves price (taskOf w₀ h) events buffer cache₀ memory₀ w₀ q answers cache memory w
     loops-off r b k n e j =
         served j
-        (going-off (taskOf w₀ h) (sheetOf (taskOf w₀ h)) _ _ _ _ _ _ _ _ _ _ _ place-same (omega arith) r
+        (going-off (taskOf w₀ h) (sheetAt price (taskOf w₀ h)) _ _ _ _ _ _ _ _ _ _ _ place-same (omega arith) r
         (row-lent (getD events (2 * i) 0) (getD events (2 * i + 1) 0) (some r) (verdict-some _ (sym e ∙ n)))
         (rw (next-event events i b) at (l .going)))
 
     -- the next event can be done
     pub loops-more : (kind value : ℕ) {v : Verdict} → v ≡ verdict.Accepted → v ≡ rowVerdict (eventRows i kind value (runningPlace (taskOf w h) (framesOf w x)))
-        → Runs w h x cache memory × (0 < x .depth)
+        → Runs price w h x cache memory × (0 < x .depth)
     loops-more kind value n e = (l .runs, accepted-runs (taskOf w h) w (x .depth) (x .f) (x .p) i kind value (verdict-none _ (sym e ∙ n)))
 
+    -- what it moves is at most the cache, each way
+    pub loops-few : {a : Act} {r : Turned} {w′ cache′ memory′ : List ℕ} → Turns price w h x cache memory a r w′ cache′ memory′
+        → Small price × (r .out ≤ mostStack) × (r .back ≤ mostStack)
+    loops-few u = let j = goes-on (l .runs) u in (l .runs .figured .small, j .out-few, j .back-few)
+
     -- the next event is done
-    pub loops-on : {v : Verdict} {r : Turned} {w′ cache′ memory′ : List ℕ} → i < length events / 2 → length events / 2 ≤ length buffer → r .bound ≤ mostBound
+    pub loops-on : {v : Verdict} {r : Turned} {c : ℕ} {w′ cache′ memory′ : List ℕ} → i < length events / 2 → length events / 2 ≤ length buffer
+        → r .bound ≤ mostBound → (c ≡ priceOf price (r .out) + priceOf price (r .back)) × (c ≤ 2 * mostPrice)
         → v ≡ verdict.Accepted
         → v ≡ rowVerdict (eventRows i (getD events (2 * i) 0) (getD events (2 * i + 1) 0) (runningPlace (taskOf w h) (framesOf w x)))
-        → Turns w h x cache memory (actOf (getD events (2 * i) 0) (getD events (2 * i + 1) 0)) r w′ cache′ memory′
-        → Loops h events buffer cache₀ memory₀ w₀ (i + 1) (r .state) (m + (r .out + r .back)) (a + r .bound) (set answers i (r .answer)) cache′ memory′ w′
-    loops-on {r = r} {w′ = w′} {cache′ = cache′} {memory′ = memory′} b k f o e u =
+        → Turns price w h x cache memory (actOf (getD events (2 * i) 0) (getD events (2 * i + 1) 0)) r w′ cache′ memory′
+        → Loops price h events buffer cache₀ memory₀ w₀ (i + 1) (r .state) (m + c) (a + r .bound) (set answers i (r .answer)) cache′ memory′ w′
+    loops-on {r = r} {c = c} {w′ = w′} {cache′ = cache′} {memory′ = memory′} b k f y o e u =
         let t = taskOf w₀ h in
         let d = actOf (getD events (2 * i) 0) (getD events (2 * i + 1) 0) in
         let n = row-lent (getD events (2 * i) 0) (getD events (2 * i + 1) 0) none (verdict-none _ (sym e ∙ o)) in
         let j = goes-on (l .runs) u in
         let fs : j .runs .frames ≡ afterEvent t (l .runs .frames) d = j .frames ∙ ap (λ (z : Task). afterEvent z (l .runs .frames) d) (l .task) in
-        let p = subst (λ (z : Task). turnOf w′ r cache′ memory′ ≡ turn z (sheetOf z) (stateOf w x cache memory) d) (l .task) (u .turn) in
-        let q = subst (λ (z : Task). r .bound ≡ eventBound z (sheetOf z) (l .runs .frames) d) (l .task) (j .bound) in
+        let p = subst (λ (z : Task). turnOf w′ r cache′ memory′ ≡ turn z (sheetAt price z) (stateOf w x cache memory) d) (l .task) (u .turn) in
+        let q = subst (λ (z : Task). r .bound ≡ eventBound z (sheetAt price z) (l .runs .frames) d) (l .task) (j .bound) in
         let g = rw (next-event events i b) at (l .going) in
         record {
           runs = j .runs;
           task = j .task ∙ l .task;
           kept = kept-on (l .kept) (u .stays .kept);
-          going = rw fs (going-on t (sheetOf t) _ _ _ _ _ _ _ _ _ _ _ place-same n (omega arith) g (turnOf w′ r cache′ memory′) (r .bound) p q);
-          small = omega (arith, l .small, j .out-few, j .back-few);
+          going = rw (fs, y .0) (going-on t (sheetAt price t) _ _ _ _ _ _ _ _ _ _ _ place-same n (omega arith) g (turnOf w′ r cache′ memory′) (r .bound) p q);
+          small = omega (arith, l .small, y .1);
           little = omega (arith, l .little);
         }

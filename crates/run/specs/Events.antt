@@ -8,7 +8,6 @@ use Rattle.model.specs.declared.RunResult.{RunResult}
 use Rattle.model.specs.Limits.{mostEventNumbers}
 use Rattle.model.specs.Core.{idle}
 use Rattle.model.specs.Figures.{longest}
-use Rattle.model.specs.Sheet.{sheetOf}
 use Rattle.model.specs.Plain.{eventsOf}
 use Rattle.model.specs.Run.{Ran, ran, allowed}
 use Rattle.model.specs.Services.{over, resultOf}
@@ -16,33 +15,34 @@ use Rattle.model.specs.Task.{Task}
 use Rattle.tables.specs.declared.Header.{Header}
 use Rattle.tables.specs.Tables.{taskOf}
 use Rattle.tables.specs.Valid.{Kept}
-use Rattle.figures.specs.Figured.{Figured}
+use Rattle.prices.specs.declared.Price.{Price}
+use Rattle.figures.specs.Figured.{Figured, sheetAt}
 use Rattle.turns.specs.Frames.{framesEnd}
 
 -- the working space has the task and its figures, and rows 16 to 19 refuse none of the buffers
-pub record Fitting (w : List ℕ) (h : Header) (events answers cache memory : List ℕ) : Type 0 where
-  pub figured : Figured w h
+pub record Fitting (price : Price) (w : List ℕ) (h : Header) (events answers cache memory : List ℕ) : Type 0 where
+  pub figured : Figured price w h
   pub paired : length events % 2 ≡ 0
   pub few : length events ≤ mostEventNumbers
   pub answered : length events / 2 ≤ length answers
   pub blocks : length cache ≡ h .stack
   pub room : longest (taskOf w h) 0 ≤ length memory
 
--- the run of a task with its own sheet, from a fresh start on these buffers; and what the sheet allows it
-abbrev pub ranOn : Task → List ℕ → List ℕ → List ℕ → Ran
-ranOn t events cache memory = ran t (sheetOf t) (idle cache memory) (eventsOf events)
+-- the run of a task with its own sheet at this price, from a fresh start on these buffers; and what the sheet allows it
+abbrev pub ranOn : Price → Task → List ℕ → List ℕ → List ℕ → Ran
+ranOn price t events cache memory = ran t (sheetAt price t) (idle cache memory) (eventsOf events)
 
-abbrev pub allowedOn : Task → List ℕ → ℕ
-allowedOn t events = allowed t (sheetOf t) (eventsOf events)
+abbrev pub allowedOn : Price → Task → List ℕ → ℕ
+allowedOn price t events = allowed t (sheetAt price t) (eventsOf events)
 
 -- the result of a run that ended so after this many events
 abbrev pub endedWith : Ending → ℕ → ℕ → ℕ → RunResult
 endedWith ending done moved allowed = record { ending = ending; done = done; moved = moved; allowed = allowed }
 
 -- r, answers′, cache′ and memory′ are what the run of task t returns and leaves, and w′ is w but for what a run uses
-pub record Serves (t : Task) (events answers cache memory w : List ℕ) (r : RunResult) (answers′ cache′ memory′ w′ : List ℕ) : Type 0 where
-  pub returned : r ≡ resultOf (ranOn t events cache memory) (allowedOn t events)
-  pub answered : answers′ ≡ over (ranOn t events cache memory .answers) answers
-  pub cached : cache′ ≡ ranOn t events cache memory .core .cache
-  pub stored : memory′ ≡ ranOn t events cache memory .core .memory
+pub record Serves (price : Price) (t : Task) (events answers cache memory w : List ℕ) (r : RunResult) (answers′ cache′ memory′ w′ : List ℕ) : Type 0 where
+  pub returned : r ≡ resultOf (ranOn price t events cache memory) (allowedOn price t events)
+  pub answered : answers′ ≡ over (ranOn price t events cache memory .answers) answers
+  pub cached : cache′ ≡ ranOn price t events cache memory .core .cache
+  pub stored : memory′ ≡ ranOn price t events cache memory .core .memory
   pub kept : Kept framesEnd w w′

@@ -1,11 +1,15 @@
 // A run over an event list: every event in its order, until one is refused or all are done. The answers, the cache, the memory and the counts are
 // those of the model's run.
 ghost use mathlib.Core.Path.{_≡_};
+ghost use Prim.Native.Nat.{_+_, _*_, _≤_};
+ghost use Rattle.model.specs.Limits.{mostStack};
 ghost use Rattle.tables.specs.Tables.{taskOf};
+ghost use Rattle.prices.specs.Prices.{priceOf, mostPrice, Small};
 ghost use Rattle.run.specs.Events.{Fitting, endedWith, Serves};
 use model::Ending;
 use model::RunResult;
 use model::Verdict;
+use prices::Price;
 use tables::Header;
 
 fn ended(ending: Ending, done: u32, moved: u64, allowed: u64) -> RunResult
@@ -19,6 +23,14 @@ fn ended(ending: Ending, done: u32, moved: u64, allowed: u64) -> RunResult
     }
 }
 
+// The price of what an event moves out and back: two moves, each with a start.
+fn moves_price(price: Price, out: usize, back: usize) -> u64
+    requires { ⌜ Small price × (out ≤ mostStack) × (back ≤ mostStack) ⌝ }
+    ensures { λ r. ⌜ (r ≡ priceOf price out + priceOf price back) × (r ≤ 2 * mostPrice) ⌝ }
+{
+    (price.of_move(out as u32) + price.of_move(back as u32)) as u64
+}
+
 // The events, two numbers each, from a fresh start of the task in the working space. An answer is written for each event done.
 pub fn run_events(
     events: &[u32],
@@ -27,9 +39,10 @@ pub fn run_events(
     memory: &mut [u32],
     work: &mut [u32],
     h: Header,
+    price: Price,
 ) -> RunResult
-    requires { ⌜ Fitting (now work) h (now events) (now answers) (now cache) (now memory) ⌝ }
-    ensures { λ r. ⌜ Serves (taskOf (now (work .entry)) h) (now (events .entry)) (now (answers .entry)) (now (cache .entry)) (now (memory .entry))
+    requires { ⌜ Fitting price (now work) h (now events) (now answers) (now cache) (now memory) ⌝ }
+    ensures { λ r. ⌜ Serves price (taskOf (now (work .entry)) h) (now (events .entry)) (now (answers .entry)) (now (cache .entry)) (now (memory .entry))
         (now (work .entry)) r (now (answers .exit)) (now (cache .exit)) (now (memory .exit)) (now (work .exit)) ⌝ }
 {
     let mut x = turns::start(work, h, memory.len());
@@ -44,9 +57,9 @@ pub fn run_events(
         if let Verdict::Refused(r) = turns::event_row(work, h, x, done, kind, value) {
             return ended(Ending::Refused(r), done, moved, allowed);
         }
-        let turned = turns::turn(work, h, x, cache, memory, kind, value);
+        let turned = turns::turn(work, h, price, x, cache, memory, kind, value);
         answers[i] = turned.answer;
-        moved += (turned.out + turned.back) as u64;
+        moved += moves_price(price, turned.out, turned.back);
         allowed += turned.bound as u64;
         let next = turned.state;
         x = next;

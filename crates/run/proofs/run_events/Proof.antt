@@ -4,29 +4,29 @@ use mathlib.Core.Path.{_≡_, refl}
 use native.Mathlib.Omega.{arith}
 use lib.ListN.{length}
 use borrow.Author.Needs.{needs}
-use Rattle.model.specs.Limits.{mostStack, mostEventNumbers}
+use Rattle.model.specs.Limits.{mostEventNumbers}
+use Rattle.prices.specs.Prices.{mostPrice}
 use Rattle.turns.proofs.Given.{runs-placed}
-use Rattle.turns.proofs.Kept.{goes-on}
-use Rattle.run.proofs.Loop.{mostBound, Loops, loops-start, loops-end, loops-off, loops-more, loops-on}
+use Rattle.run.proofs.Loop.{mostBound, Loops, loops-start, loops-end, loops-off, loops-more, loops-few, loops-on}
 use Rattle.run.proofs.run_events.Statement.{statement}
 use Rattle.run.proofs.run_events.Tie as tie
 
 abbrev Inv-loop : tie.InvT-loop
-Inv-loop events answers₀ cache₀ memory₀ work₀ h x₀ count moved₀ allowed₀ i₀ answers cache memory work x moved allowed i =
-    Loops h events answers₀ cache₀ memory₀ work₀ i x moved allowed answers cache memory work
+Inv-loop events answers₀ cache₀ memory₀ work₀ h price x₀ count moved₀ allowed₀ i₀ answers cache memory work x moved allowed i =
+    Loops price h events answers₀ cache₀ memory₀ work₀ i x moved allowed answers cache memory work
     × (i ≤ count)
     × (length cache ≡ length cache₀)
     × (length memory ≡ length memory₀)
 
 abbrev μ-loop : tie.MeasureT-loop
-μ-loop events answers₀ cache₀ memory₀ work₀ h x₀ count moved₀ allowed₀ i₀ answers cache memory work x moved allowed i = count - i
+μ-loop events answers₀ cache₀ memory₀ work₀ h price x₀ count moved₀ allowed₀ i₀ answers cache memory work x moved allowed i = count - i
 
 -- an event is left, its answer has a place, and the counts before it are small
 bounds : (l : tie.In-loop Inv-loop μ-loop)
     → let s = l .before .before .before .before .before .before .before .before .before in
     let x = l .before .loop in
     (x .i < length (s .args .events .now) / 2) × (length (s .args .events .now) ≤ mostEventNumbers) × (x .i < length (x .answers))
-    × (x .moved ≤ 2 * mostStack * x .i)
+    × (x .moved ≤ 2 * mostPrice * x .i)
     × (x .allowed ≤ mostBound * x .i)
 bounds l =
     let p = l .before .before .before .before .before .before .before .before .before .pre in
@@ -45,6 +45,10 @@ turn-requires : tie.Need-turn-requires Inv-loop μ-loop
 turn-requires c κs = loops-more (c .before .before .before .before .before .before .before .before .before .before .loop .inv .0) _ _
     (c .before .before .before .enum-told .given .1) (c .before .before .before .before .before .event-row .ensures)
 
+moves-price-requires : tie.Need-moves-price-requires Inv-loop μ-loop
+moves-price-requires c κs =
+    loops-few (c .before .before .before .before .before .before .before .before .before .before .before .before .before .before .before .before .before .loop .inv .0) (c .before .before .before .before .before .before .turn .ensures)
+
 loop-again : tie.Need-loop-again Inv-loop μ-loop
 loop-again c =
     let l = c .before .before .before .before .before .before .before .before .before .before .before .before .before .before .before .before .before
@@ -52,7 +56,7 @@ loop-again c =
     let k = l .before .loop .inv in
     let t = c .before .before .before .before .before .before .before .before .before .turn in (
       loops-on (k .0) {r = t .result} (bounds l .0) (l .before .before .before .before .before .before .before .before .before .pre .answered)
-          (omega (arith, c .before .struct-known2 .given))
+          (omega (arith, c .before .struct-known .given)) (c .before .before .moves-price .ensures)
           (c .before .before .before .before .before .before .before .before .before .before .before .before .before .enum-told .given .1)
           (c .before .before .before .before .before .before .before .before .before .before .before .before .before .before .before .event-row .ensures)
           (t .ensures),
@@ -73,7 +77,7 @@ run-events-spec =
     (tie.spec
     Inv-loop
     μ-loop
-    (λ c κs. (c .before .before .before .before .before .before .pre .figured, c .before .before .before .before .before .before .pre .room))
+    (λ c κs. (c .before .before .before .before .before .before .pre .figured .settled, c .before .before .before .before .before .before .pre .room))
     (λ c. (loops-start (c .before .before .before .before .before .before .before .pre) (c .start .ensures), omega arith, refl, refl))
     (λ c. omega arith)
     (λ c. omega arith)
@@ -103,18 +107,8 @@ run-events-spec =
       bounds (c .before .before .before .before .before .before .before .before .before .before .before .before .before .before
           .before .before),
     ))
-    (λ c. omega (
-      arith,
-      goes-on (c .before .before .before .before .before .before .before .before .before .before .before .before .before .before
-          .before .before .before .before .loop .inv .0 .runs) (c .before .before .before .before .before .before .before .turn .ensures),
-    ))
-    (λ c. omega (
-      arith,
-      bounds (c .before .before .before .before .before .before .before .before .before .before .before .before .before .before
-          .before .before .before),
-      goes-on (c .before .before .before .before .before .before .before .before .before .before .before .before .before
-          .before .before .before .before .before .loop .inv .0 .runs) (c .before .before .before .before .before .before .before .turn .ensures),
-    ))
+    moves-price-requires
+    (λ c. omega (arith, bounds (c .before .before .before .before .before .before .before .before .before .before .before .before .before .before .before .before .before), c .moves-price .ensures .1))
     (λ c. omega arith)
     (λ c. omega (
       arith,
