@@ -18,9 +18,9 @@ use Rattle.model.specs.Basic.{unless, _orElse_}
 use Rattle.model.specs.Rows.{refuse, rowVerdict}
 use Rattle.model.specs.Task.{Task, Judged, refused, task}
 use Rattle.model.specs.Figures.{longest}
-use Rattle.model.specs.Refusal.{withRows, runRows}
+use Rattle.model.specs.Refusal.{withRows, pricedRows, runRows}
 use Rattle.model.specs.Plain.{eventsOf}
-use Rattle.model.specs.Services.{cleared, AfterRun, runAs, runJudged, runOf, Demand3}
+use Rattle.model.specs.Services.{cleared, AfterRun, runAs, runJudged, runWith, runOf, Demand3}
 use Rattle.theory.proofs.Lists.{and-holds}
 use Rattle.theory.proofs.Firsts.{row-none, unless-none}
 use Rattle.theory.proofs.Search.{verdict-none, verdict-some}
@@ -28,6 +28,8 @@ use Rattle.theory.proofs.Faithful.{demand-3}
 use Rattle.tables.specs.declared.Header.{Header}
 use Rattle.tables.specs.Tables.{taskOf}
 use Rattle.tables.proofs.Laws.{count-is}
+use Rattle.prices.specs.declared.Price.{Price}
+use Rattle.prices.specs.Prices.{priceOf}
 use Rattle.figures.specs.declared.FuncFigures.{FuncFigures}
 use Rattle.figures.specs.Figured.{Figured, funcFigures}
 use Rattle.run.specs.Events.{Fitting, Serves}
@@ -91,10 +93,10 @@ rows-split e a c m t =
     or-later (unless (eqb (e % 2) 0 && leb e mostEventNumbers) (refuse EventList 0)) (unless (leb (e / 2) a) (refuse AnswersTooSmall (e / 2))) _ _
 
 -- the run of an accepted task, where v is the verdict of 16, 17 and 18
-module _ {t : Task} (events answers cache memory : List ℕ) {v : Verdict}
+module _ (price : Price) {t : Task} (events answers cache memory : List ℕ) {v : Verdict}
     (e : v ≡ rowVerdict (bufferRows (length events) (length answers) (length cache) (t .stack))) where
   pub unfit : {q : Refusal} {r : RunResult} (w : List ℕ) → v ≡ Refused q → r ≡ noneDone q
-      → Performs (task t) w events answers cache memory r w answers cache memory
+      → Performs price (task t) w events answers cache memory r w answers cache memory
   unfit w n i =
       let m : bufferRows (length events) (length answers) (length cache) (t .stack) ≡ some _ = verdict-some _ (sym e ∙ n) in
       record {
@@ -104,7 +106,7 @@ module _ {t : Task} (events answers cache memory : List ℕ) {v : Verdict}
       }
 
   -- t′: the task as its figures were worked out; k: those of function 0
-  module _ (n : v ≡ Accepted) {t′ : Task} (same : t′ ≡ t) {k : FuncFigures} (g : k ≡ funcFigures t′ 0) where
+  module _ (n : v ≡ Accepted) {t′ : Task} (same : t′ ≡ t) {k : FuncFigures} (g : k ≡ funcFigures price t′ 0) where
     room-is : k .longest ≡ longest t 0
     unfolding funcFigures
     room-is = ap (λ (z : FuncFigures). z .longest) g ∙ ap (λ (z : Task). longest z 0) same
@@ -117,7 +119,7 @@ module _ {t : Task} (events answers cache memory : List ℕ) {v : Verdict}
 
     module _ {w w′ : List ℕ} {r : RunResult} (after : cleared w′ ≡ cleared w) where
       pub too-little : length memory < k .longest → r ≡ noneDone (refuse MemoryTooSmall (k .longest))
-          → Performs (task t) w events answers cache memory r w′ answers cache memory
+          → Performs price (task t) w events answers cache memory r w′ answers cache memory
       too-little h i =
           let l : length memory < longest t 0 = omega (arith, room-is) in
           record {
@@ -127,8 +129,8 @@ module _ {t : Task} (events answers cache memory : List ℕ) {v : Verdict}
           }
 
       pub all-run : {w″ answers′ cache′ memory′ : List ℕ} → k .longest ≤ length memory
-          → Serves t′ events answers cache memory w′ r answers′ cache′ memory′ w″
-          → cleared w″ ≡ cleared w′ → Performs (task t) w events answers cache memory r w″ answers′ cache′ memory′
+          → Serves price t′ events answers cache memory w′ r answers′ cache′ memory′ w″
+          → cleared w″ ≡ cleared w′ → Performs price (task t) w events answers cache memory r w″ answers′ cache′ memory′
       all-run h s d =
           let l : longest t 0 ≤ length memory = omega (arith, room-is) in
           let z = rw same at s in
@@ -139,13 +141,13 @@ module _ {t : Task} (events answers cache memory : List ℕ) {v : Verdict}
           }
 
 -- what the run of the events asks for
-module _ {w : List ℕ} {h : Header} (f : Figured w h) where
+module _ {price : Price} {w : List ℕ} {h : Header} (f : Figured price w h) where
   pub some-func : 0 < h .funcs
   some-func = omega (arith, f .settled .formed .shaped .some, count-is w h)
 
   pub fits : (events answers cache memory : List ℕ) {v : Verdict} {k : FuncFigures}
-      → v ≡ rowVerdict (bufferRows (length events) (length answers) (length cache) (h .stack)) → v ≡ Accepted → k ≡ funcFigures (taskOf w h) 0
-      → k .longest ≤ length memory → Fitting w h events answers cache memory
+      → v ≡ rowVerdict (bufferRows (length events) (length answers) (length cache) (h .stack)) → v ≡ Accepted → k ≡ funcFigures price (taskOf w h) 0
+      → k .longest ≤ length memory → Fitting price w h events answers cache memory
   unfolding funcFigures
   fits events answers cache memory e n g l =
       let p = passes (length events) (length answers) (length cache) (h .stack) (verdict-none _ (sym e ∙ n)) in
@@ -160,22 +162,27 @@ module _ {w : List ℕ} {h : Header} (f : Figured w h) where
 
 -- ---- what was judged
 
-pub none-run : (q : Refusal) (w events answers cache memory : List ℕ) → Performs (refused q) w events answers cache memory (noneDone q) w answers cache memory
-none-run q w events answers cache memory = record { left = λ work. refl; after = refl }
+pub none-run : (price : Price) (q : Refusal) (w events answers cache memory : List ℕ)
+    → Performs price (refused q) w events answers cache memory (noneDone q) w answers cache memory
+none-run price q w events answers cache memory = record { left = λ work. refl; after = refl }
 
 -- the service
-module _ {text w w′ w″ events answers cache memory answers′ cache′ memory′ : List ℕ} {j : Judgement} {r : RunResult} (a : Lent text w j w′)
-    (b : Performs (judgedIn w′ j) w′ events answers cache memory r w″ answers′ cache′ memory′) {l : List ℕ} (c : l ≡ cleared w″) where
-  run-is : runOf text w events answers cache memory ≡ performed (judgedIn w′ j) (cleared w) events answers cache memory
-  unfolding runOf runJudged
+module _ {price : Price} {text w w′ w″ events answers cache memory answers′ cache′ memory′ : List ℕ} {j : Judgement} {r : RunResult}
+    (a : Lent (pricedRows (length w) (price .start) (price .each)) text w j w′)
+    (b : Performs price (judgedIn w′ j) w′ events answers cache memory r w″ answers′ cache′ memory′) {l : List ℕ} (c : l ≡ cleared w″) where
+  run-is : runOf text (price .start) (price .each) w events answers cache memory
+      ≡ performed price (judgedIn w′ j) (cleared w) events answers cache memory
+  unfolding runWith runJudged
   run-is =
       ap
-      (λ (x : Judged). runAs x (cleared w) (eventsOf events) answers cache memory)
+      (λ (x : Judged). runAs (priceOf price) x (cleared w) (eventsOf events) answers cache memory)
       (own-rows (runRows (length events) (length answers) (length cache) (length memory)) _ text
       ∙ ap (withRows (runRows (length events) (length answers) (length cache) (length memory))) (a .same))
 
-  pub run-left : afterRun r l answers′ cache′ memory′ ≡ runOf text w events answers cache memory
+  pub run-left : afterRun r l answers′ cache′ memory′ ≡ runOf text (price .start) (price .each) w events answers cache memory
   run-left = ap (λ (x : List ℕ). afterRun r x answers′ cache′ memory′) (c ∙ b .after ∙ a .after) ∙ b .left (cleared w) ∙ sym run-is
 
-  pub run-demand : Demand3 text w events answers cache memory (afterRun r l answers′ cache′ memory′)
-  run-demand = subst (λ (x : AfterRun). Demand3 text w events answers cache memory x) (sym run-left) (demand-3 text w events answers cache memory)
+  pub run-demand : Demand3 (pricedRows (length w) (price .start) (price .each)) text events answers cache memory (afterRun r l answers′ cache′ memory′)
+  run-demand =
+      subst (λ (x : AfterRun). Demand3 (pricedRows (length w) (price .start) (price .each)) text events answers cache memory x) (sym run-left)
+      (demand-3 text (price .start) (price .each) w events answers cache memory)

@@ -6,16 +6,19 @@ use mathlib.Core.List.{List, _++_}
 use mathlib.Core.Option.{Option, none, some}
 use lib.ListN.{length, drop, replicate}
 use borrow.Author.Tests.{lt-ltb, le-ltb, lt-leb, le-leb}
-use Rattle.model.specs.declared.Row.the-variants.{WorkTooSmall, OutputTooSmall}
+use Rattle.model.specs.declared.Row.the-variants.{OutputTooSmall}
 use Rattle.model.specs.declared.Refusal.{Refusal}
+use Rattle.model.specs.declared.Verdict.{Verdict}
 use Rattle.model.specs.declared.Verdict.the-variants.{Accepted, Refused}
 use Rattle.model.specs.declared.WriteResult.{WriteResult}
 use Rattle.model.specs.Limits.{workLength}
-use Rattle.model.specs.Rows.{refuse}
+use Rattle.model.specs.Rows.{refuse, rowVerdict}
 use Rattle.model.specs.Task.{Task, Judged, refused, task}
 use Rattle.model.specs.Sheet.{reportText}
-use Rattle.model.specs.Refusal.{withRows, judged, workRow, judge, noRows, outputRows}
+use Rattle.model.specs.Refusal.{withRows, judged, workRow, pricedRows, judge, noRows, outputRows}
 use Rattle.model.specs.Services.{cleared, over, verdictOf, checkOf, writtenAs, writtenOf, reportOf}
+use Rattle.theory.proofs.Accepted.{accepted}
+use Rattle.theory.proofs.Search.{verdict-none}
 use Rattle.tables.specs.declared.Header.{Header}
 use Rattle.tables.specs.Layout.{tablesLength}
 use Rattle.tables.specs.Valid.{Kept}
@@ -23,7 +26,10 @@ use Rattle.tables.proofs.Valid.{kept-later}
 use Rattle.judge.specs.declared.Judgement.{Judgement}
 use Rattle.judge.specs.declared.Judgement.the-variants as judgement
 use Rattle.judge.specs.Judgement.{judgedIn, SettledBy, Judges}
-use Rattle.services.specs.Served.{ReadyBy, Lent, nothingWritten, reported, Reports}
+use Rattle.prices.specs.declared.Price.{Price}
+use Rattle.prices.specs.Prices.{priceOf}
+use Rattle.services.specs.Served.{Passes, ReadyBy, ReadyAt, Lent, nothingWritten, reported, Reports}
+use Rattle.services.proofs.Before.{priced-small}
 
 -- the working space after a service, where it is too small and where it is not
 pub cleared-short : (w : List ℕ) → length w < workLength → w ≡ cleared w
@@ -39,10 +45,10 @@ pub cleared-same : {w w′ : List ℕ} → workLength ≤ length w → Kept work
 cleared-same {w} {w′} h k =
     sym (cleared-full w′ (omega (arith, k .size))) ∙ ap (λ (l : List ℕ). replicate workLength 0 ++ l) (k .past) ∙ cleared-full w h
 
--- 15, and the rows of the text
-pub lent-short : (text w : List ℕ) → length w < workLength → Lent text w (judgement.Refused (refuse WorkTooSmall workLength)) w
-unfolding workRow judge
-lent-short text w h = record { same = rw (lt-leb workLength (length w) h); after = refl; ready = tt }
+-- the rows before those of the text, and these
+pub lent-refused : (first : Option Refusal) (text w : List ℕ) {q : Refusal} → first ≡ some q → Lent first text w (judgement.Refused q) w
+unfolding judge
+lent-refused first text w e = record { same = rw e refl; after = refl; ready = tt }
 
 no-rows : (w : List ℕ) (r : Judgement) → withRows noRows (judgedIn w r) ≡ judgedIn w r
 no-rows w (judgement.Task h) = refl
@@ -52,17 +58,30 @@ ready-by : (w : List ℕ) (r : Judgement) → SettledBy w r → workLength ≤ l
 ready-by w (judgement.Task h) s l = (s, l)
 ready-by w (judgement.Refused q) s l = tt
 
-pub lent-judged : (text : List ℕ) {w w′ : List ℕ} {r : Judgement} → workLength ≤ length w → Judges (judged text) w r w′ → Lent text w r w′
-unfolding workRow judge
-lent-judged text {w} {w′} {r} h a =
+pub lent-judged : (first : Option Refusal) (text : List ℕ) {w w′ : List ℕ} {r : Judgement} → first ≡ none → workLength ≤ length w
+    → Judges (judged text) w r w′ → Lent first text w r w′
+unfolding judge
+lent-judged first text {w} {w′} {r} e h a =
     record {
-      same = rw (le-leb workLength (length w) h) (ap (withRows noRows) (a .same) ∙ no-rows w′ r);
+      same = rw e (ap (withRows noRows) (a .same) ∙ no-rows w′ r);
       after = cleared-same h (kept-later 13120 (a .kept));
       ready = ready-by w′ r (a .settled) (omega (arith, a .kept .size));
     }
 
+-- rows that pass leave room, and a small price
+pub first-passes : (o : Option Refusal) (w : List ℕ) (v : Verdict) → v ≡ rowVerdict o → (o ≡ none → workLength ≤ length w) → Passes v w
+first-passes o w Accepted e h = h (verdict-none o (sym e))
+first-passes o w (Refused q) e h = tt
+
+pub ready-at : (price : Price) (n : ℕ) (text w : List ℕ) (r : Judgement) {w′ : List ℕ} → Lent (pricedRows n (price .start) (price .each)) text w r w′
+    → ReadyAt price w′ r
+ready-at price n text w (judgement.Task h) a =
+    let e = accepted (pricedRows n (price .start) (price .each)) noRows text _ (a .same) .no-first in
+    (a .ready .0, a .ready .1, priced-small n price e)
+ready-at price n text w (judgement.Refused q) a = tt
+
 -- check adds no row to those
-module _ {text w w′ : List ℕ} {r : Judgement} (a : Lent text w r w′) where
+module _ {text w w′ : List ℕ} {r : Judgement} (a : Lent (workRow (length w)) text w r w′) where
   pub accepts : {g : Header} → r ≡ judgement.Task g → Accepted ≡ checkOf text w .verdict
   unfolding checkOf verdictOf
   accepts e = rw (a .same, e)
@@ -75,34 +94,38 @@ module _ {text w w′ : List ℕ} {r : Judgement} (a : Lent text w r w′) where
   unfolding checkOf
   checked e = e ∙ a .after
 
+-- the bytes of a report at this price
+abbrev printed : Price → Task → List ℕ
+printed price t = reportText (priceOf price) t
+
 -- 14, and the report; t′: the task as it was printed
-module _ {t t′ : Task} (same : t′ ≡ t) {w w′ : List ℕ} (after : cleared w′ ≡ cleared w) where
-  pub too-short : {output : List ℕ} {n : ℕ} → n ≡ length (reportText t′) → length output < n
-      → Reports (task t) w output (nothingWritten (refuse OutputTooSmall n)) w′ output
+module _ (price : Price) {t t′ : Task} (same : t′ ≡ t) {w w′ : List ℕ} (after : cleared w′ ≡ cleared w) where
+  pub too-short : {output : List ℕ} {n : ℕ} → n ≡ length (printed price t′) → length output < n
+      → Reports price (task t) w output (nothingWritten (refuse OutputTooSmall n)) w′ output
   unfolding outputRows
   too-short {output} {n} e h =
-      let f : n ≡ length (reportText t) = e ∙ ap (λ (t : Task). length (reportText t)) same in
-      let l : length output < length (reportText t) = omega arith in
+      let f : n ≡ length (printed price t) = e ∙ ap (λ (t : Task). length (printed price t)) same in
+      let l : length output < length (printed price t) = omega arith in
       record {
-        returned = λ work. rw (lt-leb (length (reportText t)) (length output) l) (ap (λ (k : ℕ). nothingWritten (refuse OutputTooSmall k)) f);
-        written = λ work. rw (lt-leb (length (reportText t)) (length output) l);
+        returned = λ work. rw (lt-leb (length (printed price t)) (length output) l) (ap (λ (k : ℕ). nothingWritten (refuse OutputTooSmall k)) f);
+        written = λ work. rw (lt-leb (length (printed price t)) (length output) l);
         after = after;
       }
 
-  pub long-enough : {output output′ : List ℕ} {n : ℕ} → n ≡ length (reportText t′) → n ≤ length output → output′ ≡ over (reportText t′) output
-      → Reports (task t) w output (record { verdict = Accepted; written = n }) w′ output′
+  pub long-enough : {output output′ : List ℕ} {n : ℕ} → n ≡ length (printed price t′) → n ≤ length output → output′ ≡ over (printed price t′) output
+      → Reports price (task t) w output (record { verdict = Accepted; written = n }) w′ output′
   unfolding outputRows
   long-enough {output} {output′} {n} e h o =
-      let f : n ≡ length (reportText t) = e ∙ ap (λ (t : Task). length (reportText t)) same in
-      let l : length (reportText t) ≤ length output = omega arith in
+      let f : n ≡ length (printed price t) = e ∙ ap (λ (t : Task). length (printed price t)) same in
+      let l : length (printed price t) ≤ length output = omega arith in
       record {
-        returned = λ work. rw (le-leb (length (reportText t)) (length output) l) (λ i. record { verdict = Accepted; written = f i });
-        written = λ work. rw (le-leb (length (reportText t)) (length output) l) (o ∙ ap (λ (t : Task). over (reportText t) output) same);
+        returned = λ work. rw (le-leb (length (printed price t)) (length output) l) (λ i. record { verdict = Accepted; written = f i });
+        written = λ work. rw (le-leb (length (printed price t)) (length output) l) (o ∙ ap (λ (t : Task). over (printed price t) output) same);
         after = after;
       }
 
-pub none-reported : (q : Refusal) (w output : List ℕ) → Reports (refused q) w output (nothingWritten q) w output
-none-reported q w output = record { returned = λ work. refl; written = λ work. refl; after = refl }
+pub none-reported : (price : Price) (q : Refusal) (w output : List ℕ) → Reports price (refused q) w output (nothingWritten q) w output
+none-reported price q w output = record { returned = λ work. refl; written = λ work. refl; after = refl }
 
 -- the rows of a service come after those that every service has
 pub own-rows : (own : Task → Option Refusal) (first : Option Refusal) (text : List ℕ) → judge first own text ≡ withRows own (judge first noRows text)
@@ -115,26 +138,26 @@ own-rows own none text = later (judged text)
     later (task t) = refl
 
 -- the working space does not depend on the verdict
-work-left : (j : Judged) (work output : List ℕ) → writtenAs reportText j work output .work ≡ work
-work-left (refused r) work output = refl
-work-left (task t) work output = refl
+work-left : (print : Task → List ℕ) (j : Judged) (work output : List ℕ) → writtenAs print j work output .work ≡ work
+work-left print (refused r) work output = refl
+work-left print (task t) work output = refl
 
-module _ {text w w′ w″ output output′ : List ℕ} {j : Judgement} {r : WriteResult} (a : Lent text w j w′)
-    (b : Reports (judgedIn w′ j) w′ output r w″ output′) where
-  report-is : reportOf text w output ≡ reported (judgedIn w′ j) (cleared w) output
+module _ {price : Price} {text w w′ w″ output output′ : List ℕ} {j : Judgement} {r : WriteResult}
+    (a : Lent (pricedRows (length w) (price .start) (price .each)) text w j w′) (b : Reports price (judgedIn w′ j) w′ output r w″ output′) where
+  report-is : reportOf text (price .start) (price .each) w output ≡ reported price (judgedIn w′ j) (cleared w) output
   unfolding writtenOf
   report-is =
       ap
-      (λ (x : Judged). writtenAs reportText x (cleared w) output)
-      (own-rows (outputRows reportText (length output)) _ text ∙ ap (withRows (outputRows reportText (length output))) (a .same))
+      (λ (x : Judged). writtenAs (printed price) x (cleared w) output)
+      (own-rows (outputRows (printed price) (length output)) _ text ∙ ap (withRows (outputRows (printed price) (length output))) (a .same))
 
-  pub report-result : r ≡ reportOf text w output .result
+  pub report-result : r ≡ reportOf text (price .start) (price .each) w output .result
   report-result = rw report-is (b .returned (cleared w))
 
-  pub report-output : output′ ≡ reportOf text w output .output
+  pub report-output : output′ ≡ reportOf text (price .start) (price .each) w output .output
   report-output = rw report-is (b .written (cleared w))
 
-  pub report-work : {l : List ℕ} → l ≡ cleared w″ → l ≡ reportOf text w output .work
+  pub report-work : {l : List ℕ} → l ≡ cleared w″ → l ≡ reportOf text (price .start) (price .each) w output .work
   report-work e =
-      let x = withRows (outputRows reportText (length output)) (judgedIn w′ j) in
-      e ∙ (b .after ∙ a .after) ∙ rw report-is (sym (work-left x (cleared w) output))
+      let x = withRows (outputRows (printed price) (length output)) (judgedIn w′ j) in
+      e ∙ (b .after ∙ a .after) ∙ rw report-is (sym (work-left (printed price) x (cleared w) output))

@@ -1,17 +1,22 @@
-// The services over a task text. Each judges what it was lent and refuses; none has a requires. Each goes the same way: 15, the judgement of the
-// text, its own rows, its own work, and the working space cleared.
+// The services over a task text. Each judges what it was lent and refuses; none has a requires. Each goes the same way: 15 (and 23 where there are
+// prices), the judgement of the text, its own rows, its own work, and the working space cleared.
 ghost use mathlib.Core.Path.{_≡_};
+ghost use mathlib.Core.Option.{Option};
+ghost use lib.ListN.{length};
+ghost use Rattle.model.specs.declared.Refusal as refusal;
+ghost use Rattle.model.specs.Rows.{rowVerdict};
+ghost use Rattle.model.specs.Refusal.{pricedRows};
 ghost use Rattle.model.specs.Services.{cleared, checkOf, reportOf, runOf, Demand3};
-ghost use Rattle.services.specs.Served.{Lent, afterRun};
+ghost use Rattle.services.specs.Served.{Passes, Lent, afterRun};
 use judge::Judgement;
 use model::Limits;
-use model::Refusal;
-use model::Row;
 use model::RunResult;
 use model::Verdict;
 use model::WriteResult;
+use prices::Price;
 
 mod reporting;
+mod rows;
 mod running;
 
 // The working numbers of a service become 0, where there are as many.
@@ -28,15 +33,14 @@ fn clear(work: &mut [u32])
     }
 }
 
-// 15, and the judgement of the text. A working space that is too small is untouched.
-fn judge_lent(text: &[u8], work: &mut [u32]) -> Judgement
-    ensures { λ r. ⌜ Lent (now (text .entry)) (now (work .entry)) r (now (work .exit)) ⌝ }
+// The rows before those of the text have this verdict; then the judgement of the text. A working space that is too small is untouched.
+fn judge_lent(first: Verdict, text: &[u8], work: &mut [u32]) -> Judgement
+    requires { ⌜ Passes first (now work) ⌝ }
+    ensures { λ r. ⌜ ((rows : Option refusal.Refusal) → first ≡ rowVerdict rows →
+        Lent rows (now (text .entry)) (now (work .entry)) r (now (work .exit))) ⌝ }
 {
-    if work.len() < Limits::WORK {
-        return Judgement::Refused(Refusal {
-            row: Row::WorkTooSmall,
-            place: Limits::WORK as u32,
-        });
+    if let Verdict::Refused(r) = first {
+        return Judgement::Refused(r);
     }
     judge::judge_text(text, work)
 }
@@ -48,7 +52,8 @@ pub fn check(text: &[u8], work: &mut [u32]) -> Verdict
     ensures verdict { λ r. ⌜ r ≡ checkOf (now (text .entry)) (now (work .entry)) .verdict ⌝ }
     ensures work { λ r. ⌜ now (work .exit) ≡ checkOf (now (text .entry)) (now (work .entry)) .work ⌝ }
 {
-    let judgement = judge_lent(text, work);
+    let first = rows::work_row(work.len());
+    let judgement = judge_lent(first, text, work);
     clear(work);
     match judgement {
         Judgement::Task(_) => Verdict::Accepted,
@@ -56,48 +61,61 @@ pub fn check(text: &[u8], work: &mut [u32]) -> Verdict
     }
 }
 
-// Report: the sheet of a text over the first bytes of the output, and the working space cleared.
+// Report: the sheet of a text over the first bytes of the output, and the working space cleared. A move of n blocks has the price start + each * n, and
+// none where n is 0; with 0 and 1 the sheet counts blocks.
 //
-//     report(b"(stack 65)\n", &mut output, &mut work) is a refusal in row StackSize at place 1, with 0 bytes written
-pub fn report(text: &[u8], output: &mut [u8], work: &mut [u32]) -> WriteResult
-    ensures result { λ r. ⌜ r ≡ reportOf (now (text .entry)) (now (work .entry)) (now (output .entry)) .result ⌝ }
-    ensures work { λ r. ⌜ now (work .exit) ≡ reportOf (now (text .entry)) (now (work .entry)) (now (output .entry)) .work ⌝ }
-    ensures output { λ r. ⌜ now (output .exit) ≡ reportOf (now (text .entry)) (now (work .entry)) (now (output .entry)) .output ⌝ }
+//     report(b"(stack 65)\n", 0, 1, &mut output, &mut work) is a refusal in row StackSize at place 1, with 0 bytes written
+pub fn report(
+    text: &[u8],
+    start: u32,
+    each: u32,
+    output: &mut [u8],
+    work: &mut [u32],
+) -> WriteResult
+    ensures result { λ r. ⌜ r ≡ reportOf (now (text .entry)) start each (now (work .entry)) (now (output .entry)) .result ⌝ }
+    ensures work { λ r. ⌜ now (work .exit) ≡ reportOf (now (text .entry)) start each (now (work .entry)) (now (output .entry)) .work ⌝ }
+    ensures output { λ r. ⌜ now (output .exit) ≡ reportOf (now (text .entry)) start each (now (work .entry)) (now (output .entry)) .output ⌝ }
 {
-    let judgement = judge_lent(text, work);
-    let result = reporting::report_judged(judgement, output, work);
+    let price = Price { start, each };
+    let first = rows::priced_row(work.len(), price);
+    let judgement = judge_lent(first, text, work);
+    let result = reporting::report_judged(judgement, price, output, work);
     clear(work);
     result
 }
 
 // Run: the events of a list on the task of a text, from a fresh start on the lent cache and memory, and the working space cleared. In demand_3: what
-// was returned and left is that of the plain stack, and no more was moved than the sheet allows.
+// was returned and left is that of the plain stack, and what was moved costs no more than the sheet allows.
 //
-//     run(b"(stack 65)\n", &[], &mut answers, &mut cache, &mut memory, &mut work) is a refusal in row StackSize at place 1, with 0 events done
+//     run(b"(stack 65)\n", 0, 1, &[], &mut answers, &mut cache, &mut memory, &mut work) is a refusal in row StackSize at place 1, with 0 events done
 pub fn run(
     text: &[u8],
+    start: u32,
+    each: u32,
     events: &[u32],
     answers: &mut [u32],
     cache: &mut [u32],
     memory: &mut [u32],
     work: &mut [u32],
 ) -> RunResult
-    ensures result { λ r. ⌜ r ≡ runOf (now (text .entry)) (now (work .entry)) (now (events .entry))
+    ensures result { λ r. ⌜ r ≡ runOf (now (text .entry)) start each (now (work .entry)) (now (events .entry))
         (now (answers .entry)) (now (cache .entry)) (now (memory .entry)) .result ⌝ }
-    ensures work { λ r. ⌜ now (work .exit) ≡ runOf (now (text .entry)) (now (work .entry)) (now (events .entry))
+    ensures work { λ r. ⌜ now (work .exit) ≡ runOf (now (text .entry)) start each (now (work .entry)) (now (events .entry))
         (now (answers .entry)) (now (cache .entry)) (now (memory .entry)) .work ⌝ }
-    ensures answers { λ r. ⌜ now (answers .exit) ≡ runOf (now (text .entry)) (now (work .entry)) (now (events .entry))
+    ensures answers { λ r. ⌜ now (answers .exit) ≡ runOf (now (text .entry)) start each (now (work .entry)) (now (events .entry))
         (now (answers .entry)) (now (cache .entry)) (now (memory .entry)) .answers ⌝ }
-    ensures cache { λ r. ⌜ now (cache .exit) ≡ runOf (now (text .entry)) (now (work .entry)) (now (events .entry))
+    ensures cache { λ r. ⌜ now (cache .exit) ≡ runOf (now (text .entry)) start each (now (work .entry)) (now (events .entry))
         (now (answers .entry)) (now (cache .entry)) (now (memory .entry)) .cache ⌝ }
-    ensures memory { λ r. ⌜ now (memory .exit) ≡ runOf (now (text .entry)) (now (work .entry)) (now (events .entry))
+    ensures memory { λ r. ⌜ now (memory .exit) ≡ runOf (now (text .entry)) start each (now (work .entry)) (now (events .entry))
         (now (answers .entry)) (now (cache .entry)) (now (memory .entry)) .memory ⌝ }
-    ensures demand_3 { λ r. ⌜ Demand3 (now (text .entry)) (now (work .entry)) (now (events .entry))
+    ensures demand_3 { λ r. ⌜ Demand3 (pricedRows (length (now (work .entry))) start each) (now (text .entry)) (now (events .entry))
         (now (answers .entry)) (now (cache .entry)) (now (memory .entry))
         (afterRun r (now (work .exit)) (now (answers .exit)) (now (cache .exit)) (now (memory .exit))) ⌝ }
 {
-    let judgement = judge_lent(text, work);
-    let result = running::run_judged(judgement, events, answers, cache, memory, work);
+    let price = Price { start, each };
+    let first = rows::priced_row(work.len(), price);
+    let judgement = judge_lent(first, text, work);
+    let result = running::run_judged(judgement, price, events, answers, cache, memory, work);
     clear(work);
     result
 }

@@ -6,13 +6,15 @@ ghost use Rattle.model.specs.Limits.{workLength};
 ghost use Rattle.model.specs.Task.{task};
 ghost use Rattle.tables.specs.Tables.{taskOf};
 ghost use Rattle.tables.specs.Valid.{Settled};
+ghost use Rattle.prices.specs.Prices.{Small};
 ghost use Rattle.judge.specs.Judgement.{judgedIn};
-ghost use Rattle.services.specs.Served.{ReadyBy, nothingWritten, Reports};
+ghost use Rattle.services.specs.Served.{ReadyAt, nothingWritten, Reports};
 use judge::Judgement;
 use model::Refusal;
 use model::Row;
 use model::Verdict;
 use model::WriteResult;
+use prices::Price;
 use tables::Header;
 
 // A refusal, with nothing written.
@@ -26,12 +28,12 @@ fn refused(r: Refusal) -> WriteResult
 }
 
 // 14, or the report of the task that the tables hold.
-fn report_task(output: &mut [u8], work: &mut [u32], h: Header) -> WriteResult
-    requires { ⌜ Settled (now work) h × (workLength ≤ length (now work)) ⌝ }
-    ensures { λ r. ⌜ Reports (task (taskOf (now (work .entry)) h)) (now (work .entry)) (now (output .entry)) r (now (work .exit)) (now (output .exit)) ⌝ }
+fn report_task(price: Price, output: &mut [u8], work: &mut [u32], h: Header) -> WriteResult
+    requires { ⌜ Settled (now work) h × (workLength ≤ length (now work)) × Small price ⌝ }
+    ensures { λ r. ⌜ Reports price (task (taskOf (now (work .entry)) h)) (now (work .entry)) (now (output .entry)) r (now (work .exit)) (now (output .exit)) ⌝ }
 {
-    figures::figure_task(work, h);
-    let length = report::report_length(work, h);
+    figures::figure_task(work, h, price);
+    let length = report::report_length(work, h, price);
     let room = output.len();
     if room < length {
         return refused(Refusal {
@@ -39,7 +41,7 @@ fn report_task(output: &mut [u8], work: &mut [u32], h: Header) -> WriteResult
             place: length as u32,
         });
     }
-    let written = report::put_report(output, work, h);
+    let written = report::put_report(output, work, h, price);
     WriteResult {
         verdict: Verdict::Accepted,
         written: written as u32,
@@ -47,12 +49,17 @@ fn report_task(output: &mut [u8], work: &mut [u32], h: Header) -> WriteResult
 }
 
 // What was judged is refused, or its report is written.
-pub fn report_judged(judgement: Judgement, output: &mut [u8], work: &mut [u32]) -> WriteResult
-    requires { ⌜ ReadyBy (now work) judgement ⌝ }
-    ensures { λ r. ⌜ Reports (judgedIn (now (work .entry)) judgement) (now (work .entry)) (now (output .entry)) r (now (work .exit)) (now (output .exit)) ⌝ }
+pub fn report_judged(
+    judgement: Judgement,
+    price: Price,
+    output: &mut [u8],
+    work: &mut [u32],
+) -> WriteResult
+    requires { ⌜ ReadyAt price (now work) judgement ⌝ }
+    ensures { λ r. ⌜ Reports price (judgedIn (now (work .entry)) judgement) (now (work .entry)) (now (output .entry)) r (now (work .exit)) (now (output .exit)) ⌝ }
 {
     match judgement {
         Judgement::Refused(r) => refused(r),
-        Judgement::Task(h) => report_task(output, work, h),
+        Judgement::Task(h) => report_task(price, output, work, h),
     }
 }

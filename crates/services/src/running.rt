@@ -3,49 +3,21 @@ ghost use mathlib.Core.Path.{_≡_};
 ghost use Prim.Native.Nat.{_≤_};
 ghost use lib.ListN.{length};
 ghost use Rattle.model.specs.Limits.{workLength};
-ghost use Rattle.model.specs.Rows.{refuse, rowVerdict};
 ghost use Rattle.model.specs.Task.{task};
-ghost use Rattle.model.specs.declared.Verdict.the-variants as verdict;
 ghost use Rattle.tables.specs.Tables.{taskOf};
 ghost use Rattle.tables.specs.Valid.{Settled};
+ghost use Rattle.prices.specs.Prices.{Small};
 ghost use Rattle.judge.specs.Judgement.{judgedIn};
-ghost use Rattle.services.specs.Served.{ReadyBy, bufferRows, noneDone, Performs};
+ghost use Rattle.services.specs.Served.{ReadyAt, noneDone, Performs};
+use super::rows;
 use judge::Judgement;
 use model::Ending;
-use model::Limits;
 use model::Refusal;
 use model::Row;
 use model::RunResult;
 use model::Verdict;
+use prices::Price;
 use tables::Header;
-
-fn refusal(row: Row, place: u32) -> Verdict
-    ensures { λ v. ⌜ v ≡ verdict.Refused (refuse row place) ⌝ }
-{
-    Verdict::Refused(Refusal { row, place })
-}
-
-// 16, 17 and 18, for buffers of these lengths.
-fn buffer_row(events: usize, answers: usize, cache: usize, stack: u32) -> Verdict
-    ensures { λ v. ⌜ v ≡ rowVerdict (bufferRows events answers cache stack) ⌝ }
-{
-    if events % 2 != 0 {
-        return refusal(Row::EventList, 0);
-    }
-    if Limits::EVENT_NUMBERS < events {
-        return refusal(Row::EventList, 0);
-    }
-    let count = events / 2;
-    let place = count as u32;
-    let blocks = stack as usize;
-    if answers < count {
-        return refusal(Row::AnswersTooSmall, place);
-    }
-    if cache != blocks {
-        return refusal(Row::CacheSize, stack);
-    }
-    Verdict::Accepted
-}
 
 // A refusal before the first event.
 fn refused(r: Refusal) -> RunResult
@@ -61,6 +33,7 @@ fn refused(r: Refusal) -> RunResult
 
 // 16 to 19, or the run of the task that the tables hold.
 fn run_task(
+    price: Price,
     events: &[u32],
     answers: &mut [u32],
     cache: &mut [u32],
@@ -68,15 +41,20 @@ fn run_task(
     work: &mut [u32],
     h: Header,
 ) -> RunResult
-    requires { ⌜ Settled (now work) h × (workLength ≤ length (now work)) ⌝ }
-    ensures { λ r. ⌜ Performs (task (taskOf (now (work .entry)) h)) (now (work .entry)) (now (events .entry)) (now (answers .entry)) (now (cache .entry))
+    requires { ⌜ Settled (now work) h × (workLength ≤ length (now work)) × Small price ⌝ }
+    ensures { λ r. ⌜ Performs price (task (taskOf (now (work .entry)) h)) (now (work .entry)) (now (events .entry)) (now (answers .entry)) (now (cache .entry))
         (now (memory .entry)) r (now (work .exit)) (now (answers .exit)) (now (cache .exit)) (now (memory .exit)) ⌝ }
 {
-    if let Verdict::Refused(r) = buffer_row(events.len(), answers.len(), cache.len(), h.stack) {
+    if let Verdict::Refused(r) = rows::buffer_row(
+        events.len(),
+        answers.len(),
+        cache.len(),
+        h.stack,
+    ) {
         return refused(r);
     }
-    figures::figure_task(work, h);
-    let first = figures::func_figures(work, h, 0);
+    figures::figure_task(work, h, price);
+    let first = figures::func_figures(work, h, price, 0);
     let room = first.longest;
     if memory.len() < room as usize {
         return refused(Refusal {
@@ -84,24 +62,25 @@ fn run_task(
             place: room,
         });
     }
-    run::run_events(events, answers, cache, memory, work, h)
+    run::run_events(events, answers, cache, memory, work, h, price)
 }
 
 // What was judged is refused, or its events are run.
 pub fn run_judged(
     judgement: Judgement,
+    price: Price,
     events: &[u32],
     answers: &mut [u32],
     cache: &mut [u32],
     memory: &mut [u32],
     work: &mut [u32],
 ) -> RunResult
-    requires { ⌜ ReadyBy (now work) judgement ⌝ }
-    ensures { λ r. ⌜ Performs (judgedIn (now (work .entry)) judgement) (now (work .entry)) (now (events .entry)) (now (answers .entry))
+    requires { ⌜ ReadyAt price (now work) judgement ⌝ }
+    ensures { λ r. ⌜ Performs price (judgedIn (now (work .entry)) judgement) (now (work .entry)) (now (events .entry)) (now (answers .entry))
         (now (cache .entry)) (now (memory .entry)) r (now (work .exit)) (now (answers .exit)) (now (cache .exit)) (now (memory .exit)) ⌝ }
 {
     match judgement {
         Judgement::Refused(r) => refused(r),
-        Judgement::Task(h) => run_task(events, answers, cache, memory, work, h),
+        Judgement::Task(h) => run_task(price, events, answers, cache, memory, work, h),
     }
 }

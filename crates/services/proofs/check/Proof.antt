@@ -1,17 +1,21 @@
 -- The verdict is that of the judgement; then the space is cleared.
-use Rattle.services.proofs.Laws.{accepts, refuses, checked}
 use borrow.Author.Needs.{needs}
+use Rattle.services.proofs.Before.{work-room}
+use Rattle.services.proofs.Laws.{first-passes, accepts, refuses, checked}
 use Rattle.services.proofs.check.Statement.{statement}
 use Rattle.services.proofs.check.Tie as tie
 
+judge-lent-requires : tie.Need-judge-lent-requires
+judge-lent-requires c κs = first-passes _ _ _ (c .before .work-row .ensures) (work-room _)
+
 returns : tie.Need-returns
 returns c =
-    let j = c .before .before .before .before .before .before .before .before .judge-lent .ensures in
+    let j = c .before .before .before .before .before .before .before .before .judge-lent .ensures _ (c .before .before .before .before .before .before .before .before .before .before .work-row .ensures) in
     (accepts j (c .enum-told .given .1), checked j (c .before .before .before .before .clear .ensures))
 
 returns-2 : tie.Need-returns-2
 returns-2 c =
-    let j = c .before .before .before .before .before .before .before .before .before .judge-lent .ensures in
+    let j = c .before .before .before .before .before .before .before .before .before .judge-lent .ensures _ (c .before .before .before .before .before .before .before .before .before .before .before .work-row .ensures) in
     (refuses j (c .before .judgement .given .1), checked j (c .before .before .before .before .before .clear .ensures))
 
 pub check-spec : {M : Type 1} → statement M
@@ -19,6 +23,7 @@ check-spec =
     tie.close
     (tie.spec
     (λ c κs. search needs)
+    judge-lent-requires
     (λ c κs. search needs)
     (λ c. search needs)
     (λ c. search needs)

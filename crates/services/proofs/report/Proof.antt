@@ -1,12 +1,20 @@
 -- What is judged is refused or reported; then the space is cleared.
-use Rattle.services.proofs.Laws.{report-result, report-work, report-output}
 use borrow.Author.Needs.{needs}
+use Rattle.services.proofs.Before.{priced-room}
+use Rattle.services.proofs.Laws.{first-passes, ready-at, report-result, report-work, report-output}
 use Rattle.services.proofs.report.Statement.{statement}
 use Rattle.services.proofs.report.Tie as tie
 
+judge-lent-requires : tie.Need-judge-lent-requires
+judge-lent-requires c κs = first-passes _ _ _ (c .before .priced-row .ensures) (priced-room _ _ _)
+
+report-judged-requires : tie.Need-report-judged-requires
+report-judged-requires c κs =
+    ready-at _ _ _ _ _ (c .before .before .before .before .judge-lent .ensures _ (c .before .before .before .before .before .before .priced-row .ensures))
+
 returns : tie.Need-returns
 returns c =
-    let j = c .before .before .before .before .before .before .before .before .before .before .before .before .before .judge-lent .ensures in
+    let j = c .before .before .before .before .before .before .before .before .before .before .before .before .before .judge-lent .ensures _ (c .before .before .before .before .before .before .before .before .before .before .before .before .before .before .before .priced-row .ensures) in
     let r = c .before .before .before .before .before .before .before .before .report-judged .ensures in
     (report-result j r, (report-work j r (c .before .before .clear .ensures), report-output j r))
 
@@ -15,7 +23,8 @@ report-spec =
     tie.close
     (tie.spec
     (λ c κs. search needs)
-    (λ c κs. search needs)
+    judge-lent-requires
+    report-judged-requires
     (λ c κs. search needs)
     (λ c. search needs)
     (λ c. search needs)

@@ -2,14 +2,22 @@
 use mathlib.Core.Path.{ap}
 use borrow.Author.Needs.{needs}
 use Rattle.model.specs.Services.{AfterRun}
+use Rattle.services.proofs.Before.{priced-room}
+use Rattle.services.proofs.Laws.{first-passes, ready-at}
 use Rattle.services.proofs.Events.{run-left, run-demand}
 use Rattle.services.proofs.run.Statement.{statement}
 use Rattle.services.proofs.run.Tie as tie
 
+judge-lent-requires : tie.Need-judge-lent-requires
+judge-lent-requires c κs = first-passes _ _ _ (c .before .priced-row .ensures) (priced-room _ _ _)
+
+run-judged-requires : tie.Need-run-judged-requires
+run-judged-requires c κs =
+    ready-at _ _ _ _ _ (c .before .before .before .before .before .before .judge-lent .ensures _ (c .before .before .before .before .before .before .before .before .priced-row .ensures))
+
 returns : tie.Need-returns
 returns c =
-    let j = c .before .before .before .before .before .before .before .before .before .before .before .before .before .before .before .before .before
-    .before .before .judge-lent .ensures in
+    let j = c .before .before .before .before .before .before .before .before .before .before .before .before .before .before .before .before .before .before .before .judge-lent .ensures _ (c .before .before .before .before .before .before .before .before .before .before .before .before .before .before .before .before .before .before .before .before .before .priced-row .ensures) in
     let r = c .before .before .before .before .before .before .before .before .before .before .before .before .run-judged .ensures in
     let k = c .before .before .clear .ensures in
     let e = run-left j r k in (
@@ -25,7 +33,8 @@ run-spec =
     tie.close
     (tie.spec
     (λ c κs. search needs)
-    (λ c κs. search needs)
+    judge-lent-requires
+    run-judged-requires
     (λ c κs. search needs)
     (λ c. search needs)
     (λ c. search needs)

@@ -8,7 +8,7 @@ report-task-requires : tie.Need-report-task-requires
 report-task-requires c κs = rw (c .before .before .before .judgement2 .given .1) at (c .before .before .before .before .before .before .before .pre)
 
 returns : tie.Need-returns
-returns c = rw (c .before .before .judgement .given .1, c .refused .ensures) (none-reported _ _ _)
+returns c = rw (c .before .before .judgement .given .1, c .refused .ensures) (none-reported _ _ _ _)
 
 returns-2 : tie.Need-returns-2
 returns-2 c =

@@ -11,7 +11,7 @@ returns c =
     let f = c .before .before .before .before .before .before .figure-task .ensures in
     let start = c .before .before .before .before .before .before .before .before .before .before in
     let s = cleared-same (start .pre .1) (kept-later 7744 (f .2)) in
-    rw (c .refused .ensures) (too-short (f .1) s (c .before .before .report-length .ensures .0) (omega (arith, c .before .if1 .taken)))
+    rw (c .refused .ensures) (too-short _ (f .1) s (c .before .before .report-length .ensures .0) (omega (arith, c .before .if1 .taken)))
 
 returns-2 : tie.Need-returns-2
 returns-2 c =
@@ -20,7 +20,7 @@ returns-2 c =
     let s = cleared-same (start .pre .1) (kept-later 7744 (f .2)) in
     let p = c .before .before .put-report .ensures in
     let n = c .before .before .before .before .before .before .report-length .ensures .0 in
-    long-enough (f .1) s (p .0) (omega (arith, c .before .before .before .before .before .if1 .left)) (p .1)
+    long-enough _ (f .1) s (p .0) (omega (arith, c .before .before .before .before .before .if1 .left)) (p .1)
 
 pub report-task-spec : {M : Type 1} → statement M
 report-task-spec =

@@ -3,8 +3,8 @@ use mathlib.Core.Path.{refl}
 use native.Mathlib.Omega.{arith}
 use borrow.Author.Needs.{needs}
 use Rattle.services.proofs.Events.{odd-list, long-list, few-answers, other-cache, buffers-pass}
-use Rattle.services.proofs.running.buffer_row.Statement.{statement}
-use Rattle.services.proofs.running.buffer_row.Tie as tie
+use Rattle.services.proofs.rows.buffer_row.Statement.{statement}
+use Rattle.services.proofs.rows.buffer_row.Tie as tie
 
 returns : tie.Need-returns
 returns c =
