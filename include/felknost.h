@@ -39,11 +39,18 @@ extern "C" {
 uint32_t felknost_check(const uint8_t *text, size_t length);
 
 /*
- * Writes the preemption sheet of a task text to the front of output. result gets three numbers: CODE, PLACE and how many bytes were written. CODE and
- * PLACE are 0 where the text is accepted; else they are as above, and two rows are new:
+ * Writes the preemption sheet of a task text to the front of output.
+ *
+ * start and each are the price of a move of blocks between cache and memory: start for beginning it, 0 to 255, and each for every block moved, 1 to 255.
+ * A move of no blocks costs nothing. With 0 and 1 a price is a number of blocks. On the sheet spill, chain, save, reload, later, cost and fill are prices,
+ * each move priced by itself; K, d, D, high, dead and need are blocks.
+ *
+ * result gets three numbers: CODE, PLACE and how many bytes were written. CODE and PLACE are 0 where the text is accepted; else they are as above, and
+ * three rows are new:
  *
  *  14  the output is too small; PLACE is the number of bytes wanted. It is tried after all others
  *  15  the working space is too small; PLACE is FELKNOST_WORK. It is tried before all others
+ *  23  start is above 255, or each is 0 or above 255; PLACE is 0. It is tried after 15 and before all others
  *
  * Where the report is refused, nothing is written to output. Bytes of output behind the report are left as they were. The first FELKNOST_WORK numbers
  * of work are 0 afterwards, and those behind them are left as they were; with 15 work is not touched. What the buffers held before does not
@@ -53,17 +60,20 @@ uint32_t felknost_check(const uint8_t *text, size_t length);
  */
 #define FELKNOST_WORK 16384
 
-uint32_t felknost_report(const uint8_t *text, size_t text_length, uint8_t *output, size_t output_length, uint32_t *work, size_t work_length,
-                         uint64_t *result, size_t result_length);
+uint32_t felknost_report(const uint8_t *text, size_t text_length, uint32_t start, uint32_t each, uint8_t *output, size_t output_length,
+                         uint32_t *work, size_t work_length, uint64_t *result, size_t result_length);
 
 /*
  * Runs a list of events on the task of a text, from a fresh start on the lent cache and memory, whatever they hold. An event is two numbers: kind 0 takes
  * a step with a value, kind 1 preempts, by a task that leaves the value in every block of the cache. A step at a store stores the value, one at an either
- * goes to its first target on 0 and to its second on 1. answers gets a number for each event done: the number loaded, else 0.
+ * goes to its first target on 0 and to its second on 1. answers gets a number for each event done: the number loaded, else 0. start and each are the price
+ * of a move, as for felknost_report; a preemption makes two moves, out and back.
  *
- * result gets five numbers: CODE, PLACE, how many events were done, how many blocks they moved, and how many the sheet allows them. The fourth is never
- * more than the fifth. CODE and PLACE are 0 where all events were done; else they are as above, but for 14, and these rows are new:
+ * result gets five numbers: CODE, PLACE, how many events were done, the price of all that they moved, and the price that the sheet allows them. With start 0
+ * and each 1 the last two are blocks. The fourth is never more than the fifth. CODE and PLACE are 0 where all events were done; else they are as above, but
+ * for 14, or one of these:
  *
+ *  23  start is above 255, or each is 0 or above 255; PLACE is 0. It is tried after 15 and before all others
  *  16  events has an odd number of numbers or more than 131,072; PLACE is 0
  *  17  answers has fewer numbers than there are events, which is PLACE
  *  18  cache has not exactly as many numbers as the task has cache blocks, which is PLACE
@@ -72,13 +82,13 @@ uint32_t felknost_report(const uint8_t *text, size_t text_length, uint8_t *outpu
  *  21  a step at an either with a value above 1
  *  22  an event after the task has finished
  *
- * 16 to 19 are tried in this order after the rows of the text, and leave answers, cache and memory as they were. The events before one that is refused by 20
- * to 22 are done, and answers has no number of it or of a later one; at one event 22 is tried first. work, NULL, overlap and the return value are as
- * for felknost_report, but result has five numbers.
+ * 16 to 19 are tried in this order after the rows of the text. All but 20 to 22 leave answers, cache and memory as they were. The events before one that
+ * is refused by 20 to 22 are done, and answers has no number of it or of a later one; at one event 22 is tried first. work, NULL, overlap and the return
+ * value are as for felknost_report, but result has five numbers.
  */
-uint32_t felknost_run(const uint8_t *text, size_t text_length, const uint32_t *events, size_t events_length, uint32_t *answers, size_t answers_length,
-                      uint32_t *cache, size_t cache_length, uint32_t *memory, size_t memory_length, uint32_t *work, size_t work_length,
-                      uint64_t *result, size_t result_length);
+uint32_t felknost_run(const uint8_t *text, size_t text_length, uint32_t start, uint32_t each, const uint32_t *events, size_t events_length,
+                      uint32_t *answers, size_t answers_length, uint32_t *cache, size_t cache_length, uint32_t *memory, size_t memory_length,
+                      uint32_t *work, size_t work_length, uint64_t *result, size_t result_length);
 
 /*
  * The stack that a call takes, in bytes, measured and rounded up: its own, and what memset and memcpy take, which it calls, with the dynamic

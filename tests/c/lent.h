@@ -26,6 +26,18 @@ static inline void count(const char *name, int good)
     printf("%s: FAILED\n", name);
 }
 
+/* The price of a move: start where it moves a block at all, and each for each block. */
+struct price {
+    uint32_t start, each;
+};
+
+static const struct price in_blocks = {0, 1};
+static const struct price start_of_10 = {10, 1};
+
+/* One number of each is outside its range. */
+static const struct price refused_prices[] = {{256, 1}, {UINT32_MAX, 1}, {0, 0}, {255, 0}, {0, 256}, {255, UINT32_MAX}};
+#define REFUSED_PRICES (sizeof refused_prices / sizeof refused_prices[0])
+
 struct buffer {
     struct room room;
     uint8_t *at;

@@ -1,6 +1,7 @@
 /*
- * Tests of felknost_run, built as C and as C++: the two worked runs, each refusal of a run with what every buffer holds after it, buffers between
- * pages that may not be touched, a result that is too short, threads, and the stack that the header states. The last line counts them.
+ * Tests of felknost_run, built as C and as C++: the two worked runs, in blocks and at a price, each refusal of a run with what every buffer holds after
+ * it, buffers between pages that may not be touched, a result that is too short, threads, and the stack that the header states. The last line counts
+ * them.
  */
 #ifndef _GNU_SOURCE
 #define _GNU_SOURCE 1
@@ -23,9 +24,10 @@
 
 static struct buffer texts, lists, answers, caches, memories, works, results;
 
-/* What a run is given: how many numbers of each buffer, and the events. */
+/* What a run is given: the price, how many numbers of each buffer, and the events. */
 struct given {
     const char *text;
+    struct price price;
     size_t events, answers, cache, memory, work, result;
     const uint32_t *list;
 };
@@ -52,8 +54,8 @@ static uint32_t ran(const struct given *given, int at_end)
     lend(&results, given->result * sizeof(uint64_t), at_end);
     room_close(&texts.room);
     room_close(&lists.room);
-    uint32_t returned = felknost_run(texts.at, texts.bytes, number(&lists), given->events, answer, given->answers, cache, given->cache, memory,
-                                     given->memory, work, given->work, (uint64_t *)(void *)results.at, given->result);
+    uint32_t returned = felknost_run(texts.at, texts.bytes, given->price.start, given->price.each, number(&lists), given->events, answer, given->answers,
+                                     cache, given->cache, memory, given->memory, work, given->work, (uint64_t *)(void *)results.at, given->result);
     room_open(&texts.room);
     room_open(&lists.room);
     return returned;
@@ -83,14 +85,20 @@ static void worked(int at_end)
     static const uint32_t loaded[] = {0, 0, 0, 4, 0, 0, 3, 0};
     static const uint32_t memory[] = {HELD, HELD, HELD, HELD, HELD, HELD, 3};
     static const uint32_t cache[] = {HELD, 3, HELD, HELD, HELD};
-    struct given given = {TASK, 16, 9, 5, 7, FELKNOST_WORK + 3, 6, plain_list};
+    struct given given = {TASK, in_blocks, 16, 9, 5, 7, FELKNOST_WORK + 3, 6, plain_list};
     room_case = "a run to its end";
     int good = ran(&given, at_end) == 1 && result_is(0, 0, 8, 2, 2);
     count(room_case, good && holds(&answers, loaded, 8) && kept_from(&answers, sizeof loaded) && cleared(&works, given.work));
     count("its memory and cache", holds(&memories, memory, 7) && holds(&caches, cache, 5));
-    struct given preempted = {TASK, 16, 8, 5, 6, FELKNOST_WORK, 5, preempted_list};
+    struct given preempted = {TASK, in_blocks, 16, 8, 5, 6, FELKNOST_WORK, 5, preempted_list};
     room_case = "a run with a preemption";
     count(room_case, ran(&preempted, at_end) == 1 && result_is(0, 0, 8, 9, 9));
+    given.price = preempted.price = start_of_10;
+    room_case = "a run to its end at a price";
+    good = ran(&given, at_end) == 1 && result_is(0, 0, 8, 22, 22);
+    count(room_case, good && holds(&answers, loaded, 8) && holds(&memories, memory, 7) && holds(&caches, cache, 5));
+    room_case = "a run with a preemption at a price";
+    count(room_case, ran(&preempted, at_end) == 1 && result_is(0, 0, 8, 49, 59));
 }
 
 static void nothing_done(const char *name, struct given given, uint64_t code, uint64_t place, int at_end)
@@ -103,7 +111,7 @@ static void nothing_done(const char *name, struct given given, uint64_t code, ui
 
 static void refused_before_the_first_event(int at_end)
 {
-    struct given good = {TASK, 16, 8, 5, 6, FELKNOST_WORK, 5, plain_list};
+    struct given good = {TASK, in_blocks, 16, 8, 5, 6, FELKNOST_WORK, 5, plain_list};
     struct given given = good;
     given.work = FELKNOST_WORK - 1;
     nothing_done("15", given, 15, FELKNOST_WORK, at_end);
@@ -131,29 +139,43 @@ static void refused_before_the_first_event(int at_end)
     nothing_done("no events", given, 0, 0, at_end);
 }
 
+static void refused_for_the_price(int at_end)
+{
+    struct given given = {TASK, in_blocks, 16, 8, 5, 6, FELKNOST_WORK + 3, 5, plain_list};
+    size_t i;
+    for (i = 0; i < REFUSED_PRICES; i++) {
+        given.price = refused_prices[i];
+        nothing_done("23", given, 23, 0, at_end);
+        struct given worse = {"(stack 65)\n", given.price, 15, 0, 0, 0, FELKNOST_WORK, 5, plain_list};
+        nothing_done("23 before the text and 16 to 19", worse, 23, 0, at_end);
+        worse.work = FELKNOST_WORK - 1;
+        nothing_done("15 before 23", worse, 15, FELKNOST_WORK, at_end);
+    }
+}
+
 static void refused_events(int at_end)
 {
     static const uint32_t kind[] = {STEP, 3, 2, 0, STEP, 0};
     static const uint32_t choice[] = {STEP, 0, STEP, 2, STEP, 0};
     static const uint32_t finished[] = {STEP, 1, STEP, 0, 7, 0};
     static const uint32_t zeros[] = {0, 0};
-    struct given given = {TASK, 6, 3, 5, 6, FELKNOST_WORK, 5, kind};
+    struct given given = {TASK, in_blocks, 6, 3, 5, 6, FELKNOST_WORK, 5, kind};
     room_case = "20";
     count(room_case, ran(&given, at_end) == 1 && result_is(20, 1, 1, 0, 0) && holds(&answers, zeros, 1) && kept_from(&answers, 4));
-    struct given other = {CHOICE, 6, 3, 5, 2, FELKNOST_WORK, 5, choice};
+    struct given other = {CHOICE, in_blocks, 6, 3, 5, 2, FELKNOST_WORK, 5, choice};
     room_case = "21";
     count(room_case, ran(&other, at_end) == 1 && result_is(21, 1, 1, 0, 0) && holds(&answers, zeros, 1) && kept_from(&answers, 4));
     other.list = finished;
     room_case = "22 before 20";
     count(room_case, ran(&other, at_end) == 1 && result_is(22, 2, 2, 0, 0) && holds(&answers, zeros, 2) && kept_from(&answers, 8));
-    struct given many = {TASK, 4, 2, 5, 6, FELKNOST_WORK, 5, two_preemptions};
+    struct given many = {TASK, in_blocks, 4, 2, 5, 6, FELKNOST_WORK, 5, two_preemptions};
     room_case = "preemptions in a row";
     count(room_case, ran(&many, at_end) == 1 && result_is(0, 0, 2, 0, 0) && holds(&answers, zeros, 2));
 }
 
 static void short_results(int at_end)
 {
-    struct given given = {TASK, 16, 8, 5, 6, FELKNOST_WORK, 0, plain_list};
+    struct given given = {TASK, in_blocks, 16, 8, 5, 6, FELKNOST_WORK, 0, plain_list};
     for (; given.result < 5; given.result++) {
         room_case = "a result too short";
         int good = ran(&given, at_end) == 0 && kept_from(&answers, 0) && kept_from(&caches, 0) && kept_from(&memories, 0);
@@ -174,8 +196,9 @@ static void *runs(void *good)
     int round;
     for (round = 0; work != NULL && round < ROUNDS; round++) {
         memset(work, FILLER, FELKNOST_WORK * sizeof *work);
-        if (felknost_run((const uint8_t *)task, sizeof task - 1, preempted_list, 16, answer, 8, cache, 5, memory, 6, work, FELKNOST_WORK, result, 5) != 1 ||
-            result[2] != 8 || result[3] != 9 || result[4] != 9 || answer[7] != 3)
+        uint32_t returned = felknost_run((const uint8_t *)task, sizeof task - 1, 0, 1, preempted_list, 16, answer, 8, cache, 5, memory, 6, work,
+                                         FELKNOST_WORK, result, 5);
+        if (returned != 1 || result[2] != 8 || result[3] != 9 || result[4] != 9 || answer[7] != 3)
             break;
     }
     free(work);
@@ -193,10 +216,10 @@ static void run_task(void)
     static const char task[] = TASK;
     /* Point 1 is reached from a higher one, so that the kernel decides and not the sweep. */
     static const char back[] = "(stack 5)\n(func 0\n  (goto 2)\n  (goto 4)\n  (either 1 3)\n  (goto 4)\n  (return)\n)\n";
-    felknost_run((const uint8_t *)back, sizeof back - 1, preempted_list, 0, stack_answers, 8, stack_cache, 5, stack_memory, 6, stack_work, FELKNOST_WORK,
-                 stack_result, 5);
-    felknost_run((const uint8_t *)task, sizeof task - 1, preempted_list, 16, stack_answers, 8, stack_cache, 5, stack_memory, 6, stack_work, FELKNOST_WORK,
-                 stack_result, 5);
+    felknost_run((const uint8_t *)back, sizeof back - 1, 0, 1, preempted_list, 0, stack_answers, 8, stack_cache, 5, stack_memory, 6, stack_work,
+                 FELKNOST_WORK, stack_result, 5);
+    felknost_run((const uint8_t *)task, sizeof task - 1, 0, 1, preempted_list, 16, stack_answers, 8, stack_cache, 5, stack_memory, 6, stack_work,
+                 FELKNOST_WORK, stack_result, 5);
 }
 
 static void stacks(void)
@@ -224,6 +247,7 @@ int main(void)
     for (at_end = 0; at_end < 2; at_end++) {
         worked(at_end);
         refused_before_the_first_event(at_end);
+        refused_for_the_price(at_end);
         refused_events(at_end);
         short_results(at_end);
     }

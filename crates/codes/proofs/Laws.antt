@@ -2,13 +2,14 @@
 use Prim.Native.Nat.{_≤_}
 use native.Mathlib.Omega.{arith}
 use Rattle.model.specs.declared.Row.{Row}
-use Rattle.model.specs.declared.Row.the-variants.{WorkTooSmall, TextTooLong, Form, StackSize, FrameSize, Offset, TooMany, Callee, Pairing, Target}
+use Rattle.model.specs.declared.Row.the-variants.{WorkTooSmall, PriceRange, TextTooLong, Form, StackSize, FrameSize, Offset, TooMany, Callee, Pairing, Target}
 use Rattle.model.specs.declared.Row.the-variants.{LastPoint, Unreachable, Uncalled, Uninitialised, OutputTooSmall, EventList, AnswersTooSmall}
 use Rattle.model.specs.declared.Row.the-variants.{CacheSize, MemoryTooSmall, AfterFinish, Kind, Choice}
 use Rattle.model.specs.Rows.{codeOf}
 
 pub code-small : (r : Row) → codeOf r ≤ 255
 code-small WorkTooSmall = omega arith
+code-small PriceRange = omega arith
 code-small TextTooLong = omega arith
 code-small Form = omega arith
 code-small StackSize = omega arith

@@ -10,6 +10,7 @@ pub fn code_of(r: Row) -> u32
 {
     match r {
         Row::WorkTooSmall => 15,
+        Row::PriceRange => 23,
         Row::TextTooLong => 1,
         Row::Form => 2,
         Row::StackSize => 3,

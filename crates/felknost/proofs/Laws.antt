@@ -44,25 +44,25 @@ three-over a b c (x ∷ y ∷ []) h = absurd (omega arith)
 three-over a b c (x ∷ y ∷ z ∷ l) h = refl
 
 -- report as C calls it, where the buffer of the result has too few numbers and where it has not
-module _ (text work output result : List ℕ) where
+module _ (text : List ℕ) (start each : ℕ) (work output result : List ℕ) where
   pub too-few : length result < 3
-      → (0 ≡ reportNumbers text work output result .answer)
-      × ((result ≡ reportNumbers text work output result .result)
-      × ((work ≡ reportNumbers text work output result .work) × (output ≡ reportNumbers text work output result .output)))
+      → (0 ≡ reportNumbers text start each work output result .answer)
+      × ((result ≡ reportNumbers text start each work output result .result)
+      × ((work ≡ reportNumbers text start each work output result .work) × (output ≡ reportNumbers text start each work output result .output)))
   unfolding reportNumbers
   too-few h =
       let e = lt-ltb (length result) 3 h in
       rw e (refl, (refl, (refl, refl)))
 
-  enough-is : 3 ≤ length result → reportNumbers text work output result ≡ calledAs (reportOf text work output) result
+  enough-is : 3 ≤ length result → reportNumbers text start each work output result ≡ calledAs (reportOf text start each work output) result
   unfolding reportNumbers
   enough-is h = rw (le-ltb (length result) 3 h)
 
-  pub enough : {r : WriteResult} {result′ work′ output′ : List ℕ} → 3 ≤ length result → r ≡ reportOf text work output .result
-      → work′ ≡ reportOf text work output .work → output′ ≡ reportOf text work output .output → result′ ≡ over (resultNumbers r) result
-      → (1 ≡ reportNumbers text work output result .answer)
-      × ((result′ ≡ reportNumbers text work output result .result)
-      × ((work′ ≡ reportNumbers text work output result .work) × (output′ ≡ reportNumbers text work output result .output)))
+  pub enough : {r : WriteResult} {result′ work′ output′ : List ℕ} → 3 ≤ length result → r ≡ reportOf text start each work output .result
+      → work′ ≡ reportOf text start each work output .work → output′ ≡ reportOf text start each work output .output → result′ ≡ over (resultNumbers r) result
+      → (1 ≡ reportNumbers text start each work output result .answer)
+      × ((result′ ≡ reportNumbers text start each work output result .result)
+      × ((work′ ≡ reportNumbers text start each work output result .work) × (output′ ≡ reportNumbers text start each work output result .output)))
   enough h a b c d = rw (enough-is h) (refl, (d ∙ ap (λ (r : WriteResult). over (resultNumbers r) result) a, (b, c)))
 
 -- five numbers written over the first of a buffer
@@ -80,20 +80,20 @@ abbrev pub runCalled : ℕ → (result work answers cache memory : List ℕ) →
 runCalled n result work answers cache memory =
     record { answer = n; result = result; work = work; answers = answers; cache = cache; memory = memory }
 
-module _ (text work events answers cache memory result : List ℕ) where
+module _ (text : List ℕ) (start each : ℕ) (work events answers cache memory result : List ℕ) where
   pub run-too-few : length result < 5
-      → runCalled 0 result work answers cache memory ≡ runNumbers text work events answers cache memory result
+      → runCalled 0 result work answers cache memory ≡ runNumbers text start each work events answers cache memory result
   unfolding runNumbers
   run-too-few h = rw (lt-ltb (length result) 5 h)
 
   pub run-enough : {r : RunResult} {result′ work′ answers′ cache′ memory′ : List ℕ} → 5 ≤ length result
-      → r ≡ runOf text work events answers cache memory .result
-      → work′ ≡ runOf text work events answers cache memory .work
-      → answers′ ≡ runOf text work events answers cache memory .answers
-      → cache′ ≡ runOf text work events answers cache memory .cache
-      → memory′ ≡ runOf text work events answers cache memory .memory
+      → r ≡ runOf text start each work events answers cache memory .result
+      → work′ ≡ runOf text start each work events answers cache memory .work
+      → answers′ ≡ runOf text start each work events answers cache memory .answers
+      → cache′ ≡ runOf text start each work events answers cache memory .cache
+      → memory′ ≡ runOf text start each work events answers cache memory .memory
       → result′ ≡ over (runResultNumbers r) result
-      → runCalled 1 result′ work′ answers′ cache′ memory′ ≡ runNumbers text work events answers cache memory result
+      → runCalled 1 result′ work′ answers′ cache′ memory′ ≡ runNumbers text start each work events answers cache memory result
   unfolding runNumbers
   run-enough h a b c d e f =
       let g = f ∙ ap (λ (x : RunResult). over (runResultNumbers x) result) a in

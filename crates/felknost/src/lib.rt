@@ -72,24 +72,26 @@ fn put_numbers(buffer: &mut [u64], r: WriteResult)
 #[no_mangle]
 pub extern "C" fn felknost_report(
     text: &[u8],
+    start: u32,
+    each: u32,
     output: &mut [u8],
     work: &mut [u32],
     result: &mut [u64],
 ) -> u32
-    ensures answer { λ n. ⌜ n ≡ reportNumbers (now (text .entry)) (now (work .entry)) (now (output .entry)) (now (result .entry)) .answer ⌝ }
-    ensures result { λ n. ⌜ now (result .exit) ≡ reportNumbers (now (text .entry)) (now (work .entry)) (now (output .entry)) (now (result .entry)) .result ⌝ }
-    ensures work { λ n. ⌜ now (work .exit) ≡ reportNumbers (now (text .entry)) (now (work .entry)) (now (output .entry)) (now (result .entry)) .work ⌝ }
-    ensures output { λ n. ⌜ now (output .exit) ≡ reportNumbers (now (text .entry)) (now (work .entry)) (now (output .entry)) (now (result .entry)) .output ⌝ }
+    ensures answer { λ n. ⌜ n ≡ reportNumbers (now (text .entry)) start each (now (work .entry)) (now (output .entry)) (now (result .entry)) .answer ⌝ }
+    ensures result { λ n. ⌜ now (result .exit) ≡ reportNumbers (now (text .entry)) start each (now (work .entry)) (now (output .entry)) (now (result .entry)) .result ⌝ }
+    ensures work { λ n. ⌜ now (work .exit) ≡ reportNumbers (now (text .entry)) start each (now (work .entry)) (now (output .entry)) (now (result .entry)) .work ⌝ }
+    ensures output { λ n. ⌜ now (output .exit) ≡ reportNumbers (now (text .entry)) start each (now (work .entry)) (now (output .entry)) (now (result .entry)) .output ⌝ }
 {
     if result.len() < Numbers::ALL {
         return 0;
     }
-    let written = services::report(text, output, work);
+    let written = services::report(text, start, each, output, work);
     put_numbers(result, written);
     1
 }
 
-// The numbers of a run's result after code and place: events done, blocks moved and blocks allowed.
+// The numbers of a run's result after code and place: events done, moved and allowed.
 struct RunNumbers;
 
 impl RunNumbers {
@@ -140,6 +142,8 @@ fn put_run_numbers(buffer: &mut [u64], r: RunResult)
 #[no_mangle]
 pub extern "C" fn felknost_run(
     text: &[u8],
+    start: u32,
+    each: u32,
     events: &[u32],
     answers: &mut [u32],
     cache: &mut [u32],
@@ -147,23 +151,23 @@ pub extern "C" fn felknost_run(
     work: &mut [u32],
     result: &mut [u64],
 ) -> u32
-    ensures answer { λ n. ⌜ n ≡ runNumbers (now (text .entry)) (now (work .entry)) (now (events .entry)) (now (answers .entry))
+    ensures answer { λ n. ⌜ n ≡ runNumbers (now (text .entry)) start each (now (work .entry)) (now (events .entry)) (now (answers .entry))
         (now (cache .entry)) (now (memory .entry)) (now (result .entry)) .answer ⌝ }
-    ensures result { λ n. ⌜ now (result .exit) ≡ runNumbers (now (text .entry)) (now (work .entry)) (now (events .entry)) (now (answers .entry))
+    ensures result { λ n. ⌜ now (result .exit) ≡ runNumbers (now (text .entry)) start each (now (work .entry)) (now (events .entry)) (now (answers .entry))
         (now (cache .entry)) (now (memory .entry)) (now (result .entry)) .result ⌝ }
-    ensures work { λ n. ⌜ now (work .exit) ≡ runNumbers (now (text .entry)) (now (work .entry)) (now (events .entry)) (now (answers .entry))
+    ensures work { λ n. ⌜ now (work .exit) ≡ runNumbers (now (text .entry)) start each (now (work .entry)) (now (events .entry)) (now (answers .entry))
         (now (cache .entry)) (now (memory .entry)) (now (result .entry)) .work ⌝ }
-    ensures answers { λ n. ⌜ now (answers .exit) ≡ runNumbers (now (text .entry)) (now (work .entry)) (now (events .entry)) (now (answers .entry))
+    ensures answers { λ n. ⌜ now (answers .exit) ≡ runNumbers (now (text .entry)) start each (now (work .entry)) (now (events .entry)) (now (answers .entry))
         (now (cache .entry)) (now (memory .entry)) (now (result .entry)) .answers ⌝ }
-    ensures cache { λ n. ⌜ now (cache .exit) ≡ runNumbers (now (text .entry)) (now (work .entry)) (now (events .entry)) (now (answers .entry))
+    ensures cache { λ n. ⌜ now (cache .exit) ≡ runNumbers (now (text .entry)) start each (now (work .entry)) (now (events .entry)) (now (answers .entry))
         (now (cache .entry)) (now (memory .entry)) (now (result .entry)) .cache ⌝ }
-    ensures memory { λ n. ⌜ now (memory .exit) ≡ runNumbers (now (text .entry)) (now (work .entry)) (now (events .entry)) (now (answers .entry))
+    ensures memory { λ n. ⌜ now (memory .exit) ≡ runNumbers (now (text .entry)) start each (now (work .entry)) (now (events .entry)) (now (answers .entry))
         (now (cache .entry)) (now (memory .entry)) (now (result .entry)) .memory ⌝ }
 {
     if result.len() < RunNumbers::ALL {
         return 0;
     }
-    let ran = services::run(text, events, answers, cache, memory, work);
+    let ran = services::run(text, start, each, events, answers, cache, memory, work);
     put_run_numbers(result, ran);
     1
 }

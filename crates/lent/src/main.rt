@@ -26,6 +26,14 @@ impl Lent {
     const CACHE: usize = 2;
 
     const MEMORY: usize = 4;
+    // The start of a move, where blocks are counted, where it is more than a block, and where it is out of its range; and what each block costs.
+    const NO_START: u32 = 0;
+
+    const START: u32 = 10;
+
+    const HIGH_START: u32 = 256;
+
+    const EACH: u32 = 1;
 }
 
 // How many numbers at the front are 0.
@@ -130,8 +138,8 @@ fn check_cases(task: &[u8], refused: &[u8]) {
     check_short(task);
 }
 
-fn report_over(text: &[u8], output: &mut [u8], work: &mut [u32]) {
-    let result = services::report(text, output, work);
+fn report_over(text: &[u8], start: u32, output: &mut [u8], work: &mut [u32]) {
+    let result = services::report(text, start, Lent::EACH, output, work);
     let verdict = result.verdict;
     say_verdict(verdict);
     say(b"  written ");
@@ -143,33 +151,37 @@ fn report_over(text: &[u8], output: &mut [u8], work: &mut [u32]) {
     say(b"\n");
 }
 
-fn report_long(text: &[u8]) {
+fn report_long(text: &[u8], start: u32) {
     let mut output = [Lent::BYTE; Lent::OUTPUT];
     let mut work = [Lent::NUMBER; Lent::WORK];
-    report_over(text, &mut output, &mut work);
+    report_over(text, start, &mut output, &mut work);
 }
 
 fn report_short_work(text: &[u8]) {
     let mut output = [Lent::BYTE; Lent::OUTPUT];
     let mut work = [Lent::NUMBER; Lent::SHORT_WORK];
-    report_over(text, &mut output, &mut work);
+    report_over(text, Lent::NO_START, &mut output, &mut work);
 }
 
 fn report_short_output(text: &[u8]) {
     let mut output = [Lent::BYTE; Lent::SHORT_OUTPUT];
     let mut work = [Lent::NUMBER; Lent::WORK];
-    report_over(text, &mut output, &mut work);
+    report_over(text, Lent::NO_START, &mut output, &mut work);
 }
 
 fn report_cases(task: &[u8], refused: &[u8]) {
     say(b"report of a task\n");
-    report_long(task);
+    report_long(task, Lent::NO_START);
     say(b"report of a task that is refused\n");
-    report_long(refused);
+    report_long(refused, Lent::NO_START);
     say(b"report with a working space that is one number short\n");
     report_short_work(task);
     say(b"report with an output that is one byte short\n");
     report_short_output(task);
+    say(b"report of a task whose moves have a start\n");
+    report_long(task, Lent::START);
+    say(b"report with a start that is out of its range\n");
+    report_long(task, Lent::HIGH_START);
 }
 
 fn say_ending(ending: Ending) {
@@ -182,10 +194,19 @@ fn say_ending(ending: Ending) {
     }
 }
 
-fn run_over(text: &[u8], events: &[u32], memory: &mut [u32], work: &mut [u32]) {
+fn run_over(text: &[u8], start: u32, events: &[u32], memory: &mut [u32], work: &mut [u32]) {
     let mut answers = [Lent::NUMBER; Lent::ANSWERS];
     let mut cache = [Lent::NUMBER; Lent::CACHE];
-    let result = services::run(text, events, &mut answers, &mut cache, memory, work);
+    let result = services::run(
+        text,
+        start,
+        Lent::EACH,
+        events,
+        &mut answers,
+        &mut cache,
+        memory,
+        work,
+    );
     let ending = result.ending;
     say_ending(ending);
     say(b"  done ");
@@ -201,22 +222,22 @@ fn run_over(text: &[u8], events: &[u32], memory: &mut [u32], work: &mut [u32]) {
     say_work(work);
 }
 
-fn run_long(text: &[u8], events: &[u32]) {
+fn run_long(text: &[u8], start: u32, events: &[u32]) {
     let mut memory = [Lent::NUMBER; Lent::MEMORY];
     let mut work = [Lent::NUMBER; Lent::WORK];
-    run_over(text, events, &mut memory, &mut work);
+    run_over(text, start, events, &mut memory, &mut work);
 }
 
 fn run_short_memory(text: &[u8], events: &[u32]) {
     let mut memory = [Lent::NUMBER; Lent::MEMORY];
     let mut work = [Lent::NUMBER; Lent::WORK];
-    run_over(text, events, &mut memory[..0], &mut work);
+    run_over(text, Lent::NO_START, events, &mut memory[..0], &mut work);
 }
 
 fn run_short_work(text: &[u8], events: &[u32]) {
     let mut memory = [Lent::NUMBER; Lent::MEMORY];
     let mut work = [Lent::NUMBER; Lent::SHORT_WORK];
-    run_over(text, events, &mut memory, &mut work);
+    run_over(text, Lent::NO_START, events, &mut memory, &mut work);
 }
 
 fn run_cases(task: &[u8], refused: &[u8]) {
@@ -224,15 +245,19 @@ fn run_cases(task: &[u8], refused: &[u8]) {
     let events = [0u32, 5, 1, 9, 0, 0, 0, 0];
     let past = [0u32, 5, 1, 9, 0, 0, 0, 0, 0, 3];
     say(b"run to the end of a task\n");
-    run_long(task, &events);
+    run_long(task, Lent::NO_START, &events);
     say(b"run past the end of a task\n");
-    run_long(task, &past);
+    run_long(task, Lent::NO_START, &past);
     say(b"run of a task that is refused\n");
-    run_long(refused, &events);
+    run_long(refused, Lent::NO_START, &events);
     say(b"run with no memory\n");
     run_short_memory(task, &events);
     say(b"run with a working space that is one number short\n");
     run_short_work(task, &events);
+    say(b"run of a task whose moves have a start\n");
+    run_long(task, Lent::START, &events);
+    say(b"run with a start that is out of its range\n");
+    run_long(task, Lent::HIGH_START, &events);
 }
 
 fn main() {

@@ -14,12 +14,13 @@ use Rattle.model.specs.declared.Verdict.the-variants.{Accepted, Refused}
 use Rattle.model.specs.declared.WriteResult.{WriteResult}
 use Rattle.model.specs.Limits.{workLength}
 use Rattle.model.specs.Task.{Judged, refused, task}
-use Rattle.model.specs.Sheet.{row, reportText}
+use Rattle.model.specs.Sheet.{row}
 use Rattle.model.specs.Refusal.{judged, withRows, judge, workRow, outputRows}
-use Rattle.model.specs.Services.{over, cleared, writtenAs, writtenOf, reportOf}
+use Rattle.model.specs.Services.{AfterWrite, over, cleared, writtenAs, writtenOf, reportOf, blocksReportOf}
+use Rattle.theory.proofs.Prices.{report-blocks}
 use Rattle.print.specs.Print.{Wrote}
 use Rattle.print.proofs.Laws.{row-most, pasted-start}
-use Rattle.sheet.specs.Answer.{refusalLine, answered, answerOf, Answers, mostLine}
+use Rattle.sheet.specs.Answer.{refusalLine, blocksReport, answered, answerOf, Answers, mostLine}
 
 -- a row of a word of eight bytes and two numbers of 32 bits
 
@@ -42,18 +43,18 @@ counts n l h = (h, sym (length-take-le n l h))
 -- a report that is not refused fits the output
 abbrev Fits : ℕ → Judged → Type 0
 Fits n (refused r) = Unit {0}
-Fits n (task t) = length (reportText t) ≤ n
+Fits n (task t) = length (blocksReport t) ≤ n
 
-rows-fit : (n : ℕ) (j : Judged) → Fits n (withRows (outputRows reportText n) j)
+rows-fit : (n : ℕ) (j : Judged) → Fits n (withRows (outputRows blocksReport n) j)
 unfolding outputRows
 rows-fit n (refused r) = tt
 rows-fit n (task t) =
-    elim (decLe (length (reportText t)) n) [
-      | yes h ↦ rw (le-leb (length (reportText t)) n h) h
-      | no h ↦ rw (lt-leb (length (reportText t)) n (omega arith)) tt
+    elim (decLe (length (blocksReport t)) n) [
+      | yes h ↦ rw (le-leb (length (blocksReport t)) n h) h
+      | no h ↦ rw (lt-leb (length (blocksReport t)) n (omega arith)) tt
     ]
 
-report-fits : (text work output : List ℕ) → Fits (length output) (judge (workRow (length work)) (outputRows reportText (length output)) text)
+report-fits : (text work output : List ℕ) → Fits (length output) (judge (workRow (length work)) (outputRows blocksReport (length output)) text)
 unfolding judge workRow
 report-fits text work output =
     elim (decLe workLength (length work)) [
@@ -63,46 +64,56 @@ report-fits text work output =
 
 -- report leaves the answer that it judged, unless it is a refusal, which it says and leaves to be written
 module _ (work output : List ℕ) where
-  pub accepted-as : (j : Judged) → Fits (length output) j → writtenAs reportText j work output .result .verdict ≡ Accepted
-      → (writtenAs reportText j work output .result .written ≡ length (answered j))
-      × (writtenAs reportText j work output .output ≡ over (answered j) output)
+  pub accepted-as : (j : Judged) → Fits (length output) j → writtenAs blocksReport j work output .result .verdict ≡ Accepted
+      → (writtenAs blocksReport j work output .result .written ≡ length (answered j))
+      × (writtenAs blocksReport j work output .output ≡ over (answered j) output)
       × (length (answered j) ≤ length output)
   unfolding answered
   accepted-as (refused r) h e = let z : _≡_ {A = ℕ} 0 1 = cc in absurd (omega arith)
   accepted-as (task t) h e = (refl, refl, h)
 
-  pub refused-as : (j : Judged) {q : Refusal} → writtenAs reportText j work output .result .verdict ≡ Refused q
-      → (refusalLine q ≡ answered j) × (writtenAs reportText j work output .output ≡ output)
+  pub refused-as : (j : Judged) {q : Refusal} → writtenAs blocksReport j work output .result .verdict ≡ Refused q
+      → (refusalLine q ≡ answered j) × (writtenAs blocksReport j work output .output ≡ output)
   unfolding answered
   refused-as (refused r) {q} e = let z : q ≡ r = cc in (ap refusalLine z, refl)
   refused-as (task t) e = let z : _≡_ {A = ℕ} 0 1 = cc in absurd (omega arith)
 
--- the same of what report returns, r, and leaves
+-- the same of what report returns with start 0 and each 1, r, and leaves
 module _ (text work output : List ℕ) {r : WriteResult} {o w : List ℕ}
-    (a : r ≡ reportOf text work output .result) (b : o ≡ reportOf text work output .output) (c : w ≡ reportOf text work output .work) where
-  work-as : (j : Judged) → writtenAs reportText j (cleared work) output .work ≡ cleared work
+    (a : r ≡ reportOf text 0 1 work output .result) (b : o ≡ reportOf text 0 1 work output .output) (c : w ≡ reportOf text 0 1 work output .work) where
+  -- that is the report of document 01
+  result-is : r ≡ blocksReportOf text work output .result
+  result-is = a ∙ ap (λ (x : AfterWrite). x .result) (report-blocks text work output)
+
+  output-is : o ≡ blocksReportOf text work output .output
+  output-is = b ∙ ap (λ (x : AfterWrite). x .output) (report-blocks text work output)
+
+  work-is : w ≡ blocksReportOf text work output .work
+  work-is = c ∙ ap (λ (x : AfterWrite). x .work) (report-blocks text work output)
+
+  work-as : (j : Judged) → writtenAs blocksReport j (cleared work) output .work ≡ cleared work
   work-as (refused q) = refl
   work-as (task t) = refl
 
   pub report-answers : r .verdict ≡ Accepted → Answers text output work (r .written) o w × Counts (r .written) o
   unfolding writtenOf answerOf
   report-answers e =
-      let j = judge (workRow (length work)) (outputRows reportText (length output)) text in
-      let k = accepted-as (cleared work) output j (report-fits text work output) (sym (ap (λ (x : WriteResult). x .verdict) a) ∙ e) in
-      let n = ap (λ (x : WriteResult). x .written) a ∙ k .0 in
-      let s = ap length (b ∙ k .1) ∙ length-over (answered j) output (k .2) in
-      (record { size = n; buffer = b ∙ k .1; emptied = c ∙ work-as j }, counts (r .written) o (omega (arith, k .2)))
+      let j = judge (workRow (length work)) (outputRows blocksReport (length output)) text in
+      let k = accepted-as (cleared work) output j (report-fits text work output) (sym (ap (λ (x : WriteResult). x .verdict) result-is) ∙ e) in
+      let n = ap (λ (x : WriteResult). x .written) result-is ∙ k .0 in
+      let s = ap length (output-is ∙ k .1) ∙ length-over (answered j) output (k .2) in
+      (record { size = n; buffer = output-is ∙ k .1; emptied = work-is ∙ work-as j }, counts (r .written) o (omega (arith, k .2)))
 
   pub refusal-answers : {q : Refusal} {n : ℕ} {o′ : List ℕ} → r .verdict ≡ Refused q → Wrote 0 (refusalLine q) o n o′ → n ≤ length o′
       → Answers text output work n o′ w × Counts n o′
   unfolding writtenOf answerOf
   refusal-answers {q} {n} {o′} e p h =
-      let j = judge (workRow (length work)) (outputRows reportText (length output)) text in
-      let k = refused-as (cleared work) output j (sym (ap (λ (x : WriteResult). x .verdict) a) ∙ e) in (
+      let j = judge (workRow (length work)) (outputRows blocksReport (length output)) text in
+      let k = refused-as (cleared work) output j (sym (ap (λ (x : WriteResult). x .verdict) result-is) ∙ e) in (
         record {
           size = p .end ∙ zero-add (length (refusalLine q)) ∙ ap length (k .0);
-          buffer = p .buffer ∙ pasted-start (refusalLine q) o ∙ rw (k .0, b ∙ k .1);
-          emptied = c ∙ work-as j;
+          buffer = p .buffer ∙ pasted-start (refusalLine q) o ∙ rw (k .0, output-is ∙ k .1);
+          emptied = work-is ∙ work-as j;
         },
         counts n o′ h,
       )

@@ -6,8 +6,8 @@ use lib.ListN.{length}
 use Rattle.model.specs.declared.Refusal.{Refusal}
 use Rattle.model.specs.Rows.{codeOf}
 use Rattle.model.specs.Text.{bytes}
-use Rattle.model.specs.Task.{Judged, refused, task}
-use Rattle.model.specs.Sheet.{row, reportText}
+use Rattle.model.specs.Task.{Task, Judged, refused, task}
+use Rattle.model.specs.Sheet.{row, inBlocks, reportText}
 use Rattle.model.specs.Refusal.{judge, workRow, outputRows}
 use Rattle.model.specs.Services.{over, cleared}
 
@@ -15,13 +15,17 @@ use Rattle.model.specs.Services.{over, cleared}
 unfoldable pub refusalLine : Refusal → List ℕ
 refusalLine r = row (bytes "(refused") (codeOf (r .row) ∷ r .place ∷ [])
 
+-- the report of document 01, which counts blocks
+abbrev pub blocksReport : Task → List ℕ
+blocksReport t = reportText inBlocks t
+
 unfoldable pub answered : Judged → List ℕ
 answered (refused r) = refusalLine r
-answered (task t) = reportText t
+answered (task t) = blocksReport t
 
 -- the report of a text, or the line of its refusal, for an output and a working space of these lengths
 unfoldable pub answerOf : List ℕ → ℕ → ℕ → List ℕ
-answerOf text output work = answered (judge (workRow work) (outputRows reportText output) text)
+answerOf text output work = answered (judge (workRow work) (outputRows blocksReport output) text)
 
 -- the answer to a text stands at the front of the output and has n bytes; the rest of the output is untouched, and the working space is cleared
 pub record Answers (text output work : List ℕ) (n : ℕ) (output′ work′ : List ℕ) : Type 0 where

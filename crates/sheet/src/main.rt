@@ -20,6 +20,15 @@ impl Buffers {
     const OUTPUT: usize = 131072;
 }
 
+// The price of a move that counts its blocks.
+struct InBlocks;
+
+impl InBlocks {
+    const START: u32 = 0;
+
+    const EACH: u32 = 1;
+}
+
 // What was read: so many bytes, or a failure.
 enum Input {
     Bytes(usize),
@@ -71,7 +80,7 @@ fn answer(text: &[u8], output: &mut [u8], work: &mut [u32]) -> usize
     ensures answer { λ n. ⌜ Answers (now (text .entry)) (now (output .entry)) (now (work .entry)) n (now (output .exit)) (now (work .exit)) ⌝ }
     ensures fits { λ n. ⌜ Counts n (now (output .exit)) ⌝ }
 {
-    let result = services::report(text, output, work);
+    let result = services::report(text, InBlocks::START, InBlocks::EACH, output, work);
     let verdict = result.verdict;
     match verdict {
         Verdict::Accepted => result.written as usize,

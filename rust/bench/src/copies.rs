@@ -1,68 +1,211 @@
 //! A new archive against an old one. `compare` links the code of each at four places, of which the fastest counts.
 
+use std::cell::RefCell;
 use std::hint::black_box;
 use std::process::ExitCode;
 
-use crate::check::ROUNDS;
-use crate::texts::texts;
-use crate::timing::{grouped, micros, Call};
-
-/// A check that gives the code.
-type Check = fn(&[u8]) -> u64;
+use crate::run::List;
+use crate::texts::{report_texts, texts};
+use crate::timing::{micros, Call, Rounds};
+use crate::{check, report, run, EACH, START};
 
 /// The slowest that a row may get, in parts of what it was.
 const SLOWEST: f64 = 1.03;
 
-macro_rules! copies {
-    ($($name:ident)*) => {
+/// What the services are lent.
+struct Room {
+    output: Vec<u8>,
+    answers: Vec<u32>,
+    cache: Vec<u32>,
+    memory: Vec<u32>,
+    work: Vec<u32>,
+    result: [u64; 5],
+}
+
+/// The services of one copy. Each gives a number in which all copies have to agree: the answer, the bytes written, what is moved.
+struct Services {
+    check: fn(&[u8]) -> u64,
+    report: fn(&[u8], &mut Room) -> u64,
+    run: fn(&List, &mut Room) -> u64,
+}
+
+macro_rules! services {
+    ($($copy:literal)*) => {
         [$({
-            fn check(text: &[u8]) -> u64 {
-                extern "C" {
-                    fn $name(text: *const u8, length: usize) -> u32;
-                }
-                // SAFETY: as for `felknost::check`.
-                let answer = unsafe { $name(text.as_ptr(), text.len()) };
-                u64::from(answer >> 16)
+            extern "C" {
+                #[link_name = concat!("felknost_check_", $copy)]
+                fn check(text: *const u8, length: usize) -> u32;
+
+                #[link_name = concat!("felknost_report_", $copy)]
+                fn report(
+                    text: *const u8,
+                    text_length: usize,
+                    start: u32,
+                    each: u32,
+                    output: *mut u8,
+                    output_length: usize,
+                    work: *mut u32,
+                    work_length: usize,
+                    result: *mut u64,
+                    result_length: usize,
+                ) -> u32;
+
+                #[link_name = concat!("felknost_run_", $copy)]
+                fn run(
+                    text: *const u8,
+                    text_length: usize,
+                    start: u32,
+                    each: u32,
+                    events: *const u32,
+                    events_length: usize,
+                    answers: *mut u32,
+                    answers_length: usize,
+                    cache: *mut u32,
+                    cache_length: usize,
+                    memory: *mut u32,
+                    memory_length: usize,
+                    work: *mut u32,
+                    work_length: usize,
+                    result: *mut u64,
+                    result_length: usize,
+                ) -> u32;
             }
-            check as Check
+            Services {
+                // SAFETY, of all three: as in the binding.
+                check: |text| unsafe { check(text.as_ptr(), text.len()).into() },
+                report: |text, room| unsafe {
+                    report(
+                        text.as_ptr(),
+                        text.len(),
+                        START,
+                        EACH,
+                        room.output.as_mut_ptr(),
+                        room.output.len(),
+                        room.work.as_mut_ptr(),
+                        room.work.len(),
+                        room.result.as_mut_ptr(),
+                        room.result.len(),
+                    );
+                    room.result[2]
+                },
+                run: |list, room| unsafe {
+                    let cache = &mut room.cache[..list.cache];
+                    let memory = &mut room.memory[..list.memory];
+                    run(
+                        list.text.as_ptr(),
+                        list.text.len(),
+                        START,
+                        EACH,
+                        list.events.as_ptr(),
+                        list.events.len(),
+                        room.answers.as_mut_ptr(),
+                        room.answers.len(),
+                        cache.as_mut_ptr(),
+                        cache.len(),
+                        memory.as_mut_ptr(),
+                        memory.len(),
+                        room.work.as_mut_ptr(),
+                        room.work.len(),
+                        room.result.as_mut_ptr(),
+                        room.result.len(),
+                    );
+                    room.result[3]
+                },
+            }
         }),*]
     };
 }
 
-const CHECKS: [Check; 8] = copies! {
-    felknost_check_old_0 felknost_check_old_16 felknost_check_old_32 felknost_check_old_48
-    felknost_check_new_0 felknost_check_new_16 felknost_check_new_32 felknost_check_new_48
+const COPIES: [Services; 8] = services! {
+    "old_0" "old_16" "old_32" "old_48"
+    "new_0" "new_16" "new_32" "new_48"
 };
 
-/// Seconds of the old and of the new archive.
-fn old_and_new(text: &[u8]) -> (f64, f64) {
-    let mut calls = CHECKS.map(|check| move || check(black_box(text)));
-    let times = ROUNDS.times(calls.each_mut().map(|call| call as Call));
+/// A row: its name, and the call that is timed.
+type Row = (&'static str, Box<dyn Fn(&Services, &mut Room) -> u64>);
+
+/// The tables: the service, how it is timed, and the rows.
+fn tables() -> [(&'static str, Rounds, Vec<Row>); 3] {
+    let checked = |(name, text): (_, Vec<u8>)| -> Row {
+        let call = move |copy: &Services, _: &mut Room| (copy.check)(black_box(&text));
+        (name, Box::new(call))
+    };
+    let reported = |(name, text): (_, Vec<u8>)| -> Row {
+        let call = move |copy: &Services, room: &mut Room| (copy.report)(black_box(&text), room);
+        (name, Box::new(call))
+    };
+    let ran = |list: List| -> Row {
+        let name = list.name;
+        let call = move |copy: &Services, room: &mut Room| (copy.run)(black_box(&list), room);
+        (name, Box::new(call))
+    };
+    [
+        (
+            "Check",
+            check::ROUNDS,
+            texts().into_iter().map(checked).collect(),
+        ),
+        (
+            "Report",
+            report::ROUNDS,
+            report_texts().into_iter().map(reported).collect(),
+        ),
+        (
+            "Run",
+            run::ROUNDS,
+            run::lists().into_iter().map(ran).collect(),
+        ),
+    ]
+}
+
+/// Seconds of the old and of the new archive. All copies are lent the same room.
+fn old_and_new(rounds: Rounds, row: &Row, room: &RefCell<Room>) -> (f64, f64) {
+    let mut calls = COPIES.map(|copy| move || row.1(&copy, &mut room.borrow_mut()));
+    let times = rounds.times(calls.each_mut().map(|call| call as Call));
     let best = |times: &[f64]| times.iter().copied().fold(f64::MAX, f64::min);
     (best(&times[..4]), best(&times[4..]))
 }
 
-/// Prints the table. A row that seems slower is measured once more, and its smaller ratio counts.
+/// The same; where the new one seems slower, both are measured once more, and the smaller ratio counts.
+fn twice_if_slower(rounds: Rounds, row: &Row, room: &RefCell<Room>) -> (f64, f64) {
+    let (old, new) = old_and_new(rounds, row, room);
+    if new / old <= SLOWEST {
+        return (old, new);
+    }
+    let again = old_and_new(rounds, row, room);
+    if again.1 / again.0 < new / old {
+        again
+    } else {
+        (old, new)
+    }
+}
+
+/// Prints the tables.
 pub fn compare() -> ExitCode {
-    println!("| Text | Bytes | Old, µs | New, µs | New / old |");
-    println!("|---|---|---|---|---|");
+    let room = RefCell::new(Room {
+        output: vec![0; report::OUTPUT],
+        answers: vec![0; run::EVENTS],
+        cache: vec![7; 64],
+        memory: vec![7; 256],
+        work: vec![0; felknost::WORK],
+        result: [0; 5],
+    });
     let mut slower = 0;
-    for (name, text) in texts() {
-        let (mut old, mut new) = old_and_new(&text);
-        if new / old > SLOWEST {
-            let again = old_and_new(&text);
-            if again.1 / again.0 < new / old {
-                (old, new) = again;
-            }
+    for (service, rounds, rows) in tables() {
+        println!("| {service} | Old, µs | New, µs | New / old |");
+        println!("|---|---|---|---|");
+        for row in &rows {
+            let (old, new) = twice_if_slower(rounds, row, &room);
+            slower += u32::from(new / old > SLOWEST);
+            let ratio = new / old;
+            println!(
+                "| {} | {} | {} | {ratio:.2} |",
+                row.0,
+                micros(old),
+                micros(new)
+            );
         }
-        slower += u32::from(new / old > SLOWEST);
-        println!(
-            "| {name} | {} | {} | {} | {:.2} |",
-            grouped(text.len()),
-            micros(old),
-            micros(new),
-            new / old
-        );
+        println!();
     }
     println!("{slower} rows are slower by more than 3 %");
     match slower {

@@ -1,5 +1,5 @@
 //! Times the services on the texts of docs/BENCHMARKS.md and prints its tables: the proved archive against the second implementation, or, built by
-//! `compare`, check of a new archive against that of an old one.
+//! `compare`, the services of a new archive against those of an old one.
 
 #![cfg_attr(copies, allow(dead_code))]
 
@@ -12,6 +12,10 @@ mod texts;
 mod timing;
 
 use std::process::ExitCode;
+
+/// The price of a move in all tables: blocks are counted.
+const START: u32 = 0;
+const EACH: u32 = 1;
 
 fn main() -> ExitCode {
     #[cfg(copies)]

@@ -3,28 +3,28 @@
 use std::hint::black_box;
 use std::time::Duration;
 
-use crate::check;
 use crate::texts::{points, report_texts};
 use crate::timing::{grouped, micros, Rounds};
+use crate::{check, EACH, START};
 
 /// A report takes from two microseconds to some hundreds.
-const ROUNDS: Rounds = Rounds {
+pub const ROUNDS: Rounds = Rounds {
     count: 200,
     length: Duration::from_micros(1_500),
     pack: 4,
 };
 
 /// Room for every report of the texts.
-const OUTPUT: usize = 65_536;
+pub const OUTPUT: usize = 65_536;
 
 /// The bytes written, or 0 where the text is refused.
 fn proved(text: &[u8], output: &mut [u8], work: &mut [u32]) -> u64 {
-    felknost::report(text, output, work).map_or(0, |written| written as u64)
+    felknost::report(text, START, EACH, output, work).map_or(0, |written| written as u64)
 }
 
 /// The second implementation is lent no working space. What the rules ask a service to leave in it is timed here too.
 fn second(text: &[u8], output: &mut [u8], work: &mut [u32]) -> u64 {
-    let result = second::report(text, work.len(), output);
+    let result = second::report(text, START, EACH, work.len(), output);
     work.fill(0);
     result.written.into()
 }

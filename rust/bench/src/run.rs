@@ -4,25 +4,30 @@ use std::hint::black_box;
 use std::time::Duration;
 
 use crate::timing::{micros, Rounds};
+use crate::{EACH, START};
 
 /// A run of the whole list takes about a millisecond.
-const ROUNDS: Rounds = Rounds {
+pub const ROUNDS: Rounds = Rounds {
     count: 100,
     length: Duration::from_micros(1_500),
     pack: 1,
 };
 
 /// As many events as a list may have.
-const EVENTS: usize = 65_536;
+pub const EVENTS: usize = 65_536;
 
 /// A run: a task, the cache and memory that it asks for, and the events.
 pub struct List {
     /// The row's name.
     pub name: &'static str,
-    text: Vec<u8>,
-    cache: usize,
-    memory: usize,
-    events: Vec<u32>,
+    /// The task's text.
+    pub text: Vec<u8>,
+    /// The cache blocks.
+    pub cache: usize,
+    /// The numbers of the memory.
+    pub memory: usize,
+    /// The events.
+    pub events: Vec<u32>,
 }
 
 /// Preemptions where `preempts` says so, else steps; every value is 0, so that each branch goes back.
@@ -88,14 +93,25 @@ pub fn table() {
         let (text, events) = (&list.text[..], &list.events[..]);
         let proved = &mut || {
             let [answers, cache, memory] = &mut lent;
-            felknost::run(black_box(text), events, answers, cache, memory, &mut work)
-                .done
-                .into()
+            felknost::run(
+                black_box(text),
+                START,
+                EACH,
+                events,
+                answers,
+                cache,
+                memory,
+                &mut work,
+            )
+            .done
+            .into()
         };
         let second = &mut || {
             let [answers, cache, memory] = &mut others;
             second::run(
                 black_box(text),
+                START,
+                EACH,
                 second::WORK_MIN,
                 events,
                 answers,

@@ -5,6 +5,8 @@ extern "C" {
     fn felknost_report(
         text: *const u8,
         text_length: usize,
+        start: u32,
+        each: u32,
         output: *mut u8,
         output_length: usize,
         work: *mut u32,
@@ -16,6 +18,8 @@ extern "C" {
     fn felknost_run(
         text: *const u8,
         text_length: usize,
+        start: u32,
+        each: u32,
         events: *const u32,
         events_length: usize,
         answers: *mut u32,
@@ -31,13 +35,22 @@ extern "C" {
     ) -> u32;
 }
 
-/// The report of a text. `result` gets code, place and bytes written.
-pub fn report(text: &[u8], output: &mut [u8], work: &mut [u32], result: &mut [u64]) -> u32 {
+/// The report of a text at a price. `result` gets code, place and bytes written.
+pub fn report(
+    text: &[u8],
+    start: u32,
+    each: u32,
+    output: &mut [u8],
+    work: &mut [u32],
+    result: &mut [u64],
+) -> u32 {
     // SAFETY: each pointer comes with the length of its slice, and the slices that are written do not overlap others, since they are unique borrows.
     unsafe {
         felknost_report(
             text.as_ptr(),
             text.len(),
+            start,
+            each,
             output.as_mut_ptr(),
             output.len(),
             work.as_mut_ptr(),
@@ -48,9 +61,12 @@ pub fn report(text: &[u8], output: &mut [u8], work: &mut [u32], result: &mut [u6
     }
 }
 
-/// The run of an event list. `result` gets code, place, events done, moved and allowed.
+/// The run of an event list at a price. `result` gets code, place, events done, moved and allowed.
+#[allow(clippy::too_many_arguments, reason = "the C function has them")]
 pub fn run(
     text: &[u8],
+    start: u32,
+    each: u32,
     events: &[u32],
     answers: &mut [u32],
     cache: &mut [u32],
@@ -63,6 +79,8 @@ pub fn run(
         felknost_run(
             text.as_ptr(),
             text.len(),
+            start,
+            each,
             events.as_ptr(),
             events.len(),
             answers.as_mut_ptr(),

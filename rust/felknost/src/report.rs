@@ -2,11 +2,18 @@
 
 use crate::{raw, Refusal};
 
-/// Writes the report of a task text to the front of `output` and gives its length. `work` has at least [`WORK`](crate::WORK) numbers; the
-/// first of them are 0 afterwards.
-pub fn report(text: &[u8], output: &mut [u8], work: &mut [u32]) -> Result<usize, Refusal> {
+/// Writes the report of a task text to the front of `output` and gives its length. A move costs `start`, 0 to 255, where it moves a block at
+/// all, and `each`, 1 to 255, for each block; 0 and 1 count blocks. `work` has at least [`WORK`](crate::WORK) numbers; the first of them are
+/// 0 afterwards.
+pub fn report(
+    text: &[u8],
+    start: u32,
+    each: u32,
+    output: &mut [u8],
+    work: &mut [u32],
+) -> Result<usize, Refusal> {
     let mut result = [0; 3];
-    let answer = raw::report(text, output, work, &mut result);
+    let answer = raw::report(text, start, each, output, work, &mut result);
     debug_assert_eq!(answer, 1);
     let [code, place, written] = result;
     Refusal::of(code as u32, place as u32)?;

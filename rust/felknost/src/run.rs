@@ -9,16 +9,20 @@ pub struct RunResult {
     pub ending: Result<(), Refusal>,
     /// The events done.
     pub done: u32,
-    /// The blocks moved by the events done.
+    /// The sum of the prices of all moves by the events done.
     pub moved: u64,
     /// The sum of the sheet's bounds for the events done.
     pub allowed: u64,
 }
 
-/// Runs an event list, pairs of kind and value, on the machine. `answers` has a number for each event, `cache` as many as the task states,
-/// `memory` at least those of the deepest stack, and `work` at least [`WORK`](crate::WORK), the first of which are 0 afterwards.
+/// Runs an event list, pairs of kind and value, on the machine. `start` and `each` are the price of a move, as for [`report`](crate::report()).
+/// `answers` has a number for each event, `cache` as many as the task states, `memory` at least those of the deepest stack, and `work` at
+/// least [`WORK`](crate::WORK), the first of which are 0 afterwards.
+#[allow(clippy::too_many_arguments, reason = "the C function has them")]
 pub fn run(
     text: &[u8],
+    start: u32,
+    each: u32,
     events: &[u32],
     answers: &mut [u32],
     cache: &mut [u32],
@@ -26,7 +30,17 @@ pub fn run(
     work: &mut [u32],
 ) -> RunResult {
     let mut result = [0; 5];
-    let answer = raw::run(text, events, answers, cache, memory, work, &mut result);
+    let answer = raw::run(
+        text,
+        start,
+        each,
+        events,
+        answers,
+        cache,
+        memory,
+        work,
+        &mut result,
+    );
     debug_assert_eq!(answer, 1);
     let [code, place, done, moved, allowed] = result;
     RunResult {

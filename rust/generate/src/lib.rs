@@ -178,12 +178,20 @@ impl Small {
     }
 }
 
-/// A price of moves that is allowed.
+/// A price of moves whose two numbers are in their ranges.
 pub fn price(seed: u64) -> Price {
     prices::price(&mut Rng::new(seed))
 }
 
-/// A price of moves with a number that is not allowed.
+/// A price of moves with a number outside its range.
 pub fn unfit_price(seed: u64) -> Price {
     prices::unfit(&mut Rng::new(seed))
+}
+
+/// A price of moves, in one of eight cases with a number outside its range.
+pub fn any_price(seed: u64) -> Price {
+    match seed % 8 {
+        0 => unfit_price(seed),
+        _ => price(seed),
+    }
 }

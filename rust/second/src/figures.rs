@@ -1,5 +1,7 @@
-//! The figures of an accepted task, all in blocks.
+//! The figures of an accepted task. Displacements, occupancies and offsets are blocks; what bounds
+//! moves is a price.
 
+use crate::price::Price;
 use crate::text::{Func, Point, Task};
 use crate::walks;
 
@@ -12,9 +14,9 @@ pub struct FuncFigures {
     pub longest: u32,
     /// The largest occupancy at a call of the function.
     pub entry: u32,
-    /// The bound on the blocks spilled when the function is entered.
+    /// The bound on the price of the spill when the function is entered.
     pub spill: u32,
-    /// What the ensures of all callers may fill after a preemption.
+    /// The bound on the price of what the ensures of all callers fill after a preemption.
     pub chain: u32,
 }
 
@@ -27,17 +29,17 @@ pub struct PointFigures {
     pub dead: u32,
     /// The end of the offsets used before the next ensure.
     pub need: u32,
-    /// The bound on the blocks written at a preemption.
+    /// The bound on the price of the blocks written at a preemption.
     pub save: u32,
-    /// The bound on the blocks read back at a preemption.
+    /// The bound on the price of the blocks read back at a preemption.
     pub reload: u32,
-    /// What the next ensure of the frame may fill after a preemption.
+    /// The bound on the price of what the next ensure of the frame fills after a preemption.
     pub later: u32,
     /// The chain of the function.
     pub chain: u32,
-    /// The bound on all blocks moved because of a preemption.
+    /// The bound on the price of all moves because of a preemption.
     pub cost: u32,
-    /// The bound on the blocks filled by an ensure; 0 at other points.
+    /// The bound on the price of the blocks filled by an ensure; 0 at other points.
     pub fill: u32,
 }
 
@@ -50,8 +52,8 @@ pub struct Figures {
     pub points: Vec<PointFigures>,
 }
 
-/// Works out all figures. The task must have passed the checks.
-pub fn figures(task: &Task) -> Figures {
+/// Works out all figures at a price. The task must have passed the checks.
+pub fn figures(task: &Task, price: Price) -> Figures {
     let mut figures = Figures {
         funcs: vec![FuncFigures::default(); task.funcs.len()],
         points: vec![PointFigures::default(); task.points.len()],
@@ -63,9 +65,9 @@ pub fn figures(task: &Task) -> Figures {
     for number in 0..task.funcs.len() {
         fills(task, number, &mut figures);
         occupancy(task, number, &mut figures);
-        chains(task, number, &mut figures);
+        chains(task, number, price, &mut figures);
         liveness(task, number, &mut figures);
-        costs(task, number, &mut figures);
+        costs(task, number, price, &mut figures);
     }
     figures
 }
@@ -89,7 +91,7 @@ fn displacement(task: &Task, number: usize, funcs: &mut [FuncFigures]) {
     };
 }
 
-/// Sets the fill of each ensure of a function.
+/// Sets the fill of each ensure of a function, in blocks.
 fn fills(task: &Task, number: usize, figures: &mut Figures) {
     let Func {
         frame,
@@ -107,7 +109,7 @@ fn fills(task: &Task, number: usize, figures: &mut Figures) {
     }
 }
 
-/// Sets spill and high of a function, and raises the entry occupancy of its callees.
+/// Sets spill, in blocks, and high of a function, and raises the entry occupancy of its callees.
 fn occupancy(task: &Task, number: usize, figures: &mut Figures) {
     let func = &task.funcs[number];
     let points = task.points_of(func);
@@ -133,20 +135,20 @@ fn occupancy(task: &Task, number: usize, figures: &mut Figures) {
     }
 }
 
-/// Raises the chain of the callees of a function.
-fn chains(task: &Task, number: usize, figures: &mut Figures) {
+/// Raises the chain of the callees of a function; each caller's share is a move of its own.
+fn chains(task: &Task, number: usize, price: Price, figures: &mut Figures) {
     let func = &task.funcs[number];
     let chain = figures.funcs[number].chain;
     for (index, &point) in task.points_of(func).iter().enumerate() {
         if let Point::Call(callee) = point {
             let fill = figures.points[func.first + index + 1].fill;
             let below = &mut figures.funcs[callee as usize].chain;
-            *below = (chain + func.frame - fill).max(*below);
+            *below = (chain + price.of(func.frame - fill)).max(*below);
         }
     }
 }
 
-/// Sets dead, need and later of a function.
+/// Sets dead, need and, in blocks, later of a function.
 fn liveness(task: &Task, number: usize, figures: &mut Figures) {
     let func = &task.funcs[number];
     let points = task.points_of(func);
@@ -177,13 +179,17 @@ fn liveness(task: &Task, number: usize, figures: &mut Figures) {
     }
 }
 
-/// Sets the figures that follow from the others.
-fn costs(task: &Task, number: usize, figures: &mut Figures) {
+/// Sets the figures that follow from the others, and prices what the others have in blocks.
+fn costs(task: &Task, number: usize, price: Price, figures: &mut Figures) {
     let func = &task.funcs[number];
-    let chain = figures.funcs[number].chain;
+    let own = &mut figures.funcs[number];
+    own.spill = price.of(own.spill);
+    let chain = own.chain;
     for figure in &mut figures.points[func.first..func.first + func.count] {
-        figure.save = figure.high.saturating_sub(figure.dead);
-        figure.reload = figure.need.saturating_sub(figure.dead);
+        figure.save = price.of(figure.high.saturating_sub(figure.dead));
+        figure.reload = price.of(figure.need.saturating_sub(figure.dead));
+        figure.later = price.of(figure.later);
+        figure.fill = price.of(figure.fill);
         figure.chain = chain;
         figure.cost = figure.save + figure.reload + figure.later + chain;
     }

@@ -1,5 +1,7 @@
 //! The stack cache: occupancy, spill, fill and preemption on lent cache and memory.
 
+use crate::price::Moves;
+
 /// Blocks spilled by a reserve of `frame` at `occupancy`, and the occupancy after it.
 pub fn reserve(stack: usize, occupancy: usize, frame: usize) -> (usize, usize) {
     let wanted = occupancy + frame;
@@ -23,6 +25,7 @@ pub struct Machine<'a> {
     memory: &'a mut [u32],
     top: usize,
     occupancy: usize,
+    moves: Moves,
 }
 
 impl<'a> Machine<'a> {
@@ -34,37 +37,42 @@ impl<'a> Machine<'a> {
             memory,
             top,
             occupancy: 0,
+            moves: Moves::default(),
         }
+    }
+
+    /// All moves so far.
+    pub fn moves(&self) -> Moves {
+        self.moves
     }
 
     fn block(&self, address: usize) -> usize {
         address % self.cache.len()
     }
 
-    /// Copies the offsets `from` to `to` - 1 from the cache to memory and counts them.
-    fn write_back(&mut self, from: usize, to: usize) -> u64 {
+    /// Copies the offsets `from` to `to` - 1 from the cache to memory, in one move.
+    fn write_back(&mut self, from: usize, to: usize) {
         for address in self.top + from..self.top + to {
             self.memory[address] = self.cache[self.block(address)];
         }
-        (to - from) as u64
+        self.moves.add(to - from);
     }
 
-    /// Copies the offsets `from` to `to` - 1 from memory to the cache and counts them.
-    fn read_in(&mut self, from: usize, to: usize) -> u64 {
+    /// Copies the offsets `from` to `to` - 1 from memory to the cache, in one move.
+    fn read_in(&mut self, from: usize, to: usize) {
         for address in self.top + from..self.top + to {
             let block = self.block(address);
             self.cache[block] = self.memory[address];
         }
-        (to - from) as u64
+        self.moves.add(to - from);
     }
 
     /// Enters a function: reserves its frame and spills the highest cached addresses.
-    pub fn enter(&mut self, frame: usize) -> u64 {
+    pub fn enter(&mut self, frame: usize) {
         let (spilled, occupancy) = reserve(self.cache.len(), self.occupancy, frame);
-        let moved = self.write_back(self.occupancy - spilled, self.occupancy);
+        self.write_back(self.occupancy - spilled, self.occupancy);
         self.top -= frame;
         self.occupancy = occupancy;
-        moved
     }
 
     /// Leaves a function: frees its frame.
@@ -74,11 +82,10 @@ impl<'a> Machine<'a> {
     }
 
     /// Fills the frame from the first address that is not cached.
-    pub fn ensure(&mut self, frame: usize) -> u64 {
+    pub fn ensure(&mut self, frame: usize) {
         let (filled, occupancy) = ensure(self.occupancy, frame);
-        let moved = self.read_in(self.occupancy, self.occupancy + filled);
+        self.read_in(self.occupancy, self.occupancy + filled);
         self.occupancy = occupancy;
-        moved
     }
 
     /// The number in the cache block of an offset.
@@ -93,11 +100,11 @@ impl<'a> Machine<'a> {
     }
 
     /// Lets another task use the cache, which leaves `left` in every block.
-    pub fn preempt(&mut self, dead: usize, need: usize, left: u32) -> u64 {
+    pub fn preempt(&mut self, dead: usize, need: usize, left: u32) {
         let skipped = self.occupancy.min(dead);
-        let saved = self.write_back(skipped, self.occupancy);
+        self.write_back(skipped, self.occupancy);
         self.cache.fill(left);
         self.occupancy = self.occupancy.min(dead.max(need));
-        saved + self.read_in(skipped, self.occupancy)
+        self.read_in(skipped, self.occupancy);
     }
 }

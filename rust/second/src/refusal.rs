@@ -50,11 +50,13 @@ pub enum Row {
     Choice = 21,
     /// An event after the task has finished.
     AfterFinish = 22,
+    /// A start or a price of a block outside its range.
+    PriceRange = 23,
 }
 
 impl Row {
     /// All rows, by code.
-    pub const ALL: [Row; 22] = [
+    pub const ALL: [Row; 23] = [
         Row::TextTooLong,
         Row::Form,
         Row::StackSize,
@@ -77,6 +79,7 @@ impl Row {
         Row::Kind,
         Row::Choice,
         Row::AfterFinish,
+        Row::PriceRange,
     ];
 
     /// The code of the row.

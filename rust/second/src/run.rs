@@ -2,6 +2,7 @@
 
 use crate::figures::{figures, Figures};
 use crate::machine::Machine;
+use crate::price::Price;
 use crate::refusal::{code_and_place, Row, Verdict};
 use crate::text::{Point, Task};
 
@@ -15,7 +16,7 @@ pub struct RunResult {
     pub ending: Verdict,
     /// The events done.
     pub done: u32,
-    /// The blocks moved by the events done.
+    /// The price of what the events done have moved.
     pub moved: u64,
     /// The sum of the bounds of the sheet for the events done.
     pub allowed: u64,
@@ -35,22 +36,27 @@ impl RunResult {
     }
 }
 
-/// Runs a task on lent cache and memory. An event is a pair of kind and value.
+/// Runs a task at a price on lent cache and memory. An event is a pair of kind and value.
+#[allow(clippy::too_many_arguments, reason = "the service has them")]
 pub fn run(
     text: &[u8],
+    start: u32,
+    each: u32,
     work_len: usize,
     events: &[u32],
     answers: &mut [u32],
     cache: &mut [u32],
     memory: &mut [u32],
 ) -> RunResult {
-    let admitted = crate::admit(text, work_len).and_then(|task| {
-        let figures = figures(&task);
+    let admitted = crate::admit_at(text, start, each, work_len).and_then(|(task, price)| {
+        let figures = figures(&task, price);
         lengths(&task, &figures, events, answers, cache, memory)?;
-        Ok((task, figures))
+        Ok((task, price, figures))
     });
     match admitted {
-        Ok((task, figures)) => Run::new(&task, &figures, cache, memory).all(events, answers),
+        Ok((task, price, figures)) => {
+            Run::new(&task, &figures, cache, memory).all(price, events, answers)
+        }
         Err(refusal) => RunResult {
             ending: Err(refusal),
             done: 0,
@@ -96,7 +102,6 @@ struct Run<'a> {
     figures: &'a Figures,
     machine: Machine<'a>,
     frames: Vec<Frame>,
-    moved: u64,
     allowed: u64,
 }
 
@@ -115,12 +120,13 @@ impl<'a> Run<'a> {
             figures,
             machine,
             frames: vec![Frame { func: 0, point: 0 }],
-            moved: 0,
             allowed: 0,
         }
     }
 
-    fn all(mut self, events: &[u32], answers: &mut [u32]) -> RunResult {
+    /// Does the events up to the first that is refused. The machine counts the moves; they are
+    /// priced at the end.
+    fn all(mut self, price: Price, events: &[u32], answers: &mut [u32]) -> RunResult {
         let mut ending = Ok(());
         let mut done = 0;
         for (pair, answer) in events.chunks_exact(2).zip(answers) {
@@ -136,7 +142,7 @@ impl<'a> Run<'a> {
         RunResult {
             ending,
             done,
-            moved: self.moved,
+            moved: price.of_all(self.machine.moves()),
             allowed: self.allowed,
         }
     }
@@ -160,8 +166,7 @@ impl<'a> Run<'a> {
     fn preempt(&mut self, index: usize, left: u32) {
         let point = &self.figures.points[index];
         self.allowed += u64::from(point.cost);
-        self.moved += self
-            .machine
+        self.machine
             .preempt(point.dead as usize, point.need as usize, left);
     }
 
@@ -174,7 +179,7 @@ impl<'a> Run<'a> {
             Point::Store(offset) => self.machine.store(offset as usize, value),
             Point::Ensure(_) => {
                 self.allowed += u64::from(self.figures.points[index].fill);
-                self.moved += self.machine.ensure(own);
+                self.machine.ensure(own);
             }
             Point::Goto(target) => next = target as usize,
             Point::Either(first, second) => match value {
@@ -205,7 +210,7 @@ impl<'a> Run<'a> {
 
     fn call(&mut self, func: usize) {
         self.allowed += u64::from(self.figures.funcs[func].spill);
-        self.moved += self.machine.enter(self.task.funcs[func].frame as usize);
+        self.machine.enter(self.task.funcs[func].frame as usize);
         self.frames.push(Frame { func, point: 0 });
     }
 }

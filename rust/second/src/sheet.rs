@@ -23,18 +23,20 @@ impl WriteResult {
     }
 }
 
-/// Writes the report of a text to the front of `out`.
-pub fn report(text: &[u8], work_len: usize, out: &mut [u8]) -> WriteResult {
-    let written = written(text, work_len, out);
+/// Writes the report of a text at a price to the front of `out`.
+pub fn report(text: &[u8], start: u32, each: u32, work_len: usize, out: &mut [u8]) -> WriteResult {
+    let written = crate::admit_at(text, start, each, work_len).and_then(|(task, price)| {
+        let sheet = print(&task, &figures(&task, price));
+        write(&sheet, out)
+    });
     WriteResult {
         verdict: written.map(|_| ()),
         written: written.unwrap_or(0),
     }
 }
 
-fn written(text: &[u8], work_len: usize, out: &mut [u8]) -> Result<u32, Refusal> {
-    let task = crate::admit(text, work_len)?;
-    let sheet = print(&task, &figures(&task));
+/// Refuses by row 14.
+fn write(sheet: &str, out: &mut [u8]) -> Result<u32, Refusal> {
     let length = sheet.len() as u32;
     let Some(front) = out.get_mut(..sheet.len()) else {
         return Err(Row::OutputTooSmall.at(length));

@@ -6,5 +6,5 @@ mod services;
 mod texts;
 
 pub use guarded::{is_noise_from, noise, Guarded, Noise};
-pub use services::{check, report, run, verdict, Lent, Ran, Reported};
+pub use services::{check, report, report_at, run, run_at, verdict, Lent, Ran, Reported};
 pub use texts::{steps, text, TWO};

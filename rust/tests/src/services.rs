@@ -1,18 +1,24 @@
 //! The services in both implementations.
 
-use second::{code_and_place, RunResult, Verdict, WriteResult, WORK_MIN};
+use second::{code_and_place, Row, RunResult, Verdict, WriteResult, WORK_MIN};
 
 use felknost::raw;
+use generate::Price;
 
 use crate::guarded::{is_noise_from, noise, Guarded};
 
-/// Requires that a service refuses a text where check does, and likewise, and else by none of check's rows.
-fn assert_checked(text: &[u8], work: usize, verdict: Verdict) {
-    if work >= WORK_MIN {
-        match check(text) {
-            Ok(()) => assert!(!matches!(code_and_place(verdict).0, 1..=13 | 15)),
-            refused => assert_eq!(verdict, refused),
-        }
+/// Requires that a service refuses a price that does not fit, then a text where check does, and likewise, and else by none of these rows.
+fn assert_checked(text: &[u8], price: Price, work: usize, verdict: Verdict) {
+    if work < WORK_MIN {
+        return;
+    }
+    let checked = match price.fits() {
+        true => check(text),
+        false => Err(Row::PriceRange.at(0)),
+    };
+    match checked {
+        Ok(()) => assert!(!matches!(code_and_place(verdict).0, 1..=13 | 15 | 23)),
+        refused => assert_eq!(verdict, refused),
     }
 }
 
@@ -37,13 +43,18 @@ pub struct Reported {
     pub output: Vec<u8>,
 }
 
-/// Reports into an output of this length with a working space of that length, in both implementations.
+/// Reports into an output of this length with a working space of that length, in both implementations. Blocks are counted.
 pub fn report(text: &[u8], output: usize, work: usize) -> Reported {
+    report_at(text, Price::BLOCKS, output, work)
+}
+
+/// Reports at a price.
+pub fn report_at(text: &[u8], price: Price, output: usize, work: usize) -> Reported {
     let mut output = noise(output);
-    let result = second::report(text, work, &mut output);
-    assert_checked(text, work, result.verdict);
+    let result = second::report(text, price.start, price.each, work, &mut output);
+    assert_checked(text, price, work, result.verdict);
     let reported = Reported { result, output };
-    report_in_archive(text, work, &reported);
+    report_in_archive(text, price, work, &reported);
     reported
 }
 
@@ -80,23 +91,30 @@ impl Ran {
     }
 }
 
-/// Runs an event list on these buffers with a working space of this length, in both implementations.
+/// Runs an event list on these buffers with a working space of this length, in both implementations. Blocks are counted.
 pub fn run(text: &[u8], events: &[u32], lent: &Lent, work: usize) -> Ran {
+    run_at(text, Price::BLOCKS, events, lent, work)
+}
+
+/// Runs an event list at a price.
+pub fn run_at(text: &[u8], price: Price, events: &[u32], lent: &Lent, work: usize) -> Ran {
     let mut after = lent.clone();
     let result = second::run(
         text,
+        price.start,
+        price.each,
         work,
         events,
         &mut after.answers,
         &mut after.cache,
         &mut after.memory,
     );
-    assert_checked(text, work, result.ending);
+    assert_checked(text, price, work, result.ending);
     let ran = Ran {
         result,
         lent: after,
     };
-    run_in_archive(text, events, lent, work, &ran);
+    run_in_archive(text, price, events, lent, work, &ran);
     ran
 }
 
@@ -116,15 +134,20 @@ fn with_noise(numbers: &[u64], length: usize) -> Vec<u64> {
     whole
 }
 
-fn report_in_archive(text: &[u8], work: usize, wanted: &Reported) {
+fn report_in_archive(text: &[u8], price: Price, work: usize, wanted: &Reported) {
     let mut output = Guarded::noisy(wanted.output.len());
     let mut space = Guarded::noisy(work);
     let mut result = Guarded::noisy(3 + text.len() % 3);
     let length = result.lent().len();
-    assert_eq!(
-        raw::report(text, output.lent(), space.lent(), result.lent()),
-        1
+    let answer = raw::report(
+        text,
+        price.start,
+        price.each,
+        output.lent(),
+        space.lent(),
+        result.lent(),
     );
+    assert_eq!(answer, 1);
     assert_eq!(
         result.held("the result"),
         with_noise(&wanted.result.numbers(), length),
@@ -134,7 +157,14 @@ fn report_in_archive(text: &[u8], work: usize, wanted: &Reported) {
     assert_cleared(&space);
 }
 
-fn run_in_archive(text: &[u8], events: &[u32], lent: &Lent, work: usize, wanted: &Ran) {
+fn run_in_archive(
+    text: &[u8],
+    price: Price,
+    events: &[u32],
+    lent: &Lent,
+    work: usize,
+    wanted: &Ran,
+) {
     let mut answers = Guarded::holding(&lent.answers);
     let mut cache = Guarded::holding(&lent.cache);
     let mut memory = Guarded::holding(&lent.memory);
@@ -143,6 +173,8 @@ fn run_in_archive(text: &[u8], events: &[u32], lent: &Lent, work: usize, wanted:
     let length = result.lent().len();
     let answer = raw::run(
         text,
+        price.start,
+        price.each,
         events,
         answers.lent(),
         cache.lent(),

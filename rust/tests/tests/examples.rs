@@ -1,8 +1,9 @@
 //! The examples that settle the rules, and one task for each known wrong turn.
 
+use generate::Price;
 use second::figures::{figures, PointFigures};
 use second::{admit, machine, plain, Row, RunResult, WriteResult, WORK_MIN};
-use tests::{is_noise_from, report, run, steps, text, verdict, Lent, Ran, TWO};
+use tests::{is_noise_from, report, report_at, run, run_at, steps, text, verdict, Lent, Ran, TWO};
 
 const TWO_REPORT: &str = "(report
   (func 0 2 6 6 0 0)
@@ -18,9 +19,26 @@ const TWO_REPORT: &str = "(report
 )
 ";
 
+/// Its report where a move costs 10 to begin and 1 for each block.
+const TWO_REPORT_AT_10: &str = "(report
+  (func 0 2 6 6 0 0)
+  (at 0 2 2 2 0 0 0 0 0 0)
+  (at 1 2 1 0 11 0 11 0 22 0)
+  (at 2 1 1 0 0 0 11 0 11 11)
+  (at 3 2 1 2 11 11 0 0 22 0)
+  (at 4 2 2 0 0 0 0 0 0 0)
+  (func 1 4 4 4 11 11)
+  (at 0 5 4 1 11 0 0 11 22 0)
+  (at 1 5 0 1 15 11 0 11 37 0)
+  (at 2 5 4 0 11 0 0 11 22 0)
+)
+";
+
+const START_OF_10: Price = Price { start: 10, each: 1 };
+
 fn point_figures(text: &str) -> Vec<PointFigures> {
     let task = admit(text.as_bytes(), WORK_MIN).expect("an accepted text");
-    figures(&task).points
+    figures(&task, second::Price::BLOCKS).points
 }
 
 /// Runs a text with a cache and a memory of these lengths, all their numbers 9.
@@ -71,17 +89,26 @@ fn free() {
     assert_eq!(machine::free(1, 4), 0);
 }
 
-#[test]
-fn report_of_two() {
-    let length = TWO_REPORT.len();
-    let reported = report(TWO.as_bytes(), 400, WORK_MIN);
+fn report_of_two_is(price: Price, wanted: &str) {
+    let length = wanted.len();
+    let reported = report_at(TWO.as_bytes(), price, 400, WORK_MIN);
     let accepted = WriteResult {
         verdict: Ok(()),
         written: length as u32,
     };
     assert_eq!(reported.result, accepted);
-    assert_eq!(&reported.output[..length], TWO_REPORT.as_bytes());
+    assert_eq!(&reported.output[..length], wanted.as_bytes());
     assert!(is_noise_from(length, &reported.output[length..]));
+}
+
+#[test]
+fn report_of_two() {
+    report_of_two_is(Price::BLOCKS, TWO_REPORT);
+}
+
+#[test]
+fn report_of_two_with_a_start() {
+    report_of_two_is(START_OF_10, TWO_REPORT_AT_10);
 }
 
 #[test]
@@ -90,11 +117,27 @@ fn run_of_two_without_preemption() {
     assert_eq!(result, all_done(7, 2, 2));
 }
 
+/// A preemption before the load of function 1.
+fn preempted() -> Vec<u32> {
+    [steps(3, 3), vec![1, 8], steps(4, 3)].concat()
+}
+
 #[test]
 fn run_of_two_with_a_preemption() {
-    let events = [steps(3, 3), vec![1, 8], steps(4, 3)].concat();
-    let result = run_like_plain(TWO, 5, 6, &events);
+    let result = run_like_plain(TWO, 5, 6, &preempted());
     assert_eq!(result, all_done(8, 9, 9));
+}
+
+/// A spill and a fill of one block are 11 each. The preemption moves 5 blocks out and one back, and the fill after it has two: 11 + 15 + 11 + 12.
+/// The sheet allows it 37 beside the spill and the fill.
+#[test]
+fn runs_of_two_with_a_start() {
+    let of = |events: &[u32]| {
+        let lent = Lent::noisy(8, 5, 6);
+        run_at(TWO.as_bytes(), START_OF_10, events, &lent, WORK_MIN).result
+    };
+    assert_eq!(of(&steps(7, 3)), all_done(7, 22, 22));
+    assert_eq!(of(&preempted()), all_done(8, 49, 59));
 }
 
 #[test]

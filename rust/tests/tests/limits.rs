@@ -1,7 +1,8 @@
 //! Each limit: accepted at the limit, refused one past it.
 
+use generate::Price;
 use second::{Row, WORK_MIN};
-use tests::{noise, report, run, steps, text, verdict, Lent, Ran, TWO};
+use tests::{noise, report, report_at, run, run_at, steps, text, verdict, Lent, Ran, TWO};
 
 fn run_on(text: &str, cache: usize, memory: usize, events: &[u32]) -> Ran {
     let lent = Lent::noisy(events.len() / 2, cache, memory);
@@ -38,6 +39,66 @@ fn working_space() {
     let ran = run(b"", &[0], &lent, 16_383);
     assert_eq!(ran.result.numbers(), [15, 16_384, 0, 0, 0]);
     assert_eq!(ran.lent, lent);
+}
+
+#[test]
+fn prices() {
+    let of = |start, each| {
+        let price = Price { start, each };
+        let reported = report_at(TWO.as_bytes(), price, 400, WORK_MIN).result;
+        let ran = run_at(TWO.as_bytes(), price, &[], &Lent::noisy(0, 5, 6), WORK_MIN);
+        assert_eq!(ran.result.ending, reported.verdict);
+        reported.verdict
+    };
+    for start in [0, 1, 254, 255] {
+        for each in [1, 2, 254, 255] {
+            assert_eq!(of(start, each), Ok(()), "{start} {each}");
+        }
+    }
+    let outside = Err(Row::PriceRange.at(0));
+    for number in [256, 257, 511, 65_536, 65_537, 1 << 31, u32::MAX] {
+        assert_eq!(of(number, 1), outside, "start {number}");
+        assert_eq!(of(0, number), outside, "each {number}");
+        assert_eq!(of(number, number), outside, "both {number}");
+    }
+    assert_eq!(of(0, 0), outside);
+    assert_eq!(of(255, 0), outside);
+}
+
+/// 64 functions of one block, each calling the next, the last with a load. Nothing is spilled or filled.
+fn deep() -> String {
+    let calls: Vec<String> = (1..64).map(|callee| format!("call {callee}")).collect();
+    let points: Vec<[&str; 3]> = calls
+        .iter()
+        .map(|call| [call, "ensure 1", "return"])
+        .collect();
+    let mut funcs: Vec<(usize, &[&str])> = points.iter().map(|points| (1, &points[..])).collect();
+    funcs.push((1, &["store 0", "load 0", "return"]));
+    text(64, &funcs)
+}
+
+/// At the load every block is saved and one comes back, and 63 callers have a share of one block each.
+#[test]
+fn largest_prices() {
+    let text = deep();
+    let dearest = Price {
+        start: 255,
+        each: 255,
+    };
+    let reported = report_at(text.as_bytes(), dearest, 30_000, WORK_MIN);
+    let written = reported.result.written as usize;
+    let sheet = std::str::from_utf8(&reported.output[..written]).expect("a report is text");
+    let load = "  (at 1 64 0 1 16575 510 0 32130 49215 0)\n";
+    assert!(sheet.contains(load), "{sheet}");
+    // The first preemption saves 64 blocks, the later ones one.
+    let preemptions = 65_536 - 64;
+    let events = [steps(64, 5), [1, 7].repeat(preemptions)].concat();
+    let lent = Lent::noisy(65_536, 64, 64);
+    let ran = run_at(text.as_bytes(), dearest, &events, &lent, WORK_MIN);
+    let preemptions = preemptions as u64;
+    let moved = 16_575 - 510 + preemptions * 2 * 510;
+    let numbers = [0, 0, 65_536, moved, preemptions * 49_215];
+    assert_eq!(ran.result.numbers(), numbers);
 }
 
 #[test]

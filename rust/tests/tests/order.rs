@@ -1,7 +1,10 @@
 //! The order of the refusals, and the line that each names.
 
+use std::collections::BTreeSet;
+
+use generate::Price;
 use second::WORK_MIN;
-use tests::{report, run, steps, text, verdict, Lent, TWO};
+use tests::{is_noise_from, report, report_at, run, run_at, steps, text, verdict, Lent, TWO};
 
 #[test]
 fn forms_of_lines() {
@@ -190,6 +193,51 @@ fn row_13_names_the_first_load_by_line() {
     assert_eq!(verdict(text(5, &[(2, &stored)])), (13, 6));
     let loop_store = ["either 1 3", "load 0", "return", "store 0", "goto 0"];
     assert_eq!(verdict(text(5, &[(2, &loop_store)])), (13, 4));
+}
+
+/// Code and place of report and of run, which agree, with an output and buffers that would be refused too. Nothing of them changes.
+fn priced(text: &[u8], price: Price, work: usize) -> (u32, u32) {
+    let reported = report_at(text, price, 3, work);
+    assert!(is_noise_from(0, &reported.output));
+    let [code, place, 0] = reported.result.numbers() else {
+        panic!("bytes were written");
+    };
+    let lent = Lent::noisy(0, 1, 2);
+    let ran = run_at(text, price, &[2, 0, 0], &lent, work);
+    assert_eq!(ran.result.numbers(), [code, place, 0, 0, 0]);
+    assert_eq!(ran.lent, lent);
+    (code as u32, place as u32)
+}
+
+#[test]
+fn row_15_before_23_before_1() {
+    let long = vec![b'x'; 32_769];
+    let unfit = Price {
+        start: 256,
+        each: 0,
+    };
+    assert_eq!(priced(&long, unfit, WORK_MIN - 1), (15, 16_384));
+    assert_eq!(priced(&long, unfit, WORK_MIN), (23, 0));
+    assert_eq!(priced(&long, Price::BLOCKS, WORK_MIN), (1, 0));
+}
+
+#[test]
+fn row_23_before_the_rows_of_the_text() {
+    let mut codes = BTreeSet::new();
+    for (seed, (name, text, code, place)) in (0..).zip(vectors::refused()) {
+        let unfit = generate::unfit_price(seed);
+        assert_eq!(priced(&text, unfit, WORK_MIN), (23, 0), "case {name}");
+        let fits = generate::price(seed);
+        assert_eq!(priced(&text, fits, WORK_MIN), (code, place), "case {name}");
+        codes.insert(code);
+    }
+    assert!(codes.into_iter().eq(1..=13));
+}
+
+#[test]
+fn row_23_before_the_lengths() {
+    let unfit = Price { start: 0, each: 0 };
+    assert_eq!(priced(TWO.as_bytes(), unfit, WORK_MIN), (23, 0));
 }
 
 #[test]

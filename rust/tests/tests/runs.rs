@@ -1,14 +1,15 @@
-//! Run on generated event lists, against the plain stack and within what the sheet allows.
+//! Run on generated event lists, against the plain stack and within what the sheet allows, in blocks and at any price.
 
 use std::collections::BTreeMap;
 use std::fmt::Display;
 
-use generate::RunCase;
+use generate::{Price, RunCase};
 use second::{code_and_place, plain, RunResult, WORK_MIN};
-use tests::{run, Lent, Ran};
+use tests::{run, run_at, Lent, Ran};
 
-/// The tasks of the random lists, and how many lists each has.
+/// The tasks of the random lists, those of lists at any price, and how many lists each has.
 const TASKS: u64 = 20_000;
+const PRICED: u64 = 2_000;
 const LISTS: usize = 10;
 
 /// The small tasks whose event lists are all tried, their most points, and the most events of a list.
@@ -29,12 +30,13 @@ fn lent(case: &generate::Lent) -> Lent {
 fn run_like_plain(
     case: &impl Display,
     text: &[u8],
+    price: Price,
     buffers: &generate::Lent,
     work: usize,
 ) -> RunResult {
     let events = &buffers.events;
     let lent = lent(buffers);
-    let ran = run(text, events, &lent, work);
+    let ran = run_at(text, price, events, &lent, work);
     let plain = plain::run(text, events).expect("an accepted text");
     let result = ran.result;
     let ending = (result.ending, result.done);
@@ -76,7 +78,7 @@ fn runs_agree_with_the_plain_stack() {
     for seed in 0..TASKS {
         for case in generate::runs(seed, LISTS) {
             let work = WORK_MIN + seed as usize % 3;
-            let got = run_like_plain(&case, &case.text, &case.lent, work);
+            let got = run_like_plain(&case, &case.text, Price::BLOCKS, &case.lent, work);
             assert_like_without_refused(&case, got);
             *codes.entry(code_and_place(got.ending).0).or_insert(0u32) += 1;
             preempted += u32::from(preempts(&case.lent.events));
@@ -86,6 +88,28 @@ fn runs_agree_with_the_plain_stack() {
     let all = TASKS as usize * LISTS;
     println!("codes of {all} runs: {codes:?}; {preempted} with a preemption, {tight} at the bound");
     assert!([0, 20, 21, 22].iter().all(|code| codes.contains_key(code)));
+}
+
+/// Runs at a price give the plain stack's answers too and stay below what the sheet allows. A price that does not fit changes nothing.
+#[test]
+fn runs_at_any_price() {
+    let mut dearer = 0;
+    for seed in 0..PRICED {
+        for (list, case) in (0..).zip(generate::runs(seed + 3_000_000, LISTS)) {
+            let price = generate::any_price(seed * LISTS as u64 + list);
+            let named = format!("{case} {price:?}");
+            if price.fits() {
+                let got = run_like_plain(&named, &case.text, price, &case.lent, WORK_MIN);
+                dearer += u32::from(got.moved > run_case(&case).result.moved);
+            } else {
+                let lent = lent(&case.lent);
+                let ran = run_at(&case.text, price, &case.lent.events, &lent, WORK_MIN + 1);
+                assert_eq!(ran.result.numbers(), [23, 0, 0, 0, 0], "{named}");
+                assert_eq!(ran.lent, lent, "{named}");
+            }
+        }
+    }
+    assert!(dearer > PRICED as u32);
 }
 
 #[test]
@@ -126,12 +150,35 @@ fn every_list_of_small_tasks() {
     for seed in 0..SMALL {
         let small = generate::small(seed, POINTS);
         small.every_list(EVENTS, |events| {
-            run_like_plain(&small, &small.text, &small.lent(events), WORK_MIN);
+            let lent = small.lent(events);
+            run_like_plain(&small, &small.text, Price::BLOCKS, &lent, WORK_MIN);
             lists += 1;
         });
     }
     println!("{lists} lists of up to {EVENTS} events on {SMALL} tasks of up to {POINTS} points");
     assert!(lists > 100_000);
+}
+
+/// The same at prices, among them a start that is far dearer than a block.
+#[test]
+fn every_list_of_small_tasks_at_prices() {
+    let mut tight = 0;
+    for seed in 0..SMALL / 4 {
+        let small = generate::small(seed, POINTS);
+        let price = match seed % 2 {
+            0 => generate::price(seed),
+            _ => Price {
+                start: 255,
+                each: 1,
+            },
+        };
+        let named = format!("{small} {price:?}");
+        small.every_list(EVENTS, |events| {
+            let got = run_like_plain(&named, &small.text, price, &small.lent(events), WORK_MIN);
+            tight += u32::from(got.moved == got.allowed && preempts(events) && got.moved > 0);
+        });
+    }
+    assert!(tight > 0);
 }
 
 /// Prints how tight the sheet is: for each task, the largest part of what is allowed that a list with a preemption moves.
@@ -143,7 +190,8 @@ fn tightness() {
         let mut best = None;
         task.every_list(EVENTS, |events| {
             if preempts(events) {
-                let ran = run_like_plain(&task, &task.text, &task.lent(events), WORK_MIN);
+                let lent = task.lent(events);
+                let ran = run_like_plain(&task, &task.text, Price::BLOCKS, &lent, WORK_MIN);
                 best = best.max(tenths(ran));
             }
         });
@@ -193,6 +241,8 @@ mod in_archive {
             let mut result = Guarded::noisy(length);
             let answer = raw::run(
                 TWO.as_bytes(),
+                0,
+                1,
                 &steps(7, 3),
                 answers.lent(),
                 cache.lent(),
@@ -214,17 +264,23 @@ mod in_archive {
         let mut answers = [7; 7];
         let (mut cache, mut memory) = ([7; 5], [7; 6]);
         let mut work = vec![7; felknost::WORK];
-        let mut call = |events: &[u32], answers: &mut [u32]| {
-            let text = TWO.as_bytes();
-            felknost::run(text, events, answers, &mut cache, &mut memory, &mut work)
+        let mut call = |start, each, answers: &mut [u32]| {
+            let (text, events) = (TWO.as_bytes(), steps(7, 3));
+            let (cache, memory) = (&mut cache, &mut memory);
+            felknost::run(
+                text, start, each, &events, answers, cache, memory, &mut work,
+            )
         };
-        let ran = call(&steps(7, 3), &mut answers);
+        let ran = call(0, 1, &mut answers);
         assert_eq!((ran.ending, ran.done), (Ok(()), 7));
         assert_eq!((ran.moved, ran.allowed), (2, 2));
         assert_eq!(answers, [0, 0, 0, 3, 0, 0, 3]);
-        let place = 7;
-        let row = Row::AnswersTooSmall;
-        let short = call(&steps(7, 3), &mut answers[..6]);
-        assert_eq!(short.ending, Err(Refusal { row, place }));
+        let ran = call(10, 1, &mut answers);
+        assert_eq!((ran.moved, ran.allowed), (22, 22));
+        let refused = |row, place| Err(Refusal { row, place });
+        let short = call(0, 1, &mut answers[..6]);
+        assert_eq!(short.ending, refused(Row::AnswersTooSmall, 7));
+        let no_price = call(0, 256, &mut answers);
+        assert_eq!(no_price.ending, refused(Row::PriceRange, 0));
     }
 }

@@ -1,7 +1,10 @@
-//! Every case of the vectors folder.
+//! Every case of the vectors folder, and those of report and run at other prices too.
 
+use std::path::PathBuf;
+
+use generate::Price;
 use second::WORK_MIN;
-use tests::{is_noise_from, report, run, verdict, Lent};
+use tests::{is_noise_from, report, report_at, run, run_at, verdict, Lent};
 use vectors::{read, read_text, tasks};
 
 /// The numbers on the line that begins with `name`.
@@ -14,6 +17,11 @@ fn numbers(text: &str, name: &str) -> Vec<u64> {
         .skip(1)
         .map(|word| word.parse().expect("a number"))
         .collect()
+}
+
+/// The prices at which every case is tried: those at the ends of the ranges and past them, and some from inside.
+fn prices() -> impl Iterator<Item = Price> {
+    Price::at_ends().chain((0..6).map(generate::price))
 }
 
 fn blocks(text: &str, name: &str) -> Vec<u32> {
@@ -77,23 +85,88 @@ fn vectors_report() {
     }
 }
 
+/// The report at a price: of the length that an output of none is told, and at 0 and 1 the one of the case.
 #[test]
-fn vectors_run() {
-    let tasks = tasks("run");
-    assert_eq!(tasks.len(), 80);
-    for path in tasks {
+fn vectors_report_at_prices() {
+    for path in tasks("report") {
         let text = read(&path);
+        for price in prices() {
+            let none = report_at(&text, price, 0, WORK_MIN).result.numbers();
+            if !price.fits() {
+                assert_eq!(none, [23, 0, 0], "{path:?} {price:?}");
+                continue;
+            }
+            let [14, wanted, 0] = none else {
+                panic!("{path:?} {price:?}: {none:?}");
+            };
+            let reported = report_at(&text, price, wanted as usize, WORK_MIN);
+            assert_eq!(reported.result.numbers(), [0, 0, wanted], "{path:?}");
+            if price == Price::BLOCKS {
+                let wanted = read(&path.with_extension("report"));
+                assert!(reported.output == wanted, "{path:?}");
+            }
+        }
+    }
+}
+
+/// A run of the folder: its text and events, what it is lent, and what it gives back.
+struct RunVector {
+    name: String,
+    text: Vec<u8>,
+    events: Vec<u32>,
+    lent: Lent,
+    result: Vec<u64>,
+    back: Lent,
+}
+
+fn run_vectors() -> Vec<RunVector> {
+    let buffers = |of: &str| Lent {
+        answers: blocks(of, "answers"),
+        cache: blocks(of, "cache"),
+        memory: blocks(of, "memory"),
+    };
+    let vector = |path: PathBuf| {
         let lent = read_text(&path.with_extension("lent"));
         let back = read_text(&path.with_extension("back"));
-        let buffers = |of: &str| Lent {
-            answers: blocks(of, "answers"),
-            cache: blocks(of, "cache"),
-            memory: blocks(of, "memory"),
-        };
-        let events = blocks(&lent, "events");
-        let ran = run(&text, &events, &buffers(&lent), WORK_MIN);
-        let result = numbers(&back, "result");
-        assert_eq!(ran.result.numbers()[..], result, "{path:?}");
-        assert_eq!(ran.lent, buffers(&back), "{path:?}");
+        RunVector {
+            name: path.display().to_string(),
+            text: read(&path),
+            events: blocks(&lent, "events"),
+            lent: buffers(&lent),
+            result: numbers(&back, "result"),
+            back: buffers(&back),
+        }
+    };
+    let vectors: Vec<RunVector> = tasks("run").into_iter().map(vector).collect();
+    assert_eq!(vectors.len(), 80);
+    vectors
+}
+
+#[test]
+fn vectors_run() {
+    for case in run_vectors() {
+        let ran = run(&case.text, &case.events, &case.lent, WORK_MIN);
+        assert_eq!(ran.result.numbers()[..], case.result, "{}", case.name);
+        assert_eq!(ran.lent, case.back, "{}", case.name);
+    }
+}
+
+/// A price that fits changes nothing but moved and allowed.
+#[test]
+fn vectors_run_at_prices() {
+    for case in run_vectors() {
+        for price in prices() {
+            let ran = run_at(&case.text, price, &case.events, &case.lent, WORK_MIN);
+            let numbers = ran.result.numbers();
+            let name = format!("{} {price:?}", case.name);
+            if price.fits() {
+                assert_eq!(numbers[..3], case.result[..3], "{name}");
+                assert_eq!(ran.lent, case.back, "{name}");
+                assert!(numbers[3] <= numbers[4], "{name}");
+            } else {
+                assert_eq!(numbers, [23, 0, 0, 0, 0], "{name}");
+                assert_eq!(ran.lent, case.lent, "{name}");
+            }
+        }
     }
 }

@@ -2,10 +2,11 @@
 
 use std::collections::HashSet;
 
+use generate::{Case, Price};
 use second::figures::{figures, Figures, FuncFigures, PointFigures};
 use second::text::{Point, Task};
-use second::{admit, sheet, WORK_MIN};
-use tests::report;
+use second::{admit_at, sheet, WORK_MIN};
+use tests::report_at;
 
 /// The points that a point leads to.
 fn leads(point: Point, index: usize) -> Vec<usize> {
@@ -37,11 +38,34 @@ fn search(points: &[Point], start: usize, stop: impl Fn(Point) -> bool) -> Vec<u
 /// What is known of a task while the figures are worked out.
 struct Search<'a> {
     task: &'a Task,
+    price: Price,
     funcs: Vec<FuncFigures>,
     points: Vec<PointFigures>,
+    /// What each ensure fills, in blocks.
+    filled: Vec<u32>,
 }
 
-impl Search<'_> {
+impl<'a> Search<'a> {
+    /// The figures of an accepted task at a price.
+    fn of(task: &'a Task, price: Price) -> Self {
+        let mut search = Search {
+            task,
+            price,
+            funcs: vec![FuncFigures::default(); task.funcs.len()],
+            points: vec![PointFigures::default(); task.points.len()],
+            filled: vec![0; task.points.len()],
+        };
+        for number in (0..task.funcs.len()).rev() {
+            search.depths(number);
+        }
+        for number in 0..task.funcs.len() {
+            search.highs(number);
+            search.fills(number);
+            search.rest(number);
+        }
+        search
+    }
+
     fn points(&self, number: usize) -> &[Point] {
         self.task.points_of(&self.task.funcs[number])
     }
@@ -84,7 +108,7 @@ impl Search<'_> {
         let func = self.task.funcs[number];
         let points = self.points(number).to_vec();
         let wanted = self.funcs[number].entry + func.frame;
-        self.funcs[number].spill = wanted.saturating_sub(self.task.stack);
+        self.funcs[number].spill = self.price.of(wanted.saturating_sub(self.task.stack));
         let mut seen = HashSet::new();
         let mut pending = vec![(0, wanted.min(self.task.stack))];
         while let Some((index, high)) = pending.pop() {
@@ -115,8 +139,8 @@ impl Search<'_> {
                 let longest = self.funcs[callee as usize].longest;
                 let left = self.task.stack.saturating_sub(longest);
                 let fill = func.frame.saturating_sub(left);
-                self.points[func.first + index + 1].fill = fill;
-                let chain = self.funcs[number].chain + func.frame - fill;
+                self.filled[func.first + index + 1] = fill;
+                let chain = self.funcs[number].chain + self.price.of(func.frame - fill);
                 let callee = &mut self.funcs[callee as usize];
                 callee.chain = callee.chain.max(chain);
             }
@@ -146,7 +170,7 @@ impl Search<'_> {
                     need = need.max(u32::from(offset) + 1);
                 }
                 Point::Ensure(frame) => {
-                    kept = kept.max(u32::from(frame) - self.points[func.first + index].fill);
+                    kept = kept.max(u32::from(frame) - self.filled[func.first + index]);
                 }
                 _ => {}
             }
@@ -160,9 +184,11 @@ impl Search<'_> {
             let dead = self.dead(number, index);
             let (need, later) = self.need_and_later(number, index);
             let chain = self.funcs[number].chain;
+            let fill = self.price.of(self.filled[func.first + index]);
             let figure = &mut self.points[func.first + index];
-            let save = figure.high.saturating_sub(dead);
-            let reload = need.saturating_sub(dead);
+            let save = self.price.of(figure.high.saturating_sub(dead));
+            let reload = self.price.of(need.saturating_sub(dead));
+            let later = self.price.of(later);
             *figure = PointFigures {
                 dead,
                 need,
@@ -171,42 +197,39 @@ impl Search<'_> {
                 later,
                 chain,
                 cost: save + reload + later + chain,
+                fill,
                 ..*figure
             };
         }
     }
 }
 
+/// Compares the figures and the report of a text, unless it is long.
+fn compare(case: &Case, price: Price) -> bool {
+    let admitted = admit_at(&case.text, price.start, price.each, WORK_MIN);
+    let (task, of) = admitted.expect("a valid text");
+    if task.points.len() > 200 {
+        return false;
+    }
+    let Search { funcs, points, .. } = Search::of(&task, price);
+    let got = figures(&task, of);
+    assert_eq!(got.funcs, funcs, "{case} {price:?}");
+    assert_eq!(got.points, points, "{case} {price:?}");
+    let wanted = sheet::print(&task, &Figures { funcs, points });
+    let reported = report_at(&case.text, price, wanted.len(), WORK_MIN);
+    assert!(reported.output == wanted.as_bytes(), "{case} {price:?}");
+    true
+}
+
+/// In blocks and at a price.
 #[test]
 fn figures_equal_a_search_over_walks() {
     let mut compared = 0;
     for seed in 100_000..104_000 {
         let case = generate::valid(seed);
-        let task = admit(&case.text, WORK_MIN).expect("a valid text");
-        if task.points.len() > 200 {
-            continue;
+        for price in [Price::BLOCKS, generate::price(seed)] {
+            compared += u32::from(compare(&case, price));
         }
-        let mut search = Search {
-            task: &task,
-            funcs: vec![FuncFigures::default(); task.funcs.len()],
-            points: vec![PointFigures::default(); task.points.len()],
-        };
-        for number in (0..task.funcs.len()).rev() {
-            search.depths(number);
-        }
-        for number in 0..task.funcs.len() {
-            search.highs(number);
-            search.fills(number);
-            search.rest(number);
-        }
-        let got = figures(&task);
-        assert_eq!(got.funcs, search.funcs, "{case}");
-        assert_eq!(got.points, search.points, "{case}");
-        let (funcs, points) = (search.funcs, search.points);
-        let wanted = sheet::print(&task, &Figures { funcs, points });
-        let reported = report(&case.text, wanted.len(), WORK_MIN);
-        assert!(reported.output == wanted.as_bytes(), "{case}");
-        compared += 1;
     }
-    assert!(compared > 2_000);
+    assert!(compared > 4_000);
 }

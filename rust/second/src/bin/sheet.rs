@@ -8,7 +8,8 @@ fn main() -> std::io::Result<()> {
     let mut out = std::io::stdout();
     match second::admit(&text, second::WORK_MIN) {
         Ok(task) => {
-            let sheet = second::sheet::print(&task, &second::figures::figures(&task));
+            let figures = second::figures::figures(&task, second::Price::BLOCKS);
+            let sheet = second::sheet::print(&task, &figures);
             out.write_all(sheet.as_bytes())
         }
         Err(refusal) => writeln!(out, "{refusal}"),
