@@ -2,7 +2,7 @@
 ghost use mathlib.Core.Path.{_≡_};
 ghost use Prim.Native.Nat.{_≤_};
 ghost use Rattle.model.specs.Limits.{mostStack};
-ghost use Rattle.prices.specs.Prices.{priceOf, mostPrice, Small};
+ghost use Rattle.prices.specs.Prices.{startOf, priceOf, mostPrice, Small};
 
 pub struct Price {
     pub start: u32,
@@ -10,13 +10,17 @@ pub struct Price {
 }
 
 impl Price {
+    // What a move of so many blocks costs before its first block. A choice between two numbers and no way out, so that no branch is compiled.
+    fn start_of(self, blocks: u32) -> u32
+        ensures { λ r. ⌜ r ≡ startOf self blocks ⌝ }
+    {
+        if blocks == 0 { 0 } else { self.start }
+    }
+
     pub fn of_move(self, blocks: u32) -> u32
         requires { ⌜ Small self × (blocks ≤ mostStack) ⌝ }
         ensures { λ r. ⌜ (r ≡ priceOf self blocks) × (r ≤ mostPrice) ⌝ }
     {
-        if blocks == 0 {
-            return 0;
-        }
-        self.start + self.each * blocks
+        self.start_of(blocks) + self.each * blocks
     }
 }
