@@ -17,7 +17,7 @@ use Rattle.tables.specs.declared.Span.{Span}
 use Rattle.tables.specs.Tables.{item, pointAt, pointsOf, funcIn}
 use Rattle.tables.proofs.Laws.{length-points, point-there}
 use Rattle.columns.specs.Columns.{longestColumn, shortestColumn}
-use Rattle.columns.specs.Values.{numbered, calleeAt, CallFits, Bounded}
+use Rattle.columns.specs.Values.{numbered, calleeAt, CallFits, BoundedBy}
 
 -- the functions that the points of s from p on call
 unfoldable pub calledFrom : List ℕ → Span → ℕ → List ℕ
@@ -87,6 +87,6 @@ module _ (w : List ℕ) (s : Span) where
         by-option none f e l = refl
         by-option (some n) f e l = absurd (omega (arith, f n refl))
 
-  pub seen-all : {p most least : ℕ} {any : Bool} → p ≡ 0 → Seen w s p most least any → Bounded w s record { most = most; least = least }
+  pub seen-all : {p most least : ℕ} {any : Bool} → p ≡ 0 → Seen w s p most least any → BoundedBy w s record { most = most; least = least }
   unfolding calledFrom callees
   seen-all e j = let k = rw e at j in record { most = k .largest-is; least = k .smallest-is }

@@ -21,9 +21,9 @@ use Rattle.tables.specs.Tables.{pointAt, baseAt, sizeAt, spanAt, funcIn, taskOf
 use Rattle.tables.specs.Valid.{Lies, Fits}
 use Rattle.tables.proofs.Laws.{func-is, size-is, point-is, count-is, here, elsewhere}
 use Rattle.tables.proofs.Valid.{settled-fits}
-use Rattle.columns.specs.declared.Bounds.{Bounds}
+use Rattle.columns.specs.declared.CalleeBounds.{CalleeBounds}
 use Rattle.columns.specs.Columns.{columnsEnd, highColumn, longestColumn, shortestColumn, Funcs, OnlyColumns}
-use Rattle.columns.specs.Values.{CallFits, Bounded}
+use Rattle.columns.specs.Values.{CallFits, BoundedBy}
 use Rattle.columns.proofs.Writes.{changed-none, changed-set}
 use Rattle.columns.specs.Displaced.{Ready, Displaced, Displacing}
 use Rattle.columns.proofs.Limits.{smallest-low, shortest-low}
@@ -88,7 +88,7 @@ module _ {w : List ℕ} {h : Header} {f : ℕ} (d : Displacing w h (f + 1)) (l :
         let i = calls-later (d .ready .settled .formed) f g in-count (subst (λ (x : Func). List·Memᴰ g (model.callees x)) (sym this-func) m) in
         (i .0, rw (count-is w h) at (i .1))
 
-    module _ {b : Bounds} (k : Bounded w s b) where
+    module _ {b : CalleeBounds} (k : BoundedBy w s b) where
       pub longest-here : s .frame + b .most ≡ model.longest (taskOf w h) f
       longest-here =
           ap (λ (m : ℕ). s .frame + m) (k .most ∙ largest-cong (model.callees (funcIn w s))

@@ -16,7 +16,7 @@ use Rattle.prices.specs.declared.Price.{Price}
 use Rattle.prices.specs.Prices.{priceOf, mostPrice, Small}
 use Rattle.columns.specs.declared.Value.{Value}
 use Rattle.columns.specs.declared.Value.the-variants.{Fill, Kept, Cut, High, Chained}
-use Rattle.columns.specs.declared.Bounds.{Bounds}
+use Rattle.columns.specs.declared.CalleeBounds.{CalleeBounds}
 use Rattle.columns.specs.Columns.{highColumn, fillColumn, longestColumn, shortestColumn, Changed}
 
 -- the most that a chain of calls can cost
@@ -86,6 +86,6 @@ pub record Raised (a : ℕ) (s : Span) (v w w′ : List ℕ) : Type 0 where
   pub each : (g : ℕ) → g < mostFuncs → item w′ (a + g) ≡ raisedBy (calls (funcIn w s) g) (item v) (s .size) (item w (a + g))
 
 -- the largest D and the smallest d of the functions that s calls
-pub record Bounded (w : List ℕ) (s : Span) (r : Bounds) : Type 0 where
+pub record BoundedBy (w : List ℕ) (s : Span) (r : CalleeBounds) : Type 0 where
   pub most : r .most ≡ largest (λ g. item w (longestColumn + g)) (callees (funcIn w s))
   pub least : r .least ≡ smallest (λ g. item w (shortestColumn + g)) (callees (funcIn w s))

@@ -3,16 +3,16 @@
 ghost use mathlib.Core.Path.{_≡_};
 ghost use Prim.Native.Nat.{ℕ, _+_, _-_, _<_, _≤_, min, max};
 ghost use lib.ListN.{length};
-ghost use Rattle.model.specs.Limits.{mostStack, mostFuncs};
+ghost use Rattle.model.specs.Limits.{mostStack, mostFuncs, mostInAll};
 ghost use Rattle.model.specs.Basic.{if_then_else_};
 ghost use Rattle.model.specs.Walk.{called, ensured, present};
 ghost use Rattle.tables.specs.Tables.{item};
 ghost use Rattle.tables.specs.Valid.{Lies};
 ghost use Rattle.prices.specs.Prices.{Small};
 ghost use Rattle.problems.specs.Problems.{Filled};
-ghost use Rattle.columns.specs.Columns.{columnsEnd, entryColumn, chainColumn, fillColumn, Funcs, Changed, OnlyColumns};
+ghost use Rattle.columns.specs.Columns.{columnsEnd, entryColumn, chainColumn, Funcs, Changed, OnlyColumns};
 ghost use Rattle.columns.specs.Values.{mostChain, numbered, calleeAt, ensureAt, filledAt, keptAt, cutAt, chainedAt, valueAt, Adds, CallFits};
-ghost use Rattle.columns.specs.Values.{Put, Raised, Bounded};
+ghost use Rattle.columns.specs.Values.{Put, Raised, BoundedBy};
 ghost use Rattle.columns.specs.Displaced.{Ready, Displacing};
 use model::Limits;
 use model::Point;
@@ -58,7 +58,7 @@ pub enum Value {
 }
 
 // The largest D and the smallest d of the functions that a function calls.
-pub struct Bounds {
+pub struct CalleeBounds {
     pub most: u32,
     pub least: u32,
 }
@@ -155,7 +155,7 @@ fn ensure_at(work: &[u32], s: Span, p: usize) -> bool
 
 // What a column of the points has for point p of s.
 pub fn figure_at(work: &[u32], column: usize, s: Span, p: usize) -> u32
-    requires { ⌜ Lies (now work) s × (p < s .size) × (column ≤ fillColumn) × (columnsEnd ≤ length (now work)) ⌝ }
+    requires { ⌜ Lies (now work) s × (p < s .size) × (column + mostInAll ≤ length (now work)) ⌝ }
     ensures { λ r. ⌜ r ≡ item (now (work .entry)) (column + s .base + p) ⌝ }
 {
     let base = s.base;
@@ -277,9 +277,9 @@ pub fn raise(work: &mut [u32], s: Span, at: usize, values: &[u32])
 }
 
 // The largest D and the smallest d of the functions that s calls, from its last point to its first.
-pub fn callee_bounds(work: &[u32], s: Span) -> Bounds
+pub fn callee_bounds(work: &[u32], s: Span) -> CalleeBounds
     requires { ⌜ Lies (now work) s × (columnsEnd ≤ length (now work)) × ((p : ℕ) → p < s .size → CallFits (now work) s p) ⌝ }
-    ensures { λ r. ⌜ Bounded (now (work .entry)) s r ⌝ }
+    ensures { λ r. ⌜ BoundedBy (now (work .entry)) s r ⌝ }
 {
     let mut most: u32 = 0;
     let mut least: u32 = 0;
@@ -294,7 +294,7 @@ pub fn callee_bounds(work: &[u32], s: Span) -> Bounds
             some = true;
         }
     }
-    Bounds { most, least }
+    CalleeBounds { most, least }
 }
 
 // 0 where the test holds, and else n.

@@ -4,3 +4,4 @@ pub mod Gathers
 pub mod Points
 pub mod Stages
 pub mod Read
+pub mod Same

@@ -4,7 +4,7 @@ use native.Mathlib.Omega.{arith}
 use mathlib.Core.List.{List}
 use lib.ListN.{length}
 use mathlib.Core.Path.{_≡_, ap, sym, subst, _∙_}
-use Rattle.model.specs.Limits.{mostStack}
+use Rattle.model.specs.Limits.{mostStack, mostInAll}
 use Rattle.model.specs.Task.{func}
 use Rattle.model.specs.Figures as model
 use Rattle.model.specs.Sheet.{costed}
@@ -18,7 +18,7 @@ use Rattle.tables.proofs.Valid.{lies-in}
 use Rattle.prices.specs.declared.Price.{Price}
 use Rattle.prices.specs.Prices.{priceOf}
 use Rattle.columns.specs.Columns.{highColumn, deadColumn, needColumn, nextColumn, fillColumn, longestColumn, shortestColumn, entryColumn}
-use Rattle.columns.specs.Columns.{chainColumn, columnsEnd, Points}
+use Rattle.columns.specs.Columns.{chainColumn, Points}
 use Rattle.figures.specs.Figured.{Figured, figuredOf, sheetAt, funcFigures}
 use Rattle.columns.specs.Values.{mostChain}
 use Rattle.columns.proofs.Limits.{frame-low}
@@ -28,9 +28,8 @@ module _ {price : Price} {w : List ℕ} {h : Header} {f : ℕ} {s : Span} (k : F
   lies-there : Lies w s
   lies-there = subst (λ (s : Span). Lies w s) (sym e) (lies-in (k .settled .holds) f l)
 
-  pub read-there : {column p : ℕ} → p < s .size → column ≤ fillColumn
-      → Lies w s × (p < s .size) × (column ≤ fillColumn) × (columnsEnd ≤ length w)
-  read-there i c = (lies-there, i, c, omega (arith, k .room))
+  pub read-there : (column : ℕ) {p : ℕ} → column ≤ fillColumn → p < s .size → Lies w s × (p < s .size) × (column + mostInAll ≤ length w)
+  read-there column c i = (lies-there, i, omega (arith, k .room))
 
   column-there : {figure : ℕ → ℕ → ℕ} {a : ℕ} → Points figure a (h .funcs) w → (p : ℕ) → p < s .size → item w (a + s .base + p) ≡ figure f p
   column-there {figure} {a} x p i =

@@ -1,12 +1,11 @@
 -- The lines of the report by the figures that are read back, and the points of all functions together.
-use Prim.Native.Nat.{ℕ, zero, suc, _+_, _-_, _≤_, _<_, zero-le}
+use Prim.Native.Nat.{ℕ, _+_, _≤_, _<_, zero-le}
 use native.Mathlib.Omega.{arith}
 use native.Mathlib.Numerals.{add-one}
-use native.Mathlib.Nat.{add-zero}
 use mathlib.Core.Path.{_≡_, refl, ap, sym, _∙_}
 use mathlib.Core.List.{List, [], _∷_, _++_, map, append-assoc}
 use lib.ListN.{length, length-append}
-use Rattle.model.specs.Limits.{mostPoints, mostInAll}
+use Rattle.model.specs.Limits.{mostPoints}
 use Rattle.model.specs.Basic.{joined, upTo}
 use Rattle.model.specs.Text.{bytes}
 use Rattle.model.specs.Task.{Task}
@@ -16,7 +15,6 @@ use Rattle.model.specs.Services.{over}
 use Rattle.tables.specs.declared.Header.{Header}
 use Rattle.tables.specs.declared.Span.{Span}
 use Rattle.tables.specs.Tables.{sizeAt, spanAt, taskOf, sum, Stacked, none, more}
-use Rattle.tables.specs.Valid.{Holds}
 use Rattle.tables.proofs.Laws.{size-is, count-is}
 use Rattle.tables.proofs.Valid.{settled-fits}
 use Rattle.prices.specs.declared.Price.{Price}
@@ -71,29 +69,14 @@ report-size price w h =
     omega (arith, ap length (report-lines price w h), length-append (bytes "(report\n" ++ l) (bytes ")\n"), length-append (bytes "(report\n") l)
 
 -- the points of the functions below f
-pub points-none : (w : List ℕ) → sum (sizeAt w) 0 ≡ 0
-unfolding sum
-points-none w = refl
-
 pub points-next : (w : List ℕ) (f : ℕ) → sum (sizeAt w) (f + 1) ≡ sum (sizeAt w) f + sizeAt w f
 unfolding sum
 points-next w f = rw add-one
 
-points-further : (w : List ℕ) (f n : ℕ) → sum (sizeAt w) f ≤ sum (sizeAt w) (f + n)
-points-further w f zero = rw (add-zero f) (omega arith)
-points-further w f (suc n) =
-    let e : f + suc n ≡ f + n + 1 = omega arith in
-    rw e (omega (arith, points-further w f n, points-next w (f + n)))
-
-points-all : {w : List ℕ} {n m : ℕ} → Stacked w n m → sum (sizeAt w) n ≡ m
+pub points-all : {w : List ℕ} {n m : ℕ} → Stacked w n m → sum (sizeAt w) n ≡ m
 unfolding sum
 points-all none = refl
 points-all {w} (more {n} {m} k e) = ap (λ (x : ℕ). x + sizeAt w n) (points-all k)
-
-pub points-most : {w : List ℕ} {h : Header} → Holds w h → (f : ℕ) → f ≤ h .funcs → sum (sizeAt w) f ≤ mostInAll
-points-most {w} {h} k f l =
-    let e : f + (h .funcs - f) ≡ h .funcs = omega arith in
-    omega (arith, rw e at (points-further w f (h .funcs - f)), points-all (k .stacked), k .all)
 
 -- function f as it is read
 pub there : {price : Price} {w : List ℕ} {h : Header} {f : ℕ} {s : Span} → Figured price w h → f < h .funcs → s ≡ spanAt w f → InFunc price w h f s

@@ -1,7 +1,8 @@
 -- The text of a report, piece by piece; how long it can be; and what a line is printed from.
-use Prim.Native.Nat.{ℕ, _<_}
+use Prim.Native.Nat.{ℕ, _+_, _*_, _<_}
 use mathlib.Core.Path.{_≡_}
 use mathlib.Core.List.{List}
+use Rattle.model.specs.Limits.{mostFuncs, mostInAll}
 use Rattle.model.specs.Basic.{joined, upTo}
 use Rattle.model.specs.Task.{Task}
 use Rattle.model.specs.Sheet.{recordAt, funcRow, pointRow, funcRows}
@@ -28,16 +29,24 @@ funcText price t f = funcRows t (sheetAt price t) f
 abbrev pub funcsText : Price → Task → ℕ → List ℕ
 funcsText price t n = joined (funcText price t) (upTo n)
 
--- bytes of a point's line and of a function's first, where a number has at most ten digits; and of a report: its first and last line, 64 functions
--- and 1,024 points
+-- the most bytes of a point's line: 3 digits for its number, 2 for high, dead and need, 5 for each price, 7 for the chain and the cost
 abbrev pub mostPointText : ℕ
-mostPointText = 117
+mostPointText = 60
 
+-- of a function's first line: 2 digits for its number and its frame, 4 for d and D, 5 for spill, 7 for the chain
 abbrev pub mostHeadText : ℕ
-mostHeadText = 75
+mostHeadText = 39
+
+-- of the first and the last line together
+abbrev pub endsText : ℕ
+endsText = 10
+
+-- of a report with this header, and of every report
+abbrev pub mostLength : Header → ℕ
+mostLength h = endsText + mostHeadText * h .funcs + mostPointText * h .points
 
 abbrev pub mostReport : ℕ
-mostReport = 124618
+mostReport = endsText + mostHeadText * mostFuncs + mostPointText * mostInAll
 
 -- s is function f of a task with its figures in the columns
 pub record InFunc (price : Price) (w : List ℕ) (h : Header) (f : ℕ) (s : Span) : Type 0 where

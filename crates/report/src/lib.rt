@@ -1,19 +1,31 @@
 // The report of a task whose figures stand in the columns: how long it is, and its bytes in a lent buffer.
 ghost use mathlib.Core.Path.{_≡_};
-ghost use Prim.Native.Nat.{_+_, _*_, _<_, _≤_};
+ghost use Prim.Native.Nat.{_+_, _<_, _≤_};
 ghost use lib.ListN.{length};
+ghost use Rattle.model.specs.Limits.{mostFuncs, mostInAll};
 ghost use Rattle.model.specs.Text.{bytes};
 ghost use Rattle.model.specs.Sheet.{row, reportText};
 ghost use Rattle.model.specs.Services.{over};
-ghost use Rattle.tables.specs.Tables.{sizeAt, taskOf};
+ghost use Rattle.tables.specs.Tables.{taskOf};
 ghost use Rattle.prices.specs.Prices.{priceOf};
 ghost use Rattle.print.specs.Print.{Wrote};
 ghost use Rattle.figures.specs.Figured.{Figured};
 ghost use Rattle.report.specs.Report.{InFunc, pointText, pointsText, headText, funcText, funcsText};
-ghost use Rattle.report.specs.Report.{mostPointText, mostHeadText, mostReport};
+ghost use Rattle.report.specs.Report.{mostLength, mostReport};
 use prices::Price;
 use tables::Header;
 use tables::Span;
+
+// The most bytes of the first and the last line together, of a function's first line, and of a point's line.
+struct Most;
+
+impl Most {
+    const ENDS: usize = 10;
+
+    const HEAD: usize = 39;
+
+    const POINT: usize = 60;
+}
 
 // The numbers of the line of point p of function f, which is s.
 fn point_numbers(work: &[u32], h: Header, price: Price, f: usize, s: Span, p: usize) -> [u32; 10]
@@ -38,7 +50,7 @@ fn point_numbers(work: &[u32], h: Header, price: Price, f: usize, s: Span, p: us
 // How many bytes the line has.
 fn point_length(work: &[u32], h: Header, price: Price, f: usize, s: Span, p: usize) -> usize
     requires { ⌜ InFunc price (now work) h f s × (p < s .size) ⌝ }
-    ensures { λ r. ⌜ (r ≡ length (pointText price (taskOf (now (work .entry)) h) f p)) × (r ≤ mostPointText) ⌝ }
+    ensures { λ r. ⌜ r ≡ length (pointText price (taskOf (now (work .entry)) h) f p) ⌝ }
 {
     print::row_length(b"  (at", &point_numbers(work, h, price, f, s, p))
 }
@@ -72,7 +84,7 @@ fn func_numbers(work: &[u32], h: Header, price: Price, f: usize) -> [u32; 6]
 // How many bytes the lines of the points of function f have, which is s.
 fn points_length(work: &[u32], h: Header, price: Price, f: usize, s: Span) -> usize
     requires { ⌜ InFunc price (now work) h f s ⌝ }
-    ensures { λ r. ⌜ (r ≡ length (pointsText price (taskOf (now (work .entry)) h) f (s .size))) × (r ≤ mostPointText * s .size) ⌝ }
+    ensures { λ r. ⌜ r ≡ length (pointsText price (taskOf (now (work .entry)) h) f (s .size)) ⌝ }
 {
     let size = s.size;
     let mut n: usize = 0;
@@ -110,8 +122,7 @@ fn put_points(
 // How many bytes the lines of function f have.
 fn func_length(work: &[u32], h: Header, price: Price, f: usize) -> usize
     requires { ⌜ Figured price (now work) h × (f < h .funcs) ⌝ }
-    ensures { λ r. ⌜ (r ≡ length (funcText price (taskOf (now (work .entry)) h) f))
-        × (r ≤ mostHeadText + mostPointText * sizeAt (now (work .entry)) f) ⌝ }
+    ensures { λ r. ⌜ r ≡ length (funcText price (taskOf (now (work .entry)) h) f) ⌝ }
 {
     let s = tables::span_at(work, f);
     print::row_length(b"  (func", &func_numbers(work, h, price, f))
@@ -127,6 +138,14 @@ fn put_func(out: &mut [u8], at: usize, work: &[u32], h: Header, price: Price, f:
     let s = tables::span_at(work, f);
     let end = print::put_row(out, at, b"  (func", &func_numbers(work, h, price, f));
     put_points(out, end, work, h, price, f, s)
+}
+
+// How many bytes a report with this header has at most, whatever its figures are.
+pub fn most_length(h: Header) -> usize
+    requires { ⌜ (h .funcs ≤ mostFuncs) × (h .points ≤ mostInAll) ⌝ }
+    ensures { λ r. ⌜ r ≡ mostLength h ⌝ }
+{
+    Most::ENDS + Most::HEAD * h.funcs + Most::POINT * h.points
 }
 
 // How many bytes the report has.

@@ -138,9 +138,10 @@ module _ (t : Task) (s : Sheet) where
         }
 
         -- the next event is done
-        pub going-on : (u : Turn) (b : ℕ) → u ≡ turn t s x (act e) → b ≡ eventBound t s fs (act e)
+        pub going-on : (u : Turn) (c b : ℕ) → u ≡ turn t s x (act e)
+            → c ≡ s .price (turn t s x (act e) .out) + s .price (turn t s x (act e) .back) → b ≡ eventBound t s fs (act e)
             → Going whole all buffer (i + 1) (u .state) (afterEvent t fs (act e)) es
-            (m + (s .price (u .out) + s .price (u .back)))
+            (m + c)
             (a + b)
             (set answers i (u .answer))
-        going-on u b p q = rw (p, q) turn-on
+        going-on u c b p y q = rw (p, y, q) turn-on

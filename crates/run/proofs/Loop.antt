@@ -16,7 +16,7 @@ use Rattle.model.specs.Rows.{rowVerdict}
 use Rattle.model.specs.Task.{Task}
 use Rattle.model.specs.Core.{Core}
 use Rattle.model.specs.Refusal.{eventRows}
-use Rattle.model.specs.Plain.{Act, eventsOf, running, afterEvent}
+use Rattle.model.specs.Plain.{eventsOf, running, afterEvent}
 use Rattle.model.specs.Run.{runningPlace, turn, eventBound}
 use Rattle.theory.proofs.Search.{verdict-none, verdict-some}
 use Rattle.theory.proofs.Frames.{running-same}
@@ -25,7 +25,7 @@ use Rattle.tables.specs.Tables.{taskOf}
 use Rattle.tables.specs.Valid.{Kept}
 use Rattle.tables.proofs.Valid.{kept-on}
 use Rattle.prices.specs.declared.Price.{Price}
-use Rattle.prices.specs.Prices.{priceOf, mostPrice, Small}
+use Rattle.prices.specs.Prices.{priceOf, mostPrice}
 use Rattle.figures.specs.Figured.{sheetAt}
 use Rattle.turns.specs.declared.State.{State}
 use Rattle.turns.specs.declared.Turned.{Turned}
@@ -54,7 +54,7 @@ module _ {price : Price} {h : Header} {events buffer cache₀ memory₀ w₀ : L
   pub loops-start : {x : State} → Fitting price w₀ h events buffer cache₀ memory₀ → Started w₀ h (length memory₀) x
       → Loops price h events buffer cache₀ memory₀ w₀ 0 x 0 0 buffer cache₀ memory₀ w₀
   loops-start {x} f s =
-      let j = begins cache₀ memory₀ (f .figured) s (f .blocks) (f .room) in
+      let j = begins cache₀ memory₀ (f .bounded) s (f .blocks) (f .room) in
       record {
         runs = j .runs;
         task = refl;
@@ -109,32 +109,35 @@ module _ {price : Price} {h : Header} {events buffer cache₀ memory₀ w₀ : L
         → Runs price w h x cache memory × (0 < x .depth)
     loops-more kind value n e = (l .runs, accepted-runs (taskOf w h) w (x .depth) (x .f) (x .p) i kind value (verdict-none _ (sym e ∙ n)))
 
-    -- what it moves is at most the cache, each way
-    pub loops-few : {a : Act} {r : Turned} {w′ cache′ memory′ : List ℕ} → Turns price w h x cache memory a r w′ cache′ memory′
-        → Small price × (r .out ≤ mostStack) × (r .back ≤ mostStack)
-    loops-few u = let j = goes-on (l .runs) u in (l .runs .figured .small, j .out-few, j .back-few)
-
     -- the next event is done
-    pub loops-on : {v : Verdict} {r : Turned} {c : ℕ} {w′ cache′ memory′ : List ℕ} → i < length events / 2 → length events / 2 ≤ length buffer
-        → r .bound ≤ mostBound → (c ≡ priceOf price (r .out) + priceOf price (r .back)) × (c ≤ 2 * mostPrice)
+    pub loops-on : {v : Verdict} {r : Turned} {w′ cache′ memory′ : List ℕ} → i < length events / 2 → length events / 2 ≤ length buffer
+        → r .bound ≤ mostBound
         → v ≡ verdict.Accepted
         → v ≡ rowVerdict (eventRows i (getD events (2 * i) 0) (getD events (2 * i + 1) 0) (runningPlace (taskOf w h) (framesOf w x)))
         → Turns price w h x cache memory (actOf (getD events (2 * i) 0) (getD events (2 * i + 1) 0)) r w′ cache′ memory′
-        → Loops price h events buffer cache₀ memory₀ w₀ (i + 1) (r .state) (m + c) (a + r .bound) (set answers i (r .answer)) cache′ memory′ w′
-    loops-on {r = r} {c = c} {w′ = w′} {cache′ = cache′} {memory′ = memory′} b k f y o e u =
+        → Loops price h events buffer cache₀ memory₀ w₀ (i + 1) (r .state) (m + r .moved) (a + r .bound) (set answers i (r .answer)) cache′ memory′ w′
+    loops-on {r = r} {w′ = w′} {cache′ = cache′} {memory′ = memory′} b k f o e u =
         let t = taskOf w₀ h in
         let d = actOf (getD events (2 * i) 0) (getD events (2 * i + 1) 0) in
         let n = row-lent (getD events (2 * i) 0) (getD events (2 * i + 1) 0) none (verdict-none _ (sym e ∙ o)) in
         let j = goes-on (l .runs) u in
         let fs : j .runs .frames ≡ afterEvent t (l .runs .frames) d = j .frames ∙ ap (λ (z : Task). afterEvent z (l .runs .frames) d) (l .task) in
-        let p = subst (λ (z : Task). turnOf w′ r cache′ memory′ ≡ turn z (sheetAt price z) (stateOf w x cache memory) d) (l .task) (u .turn) in
+        let v = turn t (sheetAt price t) (stateOf w x cache memory) d in
+        let p = subst (λ (z : Task).
+        turnOf w′ r (turn z (sheetAt price z) (stateOf w x cache memory) d .out) (turn z (sheetAt price z) (stateOf w x cache memory) d .back) cache′ memory′
+        ≡ turn z (sheetAt price z) (stateOf w x cache memory) d) (l .task) (u .turn) in
+        let y = subst (λ (z : Task). r .moved
+        ≡ priceOf price (turn z (sheetAt price z) (stateOf w x cache memory) d .out)
+        + priceOf price (turn z (sheetAt price z) (stateOf w x cache memory) d .back)) (l .task) (u .moved) in
         let q = subst (λ (z : Task). r .bound ≡ eventBound z (sheetAt price z) (l .runs .frames) d) (l .task) (j .bound) in
         let g = rw (next-event events i b) at (l .going) in
         record {
           runs = j .runs;
           task = j .task ∙ l .task;
           kept = kept-on (l .kept) (u .stays .kept);
-          going = rw (fs, y .0) (going-on t (sheetAt price t) _ _ _ _ _ _ _ _ _ _ _ place-same n (omega arith) g (turnOf w′ r cache′ memory′) (r .bound) p q);
-          small = omega (arith, l .small, y .1);
+          going = rw fs
+              (going-on t (sheetAt price t) _ _ _ _ _ _ _ _ _ _ _ place-same n (omega arith) g (turnOf w′ r (v .out) (v .back) cache′ memory′) (r .moved)
+              (r .bound) p y q);
+          small = omega (arith, l .small, j .moved-few);
           little = omega (arith, l .little);
         }

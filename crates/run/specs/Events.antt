@@ -16,12 +16,13 @@ use Rattle.tables.specs.declared.Header.{Header}
 use Rattle.tables.specs.Tables.{taskOf}
 use Rattle.tables.specs.Valid.{Kept}
 use Rattle.prices.specs.declared.Price.{Price}
-use Rattle.figures.specs.Figured.{Figured, sheetAt}
+use Rattle.figures.specs.Figured.{sheetAt}
+use Rattle.bounds.specs.Bounds.{Bounded}
 use Rattle.turns.specs.Frames.{framesEnd}
 
--- the working space has the task and its figures, and rows 16 to 19 refuse none of the buffers
+-- the working space has the task, its figures and the bounds of its events, and rows 16 to 19 refuse none of the buffers
 pub record Fitting (price : Price) (w : List ℕ) (h : Header) (events answers cache memory : List ℕ) : Type 0 where
-  pub figured : Figured price w h
+  pub bounded : Bounded price w h
   pub paired : length events % 2 ≡ 0
   pub few : length events ≤ mostEventNumbers
   pub answered : length events / 2 ≤ length answers

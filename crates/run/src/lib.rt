@@ -1,10 +1,7 @@
 // A run over an event list: every event in its order, until one is refused or all are done. The answers, the cache, the memory and the counts are
 // those of the model's run.
 ghost use mathlib.Core.Path.{_≡_};
-ghost use Prim.Native.Nat.{_+_, _*_, _≤_};
-ghost use Rattle.model.specs.Limits.{mostStack};
 ghost use Rattle.tables.specs.Tables.{taskOf};
-ghost use Rattle.prices.specs.Prices.{priceOf, mostPrice, Small};
 ghost use Rattle.run.specs.Events.{Fitting, endedWith, Serves};
 use model::Ending;
 use model::RunResult;
@@ -21,14 +18,6 @@ fn ended(ending: Ending, done: u32, moved: u64, allowed: u64) -> RunResult
         moved,
         allowed,
     }
-}
-
-// The price of what an event moves out and back: two moves, each with a start.
-fn moves_price(price: Price, out: usize, back: usize) -> u64
-    requires { ⌜ Small price × (out ≤ mostStack) × (back ≤ mostStack) ⌝ }
-    ensures { λ r. ⌜ (r ≡ priceOf price out + priceOf price back) × (r ≤ 2 * mostPrice) ⌝ }
-{
-    (price.of_move(out as u32) + price.of_move(back as u32)) as u64
 }
 
 // The events, two numbers each, from a fresh start of the task in the working space. An answer is written for each event done.
@@ -59,7 +48,7 @@ pub fn run_events(
         }
         let turned = turns::turn(work, h, price, x, cache, memory, kind, value);
         answers[i] = turned.answer;
-        moved += moves_price(price, turned.out, turned.back);
+        moved += turned.moved as u64;
         allowed += turned.bound as u64;
         let next = turned.state;
         x = next;

@@ -32,6 +32,7 @@ use Rattle.prices.specs.declared.Price.{Price}
 use Rattle.prices.specs.Prices.{priceOf}
 use Rattle.figures.specs.declared.FuncFigures.{FuncFigures}
 use Rattle.figures.specs.Figured.{Figured, funcFigures}
+use Rattle.bounds.specs.Bounds.{Bounded}
 use Rattle.run.specs.Events.{Fitting, Serves}
 use Rattle.judge.specs.declared.Judgement.{Judgement}
 use Rattle.judge.specs.Judgement.{judgedIn}
@@ -128,36 +129,39 @@ module _ (price : Price) {t : Task} (events answers cache memory : List ℕ) {v 
             after = after;
           }
 
-      pub all-run : {w″ answers′ cache′ memory′ : List ℕ} → k .longest ≤ length memory
-          → Serves price t′ events answers cache memory w′ r answers′ cache′ memory′ w″
+      -- t″: the task as its events are run
+      pub all-run : {t″ : Task} {w″ answers′ cache′ memory′ : List ℕ} → t″ ≡ t′ → k .longest ≤ length memory
+          → Serves price t″ events answers cache memory w′ r answers′ cache′ memory′ w″
           → cleared w″ ≡ cleared w′ → Performs price (task t) w events answers cache memory r w″ answers′ cache′ memory′
-      all-run h s d =
+      all-run i h s d =
           let l : longest t 0 ≤ length memory = omega (arith, room-is) in
-          let z = rw same at s in
+          let z = rw (i ∙ same) at s in
           record {
             left = λ work. rw (rows-are, le-leb (longest t 0) (length memory) l)
                 (λ i. afterRun (z .returned i) work (z .answered i) (z .cached i) (z .stored i));
             after = d ∙ after;
           }
 
--- what the run of the events asks for
+-- function 0 is there
 module _ {price : Price} {w : List ℕ} {h : Header} (f : Figured price w h) where
   pub some-func : 0 < h .funcs
   some-func = omega (arith, f .settled .formed .shaped .some, count-is w h)
 
+-- what the run of the events asks for; w: the working space when the room was asked for
+module _ {price : Price} (w : List ℕ) {w′ : List ℕ} {h : Header} (b : Bounded price w′ h) (same : taskOf w′ h ≡ taskOf w h) where
   pub fits : (events answers cache memory : List ℕ) {v : Verdict} {k : FuncFigures}
       → v ≡ rowVerdict (bufferRows (length events) (length answers) (length cache) (h .stack)) → v ≡ Accepted → k ≡ funcFigures price (taskOf w h) 0
-      → k .longest ≤ length memory → Fitting price w h events answers cache memory
+      → k .longest ≤ length memory → Fitting price w′ h events answers cache memory
   unfolding funcFigures
   fits events answers cache memory e n g l =
       let p = passes (length events) (length answers) (length cache) (h .stack) (verdict-none _ (sym e ∙ n)) in
       record {
-        figured = f;
+        bounded = b;
         paired = p .paired;
         few = p .few;
         answered = p .answered;
         blocks = p .blocks;
-        room = omega (arith, ap (λ (z : FuncFigures). z .longest) g);
+        room = omega (arith, ap (λ (z : FuncFigures). z .longest) g, ap (λ (z : Task). longest z 0) same);
       }
 
 -- ---- what was judged

@@ -4,6 +4,7 @@ use native.Mathlib.Omega.{arith}
 use mathlib.Core.Path.{_≡_, refl, ap, sym, _∙_}
 use mathlib.Core.List.{List, _++_}
 use mathlib.Core.Option.{Option, none, some}
+use lib.Dec.{leb, leb→le}
 use lib.ListN.{length, drop, replicate}
 use borrow.Author.Tests.{lt-ltb, le-ltb, lt-leb, le-leb}
 use Rattle.model.specs.declared.Row.the-variants.{OutputTooSmall}
@@ -18,7 +19,8 @@ use Rattle.model.specs.Sheet.{reportText}
 use Rattle.model.specs.Refusal.{withRows, judged, workRow, pricedRows, judge, noRows, outputRows}
 use Rattle.model.specs.Services.{cleared, over, verdictOf, checkOf, writtenAs, writtenOf, reportOf}
 use Rattle.theory.proofs.Accepted.{accepted}
-use Rattle.theory.proofs.Search.{verdict-none}
+use Rattle.theory.proofs.Firsts.{unless-none}
+use Rattle.theory.proofs.Search.{verdict-none, verdict-some}
 use Rattle.tables.specs.declared.Header.{Header}
 use Rattle.tables.specs.Layout.{tablesLength}
 use Rattle.tables.specs.Valid.{Kept}
@@ -98,31 +100,44 @@ module _ {text w w′ : List ℕ} {r : Judgement} (a : Lent (workRow (length w))
 abbrev printed : Price → Task → List ℕ
 printed price t = reportText (priceOf price) t
 
--- 14, and the report; t′: the task as it was printed
-module _ (price : Price) {t t′ : Task} (same : t′ ≡ t) {w w′ : List ℕ} (after : cleared w′ ≡ cleared w) where
-  pub too-short : {output : List ℕ} {n : ℕ} → n ≡ length (printed price t′) → length output < n
-      → Reports price (task t) w output (nothingWritten (refuse OutputTooSmall n)) w′ output
+-- 14
+module _ (price : Price) (room : ℕ) (t : Task) where
+  pub output-short : {n : ℕ} → n ≡ length (printed price t) → room < n → Refused (refuse OutputTooSmall n) ≡ rowVerdict (outputRows (printed price) room t)
   unfolding outputRows
-  too-short {output} {n} e h =
-      let f : n ≡ length (printed price t) = e ∙ ap (λ (t : Task). length (printed price t)) same in
-      let l : length output < length (printed price t) = omega arith in
-      record {
-        returned = λ work. rw (lt-leb (length (printed price t)) (length output) l) (ap (λ (k : ℕ). nothingWritten (refuse OutputTooSmall k)) f);
-        written = λ work. rw (lt-leb (length (printed price t)) (length output) l);
-        after = after;
-      }
+  output-short e h = rw (lt-leb (length (printed price t)) room (omega arith)) (ap (λ (n : ℕ). Refused (refuse OutputTooSmall n)) e)
 
-  pub long-enough : {output output′ : List ℕ} {n : ℕ} → n ≡ length (printed price t′) → n ≤ length output → output′ ≡ over (printed price t′) output
-      → Reports price (task t) w output (record { verdict = Accepted; written = n }) w′ output′
+  pub output-passes : length (printed price t) ≤ room → Accepted ≡ rowVerdict (outputRows (printed price) room t)
   unfolding outputRows
-  long-enough {output} {output′} {n} e h o =
-      let f : n ≡ length (printed price t) = e ∙ ap (λ (t : Task). length (printed price t)) same in
-      let l : length (printed price t) ≤ length output = omega arith in
-      record {
-        returned = λ work. rw (le-leb (length (printed price t)) (length output) l) (λ i. record { verdict = Accepted; written = f i });
-        written = λ work. rw (le-leb (length (printed price t)) (length output) l) (o ∙ ap (λ (t : Task). over (printed price t) output) same);
-        after = after;
-      }
+  output-passes h = rw (le-leb (length (printed price t)) room h)
+
+  pub output-room : {v : Verdict} → v ≡ rowVerdict (outputRows (printed price) room t) → v ≡ Accepted → length (printed price t) ≤ room
+  unfolding outputRows
+  output-room e a =
+      let n = length (printed price t) in
+      leb→le n room (unless-none (leb n room) (refuse OutputTooSmall n) .0 (verdict-none (outputRows (printed price) room t) (sym e ∙ a)))
+
+-- 14 as it was tried, or the report; t′: the task as it was printed
+module _ (price : Price) (output : List ℕ) {t t′ : Task} (same : t′ ≡ t)
+    {v : Verdict} (row : v ≡ rowVerdict (outputRows (printed price) (length output) t′)) where
+  row-is : rowVerdict (outputRows (printed price) (length output) t) ≡ v
+  row-is = sym (row ∙ ap (λ (t : Task). rowVerdict (outputRows (printed price) (length output) t)) same)
+
+  module _ {w w′ : List ℕ} (after : cleared w′ ≡ cleared w) where
+    pub too-short : {q : Refusal} → v ≡ Refused q → Reports price (task t) w output (nothingWritten q) w′ output
+    too-short e =
+        let o = verdict-some (outputRows (printed price) (length output) t) (row-is ∙ e) in
+        record { returned = λ work. rw o; written = λ work. rw o; after = after }
+
+    pub long-enough : {output′ : List ℕ} {n : ℕ} → v ≡ Accepted → n ≡ length (printed price t′) → output′ ≡ over (printed price t′) output
+        → Reports price (task t) w output (record { verdict = Accepted; written = n }) w′ output′
+    long-enough {output′} {n} e l o =
+        let z = verdict-none (outputRows (printed price) (length output) t) (row-is ∙ e) in
+        let f : n ≡ length (printed price t) = l ∙ ap (λ (t : Task). length (printed price t)) same in
+        record {
+          returned = λ work. rw z (λ i. record { verdict = Accepted; written = f i });
+          written = λ work. rw z (o ∙ ap (λ (t : Task). over (printed price t) output) same);
+          after = after;
+        }
 
 pub none-reported : (price : Price) (q : Refusal) (w output : List ℕ) → Reports price (refused q) w output (nothingWritten q) w output
 none-reported price q w output = record { returned = λ work. refl; written = λ work. refl; after = refl }

@@ -3,10 +3,14 @@ ghost use mathlib.Core.Path.{_≡_};
 ghost use Prim.Native.Nat.{_≤_};
 ghost use lib.ListN.{length};
 ghost use Rattle.model.specs.Limits.{workLength};
+ghost use Rattle.model.specs.Rows.{rowVerdict};
 ghost use Rattle.model.specs.Task.{task};
+ghost use Rattle.model.specs.Sheet.{reportText};
+ghost use Rattle.model.specs.Refusal.{outputRows};
 ghost use Rattle.tables.specs.Tables.{taskOf};
 ghost use Rattle.tables.specs.Valid.{Settled};
-ghost use Rattle.prices.specs.Prices.{Small};
+ghost use Rattle.prices.specs.Prices.{priceOf, Small};
+ghost use Rattle.figures.specs.Figured.{Figured};
 ghost use Rattle.judge.specs.Judgement.{judgedIn};
 ghost use Rattle.services.specs.Served.{ReadyAt, nothingWritten, Reports};
 use judge::Judgement;
@@ -27,19 +31,32 @@ fn refused(r: Refusal) -> WriteResult
     }
 }
 
+// 14, for an output of this length. The length of the report is worked out only where the output may be too short, since that takes every figure once more.
+fn output_row(room: usize, work: &[u32], h: Header, price: Price) -> Verdict
+    requires { ⌜ Figured price (now work) h ⌝ }
+    ensures { λ v. ⌜ v ≡ rowVerdict (outputRows (reportText (priceOf price)) room (taskOf (now (work .entry)) h)) ⌝ }
+{
+    if report::most_length(h) <= room {
+        return Verdict::Accepted;
+    }
+    let length = report::report_length(work, h, price);
+    if room < length {
+        return Verdict::Refused(Refusal {
+            row: Row::OutputTooSmall,
+            place: length as u32,
+        });
+    }
+    Verdict::Accepted
+}
+
 // 14, or the report of the task that the tables hold.
 fn report_task(price: Price, output: &mut [u8], work: &mut [u32], h: Header) -> WriteResult
     requires { ⌜ Settled (now work) h × (workLength ≤ length (now work)) × Small price ⌝ }
     ensures { λ r. ⌜ Reports price (task (taskOf (now (work .entry)) h)) (now (work .entry)) (now (output .entry)) r (now (work .exit)) (now (output .exit)) ⌝ }
 {
     figures::figure_task(work, h, price);
-    let length = report::report_length(work, h, price);
-    let room = output.len();
-    if room < length {
-        return refused(Refusal {
-            row: Row::OutputTooSmall,
-            place: length as u32,
-        });
+    if let Verdict::Refused(r) = output_row(output.len(), work, h, price) {
+        return refused(r);
     }
     let written = report::put_report(output, work, h, price);
     WriteResult {

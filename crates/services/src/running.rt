@@ -62,6 +62,7 @@ fn run_task(
             place: room,
         });
     }
+    bounds::bound_task(work, h, price);
     run::run_events(events, answers, cache, memory, work, h, price)
 }
 

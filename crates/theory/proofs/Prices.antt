@@ -1,5 +1,5 @@
--- The price of a move that has a start is a price of moves. A count of blocks is one too; it is what start 0 and each 1 give, and with it every figure of a
--- sheet, the report and the run are those of document 01.
+-- The price of a move that has a start is a price of moves. With start 0 and each 1 it is the count of blocks, and the figures, the report and the run are those of
+-- document 01.
 use Prim.Native.Nat.{ℕ, suc, _+_, _-_, _*_, _≤_}
 use mathlib.Core.List.{List}
 use mathlib.Core.Option.{Option, none, some}
@@ -39,9 +39,6 @@ price-moves start each = record {
       (λ f. by-price start each n (λ b. start + each * (m + n) ≤ 0 + b) (λ g. absurd (e (omega (arith, f, g)))) (λ g. rw f (omega arith)))
       (λ f. by-price start each n (λ b. start + each * (m + n) ≤ start + each * m + b) (λ g. rw g (omega arith)) (λ g. omega arith)));
 }
-
-pub price-blocks : Price inBlocks
-price-blocks = record { none = refl; more = λ m n h. h; parts = λ m n. omega arith }
 
 -- ---- start 0 and each 1
 

@@ -1,9 +1,9 @@
 -- From a step and a preemption to an event, and the rows of an event by its tests.
-use Prim.Native.Nat.{ℕ, zero, suc, _-_, _≤_, _<_}
+use Prim.Native.Nat.{ℕ, zero, suc, _+_, _-_, _≤_, _<_}
 use mathlib.Core.Bool.{Bool, true, false, not, _||_}
 use mathlib.Core.List.{List, _∷_}
 use mathlib.Core.Option.{some}
-use mathlib.Core.Path.{_≡_, refl, ap, sym, _∙_}
+use mathlib.Core.Path.{_≡_, refl, ap, sym, subst, _∙_}
 use native.Mathlib.Omega.{arith}
 use lib.Dec.{eqb, leb}
 use borrow.Author.Tests.{eq-eqb, ne-eqb, le-leb, lt-leb}
@@ -16,16 +16,18 @@ use Rattle.model.specs.Task.{Task, func, point}
 use Rattle.model.specs.Core.{Core}
 use Rattle.model.specs.Refusal.{isEither, eventRows}
 use Rattle.model.specs.Plain.{Frame, Act, takes, preempted, act}
+use Rattle.model.specs.Run as run
 use Rattle.model.specs.Run.{Place, runningPlace, stepTurn, stepBound, turnAt, turn, eventBound}
 use Rattle.tables.specs.declared.Header.{Header}
 use Rattle.tables.specs.Tables.{taskOf}
 use Rattle.prices.specs.declared.Price.{Price}
+use Rattle.prices.specs.Prices.{priceOf}
 use Rattle.figures.specs.Figured.{sheetAt}
 use Rattle.machine.specs.Moves.{coreOf}
 use Rattle.turns.specs.declared.State.{State}
 use Rattle.turns.specs.declared.Turned.{Turned}
-use Rattle.turns.specs.Frames.{placesIn, framesFrom, framesOf, stateOf}
-use Rattle.turns.specs.Turns.{Stays, Steps, IsPreemption, Turns, actOf}
+use Rattle.turns.specs.Frames.{placesIn, framesFrom, framesOf, stateOf, turnOf}
+use Rattle.turns.specs.Turns.{Stays, IsTurn, Steps, IsPreemption, Turns, actOf}
 use Rattle.turns.proofs.Laws.{frames-some, stays-same}
 use Rattle.turns.proofs.Given.{top-of}
 
@@ -39,6 +41,14 @@ act-preempt : (k v : ℕ) → (k ≡ 0 → ⊥) → actOf k v ≡ preempted v
 unfolding act
 act-preempt k v n = rw (ne-eqb k 0 n) refl
 
+-- a turn of the model under another name
+turn-as : {price : Price} {r : Turned} {w cache memory : List ℕ} {u u′ : run.Turn} {n : ℕ} → u ≡ u′ → IsTurn price r w cache memory u n
+    → (turnOf w r (u′ .out) (u′ .back) cache memory ≡ u′) × (r .moved ≡ priceOf price (u′ .out) + priceOf price (u′ .back))
+turn-as {price} {r} {w} {cache} {memory} e d = (
+  subst (λ (z : run.Turn). turnOf w r (z .out) (z .back) cache memory ≡ z) e (d .turn),
+  d .moved ∙ ap (λ (z : run.Turn). priceOf price (z .out) + priceOf price (z .back)) e,
+)
+
 module _ (price : Price) (w : List ℕ) (h : Header) (x : State) (cache memory : List ℕ) (some : 0 < x .depth) where
   abbrev t : Task
   t = taskOf w h
@@ -51,17 +61,17 @@ module _ (price : Price) (w : List ℕ) (h : Header) (x : State) (cache memory :
       ap (λ (fs : List Place). turnAt t (sheetAt price t) fs (coreOf (x .machine) cache memory) a) (frames-some w (x .depth) (x .f) (x .p) some)
 
   pub step-turns : {r : Turned} {w′ cache′ memory′ : List ℕ} (y : Point) (k v : ℕ) → point (func t (x .f)) (x .p) ≡ y → k ≡ 0
-      → Steps (sheetAt price t) t x y v w cache memory r w′ cache′ memory′
+      → Steps price t x y v w cache memory r w′ cache′ memory′
       → Stays w w′
       → Turns price w h x cache memory (actOf k v) r w′ cache′ memory′
   unfolding eventBound
   step-turns y k v i e d s =
+      let same =
+      ap (λ (z : Point). stepTurn t (x .f) (x .p) (placesIn w (x .depth - 1)) (coreOf (x .machine) cache memory) z v) (sym i) ∙ sym (turn-of (takes v)) in
       rw (act-step k v e)
       (record {
-        turn =
-            d .turn
-            ∙ ap (λ (z : Point). stepTurn t (x .f) (x .p) (placesIn w (x .depth - 1)) (coreOf (x .machine) cache memory) z v) (sym i)
-            ∙ sym (turn-of (takes v));
+        turn = turn-as same d .0;
+        moved = turn-as same d .1;
         bound = λ fs j.
             d .bound
             ∙ ap (stepBound (sheetAt price t) (x .f) (x .p)) (sym i)
@@ -70,13 +80,14 @@ module _ (price : Price) (w : List ℕ) (h : Header) (x : State) (cache memory :
       })
 
   pub preempt-turns : {r : Turned} {cache′ memory′ : List ℕ} (k v : ℕ) → (k ≡ 0 → ⊥)
-      → IsPreemption (sheetAt price t) t x v w cache memory r cache′ memory′
+      → IsPreemption price t x v w cache memory r cache′ memory′
       → Turns price w h x cache memory (actOf k v) r w cache′ memory′
   unfolding eventBound
   preempt-turns k v n d =
       rw (act-preempt k v n)
       (record {
-        turn = d .turn ∙ sym (turn-of (preempted v));
+        turn = turn-as (sym (turn-of (preempted v))) d .0;
+        moved = turn-as (sym (turn-of (preempted v))) d .1;
         bound = λ fs j.
             d .bound
             ∙ ap (λ (gs : List Frame). eventBound t (sheetAt price t) gs (preempted v)) (sym (top-of w (x .depth) (x .f) (x .p) fs some j .whole));

@@ -9,7 +9,7 @@ use lib.Dec.{T, eqb, eqb-refl}
 use lib.ListN.{length}
 use Rattle.model.specs.declared.Point.{Point}
 use Rattle.model.specs.declared.Point.the-variants.{Load, Store, Call, Ensure}
-use Rattle.model.specs.Limits.{mostFuncs, mostPoints, mostInAll}
+use Rattle.model.specs.Limits.{mostStack, mostFuncs, mostPoints, mostInAll}
 use Rattle.model.specs.Task.{Task, size, func, point}
 use Rattle.model.specs.Walk.{called, touches}
 use Rattle.model.specs.Plain.{Frame}
@@ -88,7 +88,7 @@ module _ {price : Price} {w : List ℕ} {h : Header} {x : State} {cache memory :
   t = taskOf w h
 
   formed : WellFormed t
-  formed = k .figured .settled .formed
+  formed = k .bounded .figured .settled .formed
 
   top : TopFrame w (x .depth) (x .f) (x .p) (k .frames)
   top = top-of w (x .depth) (x .f) (x .p) (k .frames) some (k .same)
@@ -115,15 +115,18 @@ module _ {price : Price} {w : List ℕ} {h : Header} {x : State} {cache memory :
   pub runs-good : Good (coreOf (x .machine) cache memory)
   runs-good = window-good t (sheetAt price t) _ _ (formed .shaped .stack-low) (runs-top .window)
 
+  pub runs-cache : length cache ≤ mostStack
+  runs-cache = omega (arith, runs-top .window .blocks, formed .shaped .stack-high)
+
   pub depth-few : x .depth ≤ mostFuncs
   depth-few =
       let e = sym (length-callers w (x .depth - 1)) ∙ ap length (top .below) ∙ length-places (top .rest) in
-      omega (arith, e, below-few formed top-below, fn-within, k .figured .settled .holds .few)
+      omega (arith, e, below-few formed top-below, fn-within, k .bounded .figured .settled .holds .few)
 
   pub runs-inside : (s : Span) → s ≡ spanAt w (x .f) → Inside price w h x s
   runs-inside s e =
       let z : s .size ≡ sizeAt w (x .f) = ap (λ (y : Span). y .size) e in
-      record { figured = k .figured; some = some; fn-in = fn-within; span = e; at-in = omega (arith, z, at-within) }
+      record { bounded = k .bounded; some = some; fn-in = fn-within; span = e; at-in = omega (arith, z, at-within) }
 
   -- ---- at a point
 
@@ -134,7 +137,7 @@ module _ {price : Price} {w : List ℕ} {h : Header} {x : State} {cache memory :
 
 -- what a run gives at any time
 pub runs-placed : {price : Price} {w : List ℕ} {h : Header} {x : State} {cache memory : List ℕ} → Runs price w h x cache memory → Placed w h x
-runs-placed k = record { settled = k .figured .settled; fn-in = λ i. fn-within k i; at-in = λ i. at-within k i }
+runs-placed k = record { settled = k .bounded .figured .settled; fn-in = λ i. fn-within k i; at-in = λ i. at-within k i }
 
 -- ---- the point at which the running frame stands
 
@@ -174,7 +177,7 @@ module _ {price : Price} {w : List ℕ} {h : Header} {x : State} {cache memory :
       let j = top-in r some in
       let l = callee-later (m .linked) (x .f) (x .p) g (j .fn-in) (j .at-in) (ap called i) in
       record {
-        figured = r .figured;
+        bounded = r .bounded;
         some = some;
         few = depth-few r some;
         fn-in = k .inside .fn-in;
@@ -188,18 +191,20 @@ module _ {price : Price} {w : List ℕ} {h : Header} {x : State} {cache memory :
   frame-lies : x .machine .st + func (taskOf w h) (x .f) .frame ≤ length memory
   frame-lies = window-frame (taskOf w h) _ (frame (k .runs) (k .inside .some)) _ _ (runs-top (k .runs) (k .inside .some) .window)
 
-  pub ensure-given : {n : ℕ} → y ≡ Ensure n → Good (coreOf (x .machine) cache memory) × (x .machine .st + n ≤ length memory)
+  pub ensure-given : {n : ℕ} → y ≡ Ensure n → Good (coreOf (x .machine) cache memory) × (x .machine .st + n ≤ length memory) × (n ≤ mostStack)
   ensure-given {n} e =
       let some = k .inside .some in
       let i = ensures-frame (taskOf w h) (formed (k .runs) some) (frame (k .runs) some) n (top-in (k .runs) some) (k .here ∙ e) in
-      (runs-good (k .runs) some, omega (arith, i, frame-lies))
+      let w = formed (k .runs) some in
+      let f = w .shaped .frames (x .f) (top-in (k .runs) some .fn-in) in
+      (runs-good (k .runs) some, omega (arith, i, frame-lies), omega (arith, i, f, w .shaped .stack-high))
 
   pub frame-same : func (taskOf w h) (x .f) .frame ≡ s .frame
   frame-same = frame-is w h (x .f) (k .inside .fn-in) ∙ sym (ap (λ (z : Span). z .frame) (k .inside .span))
 
   pub return-given : length memory ≤ mostAddress → Leaves w x (s .frame)
   return-given m = record {
-    space = omega (arith, k .runs .figured .room);
+    space = omega (arith, k .runs .bounded .figured .room);
     some = k .inside .some;
     few = depth-few (k .runs) (k .inside .some);
     address = omega (arith, frame-lies, frame-same);

@@ -1,15 +1,15 @@
 -- What an event keeps: the task, its figures, and a state that a run can be in. A loop over events cites these laws.
-use Prim.Native.Nat.{ℕ, zero, suc, _+_, _≤_, _<_}
+use Prim.Native.Nat.{ℕ, zero, suc, _*_, _≤_, _<_}
 use mathlib.Core.List.{List, [], _∷_}
 use mathlib.Core.Option.{none}
 use mathlib.Core.Path.{_≡_, refl, ap, sym, subst, _∙_}
 use native.Mathlib.Omega.{arith}
 use lib.ListN.{length}
-use Rattle.model.specs.Limits.{mostStack, mostFuncs, mostInAll}
+use Rattle.model.specs.Limits.{mostStack}
 use Rattle.model.specs.declared.Point.{Point}
 use Rattle.model.specs.declared.Point.the-variants.{Load, Store, Call, Ensure, Goto, Either, Return}
 use Rattle.model.specs.Refusal.{eventRows}
-use Rattle.model.specs.Task.{Task, size, func, point}
+use Rattle.model.specs.Task.{Task, func, point}
 use Rattle.model.specs.Walk.{called}
 use Rattle.model.specs.Core.{Core, idle}
 use Rattle.model.specs.Figures as model
@@ -26,78 +26,24 @@ use Rattle.theory.proofs.Fair.{Running, fair-event, runs-start}
 use Rattle.theory.proofs.Lawful.{sound}
 use Rattle.theory.proofs.Prices.{price-moves}
 use Rattle.tables.specs.declared.Header.{Header}
-use Rattle.tables.specs.Layout.{firstTable, secondTable, frameTable, baseTable, sizeTable}
-use Rattle.tables.specs.Tables.{item, pointOf, baseAt, sizeAt, taskOf}
-use Rattle.tables.specs.Valid.{Holds}
-use Rattle.tables.proofs.Laws.{stacked-within}
-use Rattle.tables.proofs.Writes.{Agree}
-use Rattle.tables.proofs.Valid.{task-same, settled-same}
+use Rattle.tables.specs.Tables.{taskOf}
 use Rattle.prices.specs.declared.Price.{Price}
-use Rattle.prices.specs.Prices.{priceOf}
-use Rattle.figures.specs.Columns.{columnsEnd, Points, Funcs}
-use Rattle.figures.specs.Figured.{Figured, sheetAt}
+use Rattle.prices.specs.Prices.{priceOf, mostPrice}
+use Rattle.prices.proofs.Laws.{price-small}
+use Rattle.figures.specs.Figured.{sheetAt}
+use Rattle.figures.proofs.Same.{Same, task-stays}
+use Rattle.bounds.specs.Bounds.{boundsEnd, Bounded}
+use Rattle.bounds.proofs.Laws.{bounded-same}
 use Rattle.machine.specs.Moves.{coreOf}
 use Rattle.machine.proofs.Kept.{reserve-blocks, ensure-blocks}
 use Rattle.turns.specs.declared.State.{State}
 use Rattle.turns.specs.declared.Turned.{Turned}
 use Rattle.turns.specs.Frames.{framesFrom, turnOf}
-use Rattle.turns.specs.Turns.{Runs, Stays, Turns, Started}
+use Rattle.turns.specs.Turns.{Runs, Stays, modelTurn, Turns, Started}
 
--- ---- the task and its figures, while the tables and the columns stay
-
-module _ {w w′ : List ℕ} {h : Header} (k : Holds w h) (a : Stays w w′) where
-  agree : Agree (h .funcs) mostInAll w w′
-  agree = record {
-    frame = λ f l. a .below (frameTable + f) (omega (arith, k .few));
-    base = λ f l. a .below (baseTable + f) (omega (arith, k .few));
-    size = λ f l. a .below (sizeTable + f) (omega (arith, k .few));
-    point = λ i l.
-        let e = a .below i (omega arith) in
-        let f = a .below (firstTable + i) (omega arith) in
-        let g = a .below (secondTable + i) (omega arith) in
-        λ t. pointOf (e t) (f t) (g t);
-  }
-
-  pub task-stays : taskOf w′ h ≡ taskOf w h
-  task-stays = task-same k agree
-
-  funcs-stay : (figure : Task → ℕ → ℕ) (b : ℕ) → b + mostFuncs ≤ columnsEnd → Funcs (figure (taskOf w h)) b 0 (h .funcs) w
-      → Funcs (figure (taskOf w′ h)) b 0 (h .funcs) w′
-  funcs-stay figure b j c = record {
-    each = λ f m l.
-        a .below (b + f) (omega (arith, k .few)) ∙ c .each f m l ∙ sym (ap (λ (t : Task). figure t f) task-stays);
-  }
-
-  points-stay : (figure : Task → ℕ → ℕ → ℕ) (b : ℕ) → b + mostInAll ≤ columnsEnd → Points (figure (taskOf w h)) b (h .funcs) w
-      → Points (figure (taskOf w′ h)) b (h .funcs) w′
-  points-stay figure b j c = record {
-    each = λ f p l m.
-        let e = agree .base f l in
-        let i = agree .size f l in
-        let n : p < sizeAt w f = omega arith in
-        ap (λ (z : ℕ). item w′ (b + z + p)) e
-        ∙ a .below (b + baseAt w f + p) (omega (arith, k .all, stacked-within (k .stacked) f l))
-        ∙ c .each f p l n
-        ∙ sym (ap (λ (t : Task). figure t f p) task-stays);
-  }
-
--- figures that a service reads stay figures
-pub figured-same : {price : Price} {w w′ : List ℕ} {h : Header} → Figured price w h → Stays w w′ → Figured price w′ h
-figured-same {price} {w} {w′} {h} k a =
-    let s = k .settled .holds in record {
-      settled = settled-same s (agree s a) (a .kept .size) (k .settled);
-      room = omega (arith, k .room, a .kept .size);
-      small = k .small;
-      longest = funcs-stay s a (λ t. model.longest t) _ (omega arith) (k .longest);
-      shortest = funcs-stay s a (λ t. model.shortest t) _ (omega arith) (k .shortest);
-      entry = funcs-stay s a (λ t. model.entry t) _ (omega arith) (k .entry);
-      chain = funcs-stay s a (λ t. model.chain (priceOf price) t) _ (omega arith) (k .chain);
-      high = points-stay s a (λ t. model.high t) _ (omega arith) (k .high);
-      dead = points-stay s a (λ t f. model.dead (func t f)) _ (omega arith) (k .dead);
-      need = points-stay s a (λ t f. model.need (func t f)) _ (omega arith) (k .need);
-      next = points-stay s a (λ t. model.keptNext t) _ (omega arith) (k .next);
-      fill = points-stay s a (λ t. model.fill t) _ (omega arith) (k .fill);
-    }
+-- what an event leaves of the working space has the task, its figures and its bounds
+stays-bounds : {w w′ : List ℕ} → Stays w w′ → Same boundsEnd w w′
+stays-bounds a = record { size = a .kept .size; below = a .below }
 
 -- ---- a state that a run can be in
 
@@ -108,8 +54,7 @@ pub record Goes {price : Price} {w : List ℕ} {h : Header} {x : State} {cache m
   pub frames : runs .frames ≡ afterEvent (taskOf w h) (k .frames) a
   pub task : taskOf w′ h ≡ taskOf w h
   pub bound : r .bound ≡ eventBound (taskOf w h) (sheetAt price (taskOf w h)) (k .frames) a
-  pub out-few : r .out ≤ mostStack
-  pub back-few : r .back ≤ mostStack
+  pub moved-few : r .moved ≤ 2 * mostPrice
 
 -- no event moves more blocks out or back than the cache has
 pub record Few (t : Task) (u : run.Turn) : Type 0 where
@@ -150,27 +95,42 @@ module _ {price : Price} {w : List ℕ} {h : Header} {x : State} {cache memory :
   t = taskOf w h
 
   -- the turn that the event does, on the frames of the plain stack
-  turn-plain : turnOf w′ r cache′ memory′
+  plain-turn : modelTurn price w h x cache memory a
       ≡ turn t (sheetAt price t) (record { frames = places (k .frames); core = coreOf (x .machine) cache memory }) a
-  turn-plain =
-      u .turn
-      ∙ ap (λ (y : run.State). turn t (sheetAt price t) y a) (λ i. record { frames = k .same i; core = coreOf (x .machine) cache memory })
+  plain-turn = ap (λ (y : run.State). turn t (sheetAt price t) y a) (λ i. record { frames = k .same i; core = coreOf (x .machine) cache memory })
+
+  turn-plain : turnOf w′ r (modelTurn price w h x cache memory a .out) (modelTurn price w h x cache memory a .back) cache′ memory′
+      ≡ turn t (sheetAt price t) (record { frames = places (k .frames); core = coreOf (x .machine) cache memory }) a
+  turn-plain = u .turn ∙ plain-turn
+
+  -- what it moves is at most the cache, each way
+  few-moved : Few t (turn t (sheetAt price t) (record { frames = places (k .frames); core = coreOf (x .machine) cache memory }) a) → t .stack ≤ mostStack
+      → r .moved ≤ 2 * mostPrice
+  few-moved n l =
+      let o = ap (λ (z : run.Turn). z .out) plain-turn in
+      let b = ap (λ (z : run.Turn). z .back) plain-turn in
+      omega (
+        arith,
+        u .moved,
+        price-small price (modelTurn price w h x cache memory a .out) (k .bounded .figured .small) (omega (arith, o, n .out)),
+        price-small price (modelTurn price w h x cache memory a .back) (k .bounded .figured .small) (omega (arith, b, n .back)),
+      )
 
   -- after an event that no row refuses a run can go on
   pub goes-on : Goes k a r w′ cache′ memory′
   goes-on =
-      let m = k .figured .settled .formed in
+      let m = k .bounded .figured .settled .formed in
       let o = coreOf (x .machine) cache memory in
       let f = fair-event t (sheetAt price t) m (k .sound) (k .frames) o a (k .running .standing) (k .running) in
       let n = few-event t (sheetAt price t) m (k .frames) o a (k .running .standing) (k .running .window) in
-      let e = task-stays (k .figured .settled .holds) (u .stays) in
+      let e = task-stays (omega arith) (k .bounded .figured .settled .holds) (stays-bounds (u .stays)) in
       let fs = afterEvent t (k .frames) a in
       let c = coreOf (r .state .machine) cache′ memory′ in
       let here = subst (Running t (sheetAt price t) (k .sound .ground) fs) (sym (ap (λ (z : run.Turn). z .state .core) turn-plain)) (f .runs) in
       let there = subst (λ (z : Task). (i : Sound z (sheetAt price z)) × Running z (sheetAt price z) (i .ground) fs c) (sym e) (k .sound, here) in
       record {
         runs = record {
-          figured = figured-same (k .figured) (u .stays);
+          bounded = bounded-same (omega arith) (k .bounded) (stays-bounds (u .stays));
           frames = fs;
           same = ap (λ (z : run.Turn). z .state .frames) turn-plain ∙ f .frames;
           sound = there .0;
@@ -179,8 +139,7 @@ module _ {price : Price} {w : List ℕ} {h : Header} {x : State} {cache memory :
         frames = refl;
         task = e;
         bound = u .bound (k .frames) (k .same);
-        out-few = omega (arith, ap (λ (z : run.Turn). z .out) turn-plain, n .out, m .shaped .stack-high);
-        back-few = omega (arith, ap (λ (z : run.Turn). z .back) turn-plain, n .back, m .shaped .stack-high);
+        moved-few = few-moved n (m .shaped .stack-high);
       }
 
 -- ---- the first state
@@ -190,18 +149,18 @@ pub record FirstState (price : Price) (w : List ℕ) (h : Header) (x : State) (c
   pub runs : Runs price w h x cache memory
   pub frames : runs .frames ≡ firstFrames (taskOf w h)
 
-pub begins : {price : Price} {w : List ℕ} {h : Header} {x : State} (cache memory : List ℕ) → Figured price w h → Started w h (length memory) x → length cache ≡ h .stack
+pub begins : {price : Price} {w : List ℕ} {h : Header} {x : State} (cache memory : List ℕ) → Bounded price w h → Started w h (length memory) x → length cache ≡ h .stack
     → model.longest (taskOf w h) 0 ≤ length memory → FirstState price w h x cache memory
 unfolding places
 begins {price} {w} {h} {x} cache memory k a i j =
     let t = taskOf w h in
-    let f = k .settled .formed in
+    let f = k .figured .settled .formed in
     let s = sound t f (priceOf price) (price-moves (price .start) (price .each)) in
     let e = a cache memory i refl in
     let r = runs-start t (sheetAt price t) f s (f .shaped .some) (idle cache memory) (window-idle t (sheetAt price t) cache memory i j) in
     record {
       runs = record {
-        figured = k;
+        bounded = k;
         frames = firstFrames t;
         same = ap (λ (z : run.State). z .frames) e;
         sound = s;

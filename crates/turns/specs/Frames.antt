@@ -1,4 +1,4 @@
--- The state of a run as the code has it: the running frame by value, its callers in the working space behind the columns, the first called one
+-- The state of a run as the code has it: the running frame by value, its callers in the working space behind the bounds, the first called one
 -- first. And the state and the turn of the model that it stands for.
 use Prim.Native.Nat.{ℕ, zero, suc, _+_, _*_}
 use mathlib.Core.List.{List, [], _∷_}
@@ -7,7 +7,7 @@ use Rattle.model.specs.Limits.{mostFuncs}
 use Rattle.model.specs.Run as run
 use Rattle.model.specs.Run.{Place}
 use Rattle.tables.specs.Tables.{item}
-use Rattle.figures.specs.Columns.{columnsEnd}
+use Rattle.bounds.specs.Bounds.{boundsEnd}
 use Rattle.machine.specs.Moves.{coreOf}
 use Rattle.turns.specs.declared.State.{State}
 use Rattle.turns.specs.declared.Turned.{Turned}
@@ -15,7 +15,7 @@ use Rattle.turns.specs.declared.Turned.{Turned}
 -- where the callers begin, and where there are no more: two numbers for each, its function and its point. The code has the first as a constant of
 -- Frames
 abbrev pub framesAt : ℕ
-framesAt = columnsEnd
+framesAt = boundsEnd
 
 abbrev pub framesEnd : ℕ
 framesEnd = framesAt + 2 * mostFuncs
@@ -42,9 +42,10 @@ framesOf w x = framesFrom w (x .depth) (x .f) (x .p)
 abbrev pub stateOf : List ℕ → State → List ℕ → List ℕ → run.State
 stateOf w x cache memory = record { frames = framesOf w x; core = coreOf (x .machine) cache memory }
 
-abbrev pub turnOf : List ℕ → Turned → List ℕ → List ℕ → run.Turn
-turnOf w r cache memory =
-    record { state = stateOf w (r .state) cache memory; answer = r .answer; out = r .out; back = r .back }
+-- out and back: how many blocks the turn moved, which the code has as a price
+abbrev pub turnOf : List ℕ → Turned → ℕ → ℕ → List ℕ → List ℕ → run.Turn
+turnOf w r out back cache memory =
+    record { state = stateOf w (r .state) cache memory; answer = r .answer; out = out; back = back }
 
 -- on at point p of the running frame, with this answer. Nothing moves, and nothing is allowed
 abbrev pub plainTurn : State → ℕ → ℕ → Turned
@@ -52,7 +53,6 @@ plainTurn x p a =
     record {
       state = record { depth = x .depth; f = x .f; p = p; machine = x .machine };
       answer = a;
-      out = 0;
-      back = 0;
+      moved = 0;
       bound = 0;
     }

@@ -7,7 +7,6 @@ use Rattle.model.specs.declared.Point.{Point}
 use Rattle.model.specs.Limits.{mostFuncs, mostPoints}
 use Rattle.model.specs.Task.{Task, func, point}
 use Rattle.model.specs.Core.{idle}
-use Rattle.model.specs.Sheet.{Sheet}
 use Rattle.model.specs.Plain.{Frame, Act, act}
 use Rattle.model.specs.Run as run
 use Rattle.model.specs.Run.{stepTurn, preemptTurn, stepBound, eventBound, freshState}
@@ -19,17 +18,18 @@ use Rattle.tables.specs.declared.Span.{Span}
 use Rattle.tables.specs.Tables.{item, sizeAt, spanAt, taskOf}
 use Rattle.tables.specs.Valid.{Kept, Settled}
 use Rattle.prices.specs.declared.Price.{Price}
-use Rattle.figures.specs.Columns.{columnsEnd}
-use Rattle.figures.specs.Figured.{Figured, sheetAt}
+use Rattle.prices.specs.Prices.{priceOf}
+use Rattle.figures.specs.Figured.{sheetAt}
+use Rattle.bounds.specs.Bounds.{Bounded}
 use Rattle.machine.specs.Moves.{coreOf, mostAddress, Good}
 use Rattle.turns.specs.declared.State.{State}
 use Rattle.turns.specs.declared.Turned.{Turned}
-use Rattle.turns.specs.Frames.{framesEnd, placesIn, framesOf, stateOf, turnOf}
+use Rattle.turns.specs.Frames.{framesAt, framesEnd, placesIn, framesOf, stateOf, turnOf}
 
--- the working space has the task and its figures, and the state is one that a run can be in: what an event starts from. frames: those of the plain
+-- the working space has the task, its figures and the bounds of its events, and the state is one that a run can be in: what an event starts from. frames: those of the plain
 -- stack; sound: the sheet obeys the rules
 pub record Runs (price : Price) (w : List ℕ) (h : Header) (x : State) (cache memory : List ℕ) : Type 0 where
-  pub figured : Figured price w h
+  pub bounded : Bounded price w h
   pub frames : List Frame
   pub same : framesOf w x ≡ places frames
   pub sound : Sound (taskOf w h) (sheetAt price (taskOf w h))
@@ -43,36 +43,42 @@ pub record Placed (w : List ℕ) (h : Header) (x : State) : Type 0 where
 
 -- w′ is w but for the callers
 pub record Stays (w w′ : List ℕ) : Type 0 where
-  pub below : (i : ℕ) → i < columnsEnd → item w′ i ≡ item w i
+  pub below : (i : ℕ) → i < framesAt → item w′ i ≡ item w i
   pub kept : Kept framesEnd w w′
 
--- a turn is this one of the model, and the sheet allows it this much
-pub record IsTurn (r : Turned) (w cache memory : List ℕ) (u : run.Turn) (allowed : ℕ) : Type 0 where
-  pub turn : turnOf w r cache memory ≡ u
+-- a turn is this one of the model, it costs what both its moves cost, and the sheet allows it this much
+pub record IsTurn (price : Price) (r : Turned) (w cache memory : List ℕ) (u : run.Turn) (allowed : ℕ) : Type 0 where
+  pub turn : turnOf w r (u .out) (u .back) cache memory ≡ u
+  pub moved : r .moved ≡ priceOf price (u .out) + priceOf price (u .back)
   pub bound : r .bound ≡ allowed
 
--- a step with value v at point y of the running frame of x, in a task t with the sheet s
-abbrev pub Steps : Sheet → Task → State → Point → ℕ → (w cache memory : List ℕ) → Turned → (w′ cache′ memory′ : List ℕ) → Type 0
-Steps s t x y v w cache memory r w′ cache′ memory′ =
-    IsTurn r w′ cache′ memory′
+-- a step with value v at point y of the running frame of x, in a task t at this price
+abbrev pub Steps : Price → Task → State → Point → ℕ → (w cache memory : List ℕ) → Turned → (w′ cache′ memory′ : List ℕ) → Type 0
+Steps price t x y v w cache memory r w′ cache′ memory′ =
+    IsTurn price r w′ cache′ memory′
     (stepTurn t (x .f) (x .p) (placesIn w (x .depth - 1)) (coreOf (x .machine) cache memory) y v)
-    (stepBound s (x .f) (x .p) y)
+    (stepBound (sheetAt price t) (x .f) (x .p) y)
 
 -- a preemption there by a task that leaves v in every block
-abbrev pub IsPreemption : Sheet → Task → State → ℕ → (w cache memory : List ℕ) → Turned → (cache′ memory′ : List ℕ) → Type 0
-IsPreemption s t x v w cache memory r cache′ memory′ =
-    IsTurn r w cache′ memory′
-    (preemptTurn s (x .f) (x .p) (placesIn w (x .depth - 1)) (coreOf (x .machine) cache memory) (replicate (length cache) v))
-    (s .at (x .f) (x .p) .cost)
+abbrev pub IsPreemption : Price → Task → State → ℕ → (w cache memory : List ℕ) → Turned → (cache′ memory′ : List ℕ) → Type 0
+IsPreemption price t x v w cache memory r cache′ memory′ =
+    IsTurn price r w cache′ memory′
+    (preemptTurn (sheetAt price t) (x .f) (x .p) (placesIn w (x .depth - 1)) (coreOf (x .machine) cache memory) (replicate (length cache) v))
+    (sheetAt price t .at (x .f) (x .p) .cost)
 
 -- what an event of this kind and value asks for
 abbrev pub actOf : ℕ → ℕ → Act
 actOf kind value = act (record { kind = kind; value = value })
 
--- an event does what the model's turn does, the sheet allows what it allows on any plain stack with these frames, and the working space is as it was
+-- what the model's run does at an event
+abbrev pub modelTurn : Price → List ℕ → Header → State → List ℕ → List ℕ → Act → run.Turn
+modelTurn price w h x cache memory a = run.turn (taskOf w h) (sheetAt price (taskOf w h)) (stateOf w x cache memory) a
+
+-- an event does what the model's turn does and costs what its moves cost, the sheet allows what it allows on any plain stack with these frames, and the working space is as it was
 -- but for the callers
 pub record Turns (price : Price) (w : List ℕ) (h : Header) (x : State) (cache memory : List ℕ) (a : Act) (r : Turned) (w′ cache′ memory′ : List ℕ) : Type 0 where
-  pub turn : turnOf w′ r cache′ memory′ ≡ run.turn (taskOf w h) (sheetAt price (taskOf w h)) (stateOf w x cache memory) a
+  pub turn : turnOf w′ r (modelTurn price w h x cache memory a .out) (modelTurn price w h x cache memory a .back) cache′ memory′ ≡ modelTurn price w h x cache memory a
+  pub moved : r .moved ≡ priceOf price (modelTurn price w h x cache memory a .out) + priceOf price (modelTurn price w h x cache memory a .back)
   pub bound : (fs : List Frame) → framesOf w x ≡ places fs → r .bound ≡ eventBound (taskOf w h) (sheetAt price (taskOf w h)) fs a
   pub stays : Stays w w′
 
@@ -92,7 +98,7 @@ pub record Reaches (x : State) (cache : List ℕ) (o : ℕ) : Type 0 where
 
 -- the running frame is at a point of its function, which is s
 pub record Inside (price : Price) (w : List ℕ) (h : Header) (x : State) (s : Span) : Type 0 where
-  pub figured : Figured price w h
+  pub bounded : Bounded price w h
   pub some : 0 < x .depth
   pub fn-in : x .f < h .funcs
   pub span : s ≡ spanAt w (x .f)
@@ -100,7 +106,7 @@ pub record Inside (price : Price) (w : List ℕ) (h : Header) (x : State) (s : S
 
 -- there is room for one more caller, and for the frame of function g below ST
 pub record Enters (price : Price) (w : List ℕ) (h : Header) (x : State) (cache memory : List ℕ) (g : ℕ) : Type 0 where
-  pub figured : Figured price w h
+  pub bounded : Bounded price w h
   pub some : 0 < x .depth
   pub few : x .depth ≤ mostFuncs
   pub fn-in : x .f < h .funcs

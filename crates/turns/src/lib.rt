@@ -1,23 +1,24 @@
 // One event of a run: a step, by the kind of the point at which the running frame stands, or a preemption. The running frame is by value and its
-// callers are in the working space, behind the columns of the figures, so that only a call and a return touch them.
+// callers are in the working space, behind the bounds, so that only a call and a return touch them.
 ghost use mathlib.Core.Path.{_≡_};
 ghost use mathlib.Core.List.{List};
 ghost use Prim.Native.Nat.{ℕ, _+_, _-_, _<_, _≤_};
 ghost use lib.ListN.{length};
 ghost use Rattle.model.specs.declared.Point.the-variants.{Load, Store, Call, Ensure, Goto, Either, Return};
-ghost use Rattle.model.specs.Limits.{mostFuncs, mostPoints};
+ghost use Rattle.model.specs.Limits.{mostStack, mostFuncs, mostPoints};
 ghost use Rattle.model.specs.Rows.{rowVerdict};
 ghost use Rattle.model.specs.Task.{Task, func};
 ghost use Rattle.model.specs.Figures.{longest};
-ghost use Rattle.model.specs.Sheet.{Sheet};
 ghost use Rattle.model.specs.Refusal.{isEither, eventRows};
 ghost use Rattle.model.specs.Run.{runningPlace};
 ghost use Rattle.tables.specs.Tables.{taskOf};
 ghost use Rattle.tables.specs.Valid.{Settled};
-ghost use Rattle.figures.specs.Figured.{sheetAt};
+ghost use Rattle.prices.specs.declared.Price.{Price as Price·spec};
+ghost use Rattle.prices.specs.Prices.{priceOf, mostPrice, Small};
 ghost use Rattle.machine.specs.Moves.{coreOf, Good};
 ghost use Rattle.turns.specs.Frames.{framesEnd, placesIn, putCaller, framesOf, plainTurn};
 ghost use Rattle.turns.specs.Turns.{Runs, Placed, Stays, Steps, IsPreemption, Turns, actOf, Started, Reaches, Inside, Enters, Leaves, StandsAt};
+use bounds::Bounds;
 use figures::Columns;
 use machine::Machine;
 use model::Point;
@@ -32,7 +33,7 @@ use tables::Span;
 pub struct Frames;
 
 impl Frames {
-    pub const AT: usize = Columns::END;
+    pub const AT: usize = Bounds::END;
 }
 
 // How many frames there are, function and point of the running one, and where the stack stands. A finished task has no frames.
@@ -43,12 +44,11 @@ pub struct State {
     pub machine: Machine,
 }
 
-// A state after an event, its answer, how many blocks went out and came back, and what the sheet allows.
+// A state after an event, its answer, what it moved, and what the sheet allows: both as prices.
 pub struct Turned {
     pub state: State,
     pub answer: u32,
-    pub out: usize,
-    pub back: usize,
+    pub moved: u32,
     pub bound: u32,
 }
 
@@ -56,6 +56,15 @@ fn wide(x: u32) -> usize
     ensures { λ r. ⌜ r ≡ x ⌝ }
 {
     x as usize
+}
+
+// The price of the blocks that went out and came back: two moves, each with a start of its own. Only the events that move call this, so that the
+// others pay nothing for it.
+fn moves_price(price: Price, out: usize, back: usize) -> u32
+    requires { ⌜ Small price × (out ≤ mostStack) × (back ≤ mostStack) ⌝ }
+    ensures { λ r. ⌜ r ≡ priceOf price out + priceOf price back ⌝ }
+{
+    price.of_move(out as u32) + price.of_move(back as u32)
 }
 
 // ---- the callers in the working space
@@ -110,15 +119,14 @@ fn onwards(x: State, p: usize, answer: u32) -> Turned
     Turned {
         state,
         answer,
-        out: 0,
-        back: 0,
+        moved: 0,
         bound: 0,
     }
 }
 
 fn load_step(x: State, cache: &[u32], o: u32) -> Turned
     requires { ⌜ Reaches x (now cache) o ⌝ }
-    ensures { λ r. ⌜ ((s : Sheet) (t : Task) (v : ℕ) (w memory : List ℕ) → Steps s t x (Load o) v w (now (cache .entry)) memory r w (now (cache .entry)) memory) ⌝ }
+    ensures { λ r. ⌜ ((price : Price·spec) (t : Task) (v : ℕ) (w memory : List ℕ) → Steps price t x (Load o) v w (now (cache .entry)) memory r w (now (cache .entry)) memory) ⌝ }
 {
     let machine = x.machine;
     let answer = machine.load(cache, o);
@@ -127,7 +135,7 @@ fn load_step(x: State, cache: &[u32], o: u32) -> Turned
 
 fn store_step(x: State, cache: &mut [u32], o: u32, v: u32) -> Turned
     requires { ⌜ Reaches x (now cache) o ⌝ }
-    ensures { λ r. ⌜ ((s : Sheet) (t : Task) (w memory : List ℕ) → Steps s t x (Store o) v w (now (cache .entry)) memory r w (now (cache .exit)) memory) ⌝ }
+    ensures { λ r. ⌜ ((price : Price·spec) (t : Task) (w memory : List ℕ) → Steps price t x (Store o) v w (now (cache .entry)) memory r w (now (cache .exit)) memory) ⌝ }
 {
     let machine = x.machine;
     machine.store(cache, o, v);
@@ -136,14 +144,14 @@ fn store_step(x: State, cache: &mut [u32], o: u32, v: u32) -> Turned
 
 fn goto_step(x: State, q: u32) -> Turned
     requires { ⌜ 0 < x .depth ⌝ }
-    ensures { λ r. ⌜ ((s : Sheet) (t : Task) (v : ℕ) (w cache memory : List ℕ) → Steps s t x (Goto q) v w cache memory r w cache memory) ⌝ }
+    ensures { λ r. ⌜ ((price : Price·spec) (t : Task) (v : ℕ) (w cache memory : List ℕ) → Steps price t x (Goto q) v w cache memory r w cache memory) ⌝ }
 {
     onwards(x, wide(q), 0)
 }
 
 fn either_step(x: State, q: u32, r: u32, v: u32) -> Turned
     requires { ⌜ 0 < x .depth ⌝ }
-    ensures { λ u. ⌜ ((s : Sheet) (t : Task) (w cache memory : List ℕ) → Steps s t x (Either q r) v w cache memory u w cache memory) ⌝ }
+    ensures { λ u. ⌜ ((price : Price·spec) (t : Task) (w cache memory : List ℕ) → Steps price t x (Either q r) v w cache memory u w cache memory) ⌝ }
 {
     if v == 0 {
         return onwards(x, wide(q), 0);
@@ -154,8 +162,8 @@ fn either_step(x: State, q: u32, r: u32, v: u32) -> Turned
 // The frame of the running function is left, and its caller runs.
 fn return_step(work: &[u32], x: State, frame: u32) -> Turned
     requires { ⌜ Leaves (now work) x frame ⌝ }
-    ensures { λ r. ⌜ ((s : Sheet) (t : Task) (v : ℕ) (cache memory : List ℕ) → func t (x .f) .frame ≡ frame →
-        Steps s t x Return v (now (work .entry)) cache memory r (now (work .entry)) cache memory) ⌝ }
+    ensures { λ r. ⌜ ((price : Price·spec) (t : Task) (v : ℕ) (cache memory : List ℕ) → func t (x .f) .frame ≡ frame →
+        Steps price t x Return v (now (work .entry)) cache memory r (now (work .entry)) cache memory) ⌝ }
 {
     let machine = x.machine;
     let freed = machine.free(frame);
@@ -163,8 +171,7 @@ fn return_step(work: &[u32], x: State, frame: u32) -> Turned
     Turned {
         state,
         answer: 0,
-        out: 0,
-        back: 0,
+        moved: 0,
         bound: 0,
     }
 }
@@ -180,11 +187,12 @@ fn call_step(
     g: u32,
 ) -> Turned
     requires { ⌜ Enters price (now work) h x (now cache) (now memory) g ⌝ }
-    ensures { λ r. ⌜ ((v : ℕ) → Steps (sheetAt price (taskOf (now (work .entry)) h)) (taskOf (now (work .entry)) h) x (Call g) v (now (work .entry)) (now (cache .entry)) (now (memory .entry))
+    ensures { λ r. ⌜ ((v : ℕ) → Steps price (taskOf (now (work .entry)) h) x (Call g) v (now (work .entry)) (now (cache .entry)) (now (memory .entry))
         r (now (work .exit)) (now (cache .entry)) (now (memory .exit))) × Stays (now (work .entry)) (now (work .exit)) ⌝ }
 {
     let f = wide(g);
-    let callee = figures::func_figures(work, h, price, f);
+    let callee = tables::span_at(work, f);
+    let bound = work[Bounds::SPILL + f];
     put_caller(work, x.depth - 1, x.f, x.p + 1);
     let machine = x.machine;
     let moved = machine.reserve(cache, memory, callee.frame);
@@ -198,9 +206,8 @@ fn call_step(
     Turned {
         state,
         answer: 0,
-        out: moved.blocks,
-        back: 0,
-        bound: callee.spill,
+        moved: moves_price(price, moved.blocks, 0),
+        bound,
     }
 }
 
@@ -214,11 +221,12 @@ fn ensure_step(
     memory: &[u32],
     k: u32,
 ) -> Turned
-    requires { ⌜ Inside price (now work) h x s × Good (coreOf (x .machine) (now cache) (now memory)) × (x .machine .st + k ≤ length (now memory)) ⌝ }
-    ensures { λ r. ⌜ ((v : ℕ) → Steps (sheetAt price (taskOf (now (work .entry)) h)) (taskOf (now (work .entry)) h) x (Ensure k) v (now (work .entry)) (now (cache .entry)) (now (memory .entry))
+    requires { ⌜ Inside price (now work) h x s × Good (coreOf (x .machine) (now cache) (now memory)) × (x .machine .st + k ≤ length (now memory))
+        × (k ≤ mostStack) ⌝ }
+    ensures { λ r. ⌜ ((v : ℕ) → Steps price (taskOf (now (work .entry)) h) x (Ensure k) v (now (work .entry)) (now (cache .entry)) (now (memory .entry))
         r (now (work .entry)) (now (cache .exit)) (now (memory .entry))) ⌝ }
 {
-    let figures = figures::point_figures(work, h, price, x.f, s, x.p);
+    let bound = columns::figure_at(work, Bounds::FILL, s, x.p);
     let machine = x.machine;
     let moved = machine.ensure(cache, memory, k);
     let filled = moved.machine;
@@ -231,9 +239,8 @@ fn ensure_step(
     Turned {
         state,
         answer: 0,
-        out: 0,
-        back: moved.blocks,
-        bound: figures.fill,
+        moved: moves_price(price, 0, moved.blocks),
+        bound,
     }
 }
 
@@ -250,7 +257,7 @@ fn step(
     v: u32,
 ) -> Turned
     requires { ⌜ StandsAt price (now work) h x (now cache) (now memory) s y ⌝ }
-    ensures { λ r. ⌜ Steps (sheetAt price (taskOf (now (work .entry)) h)) (taskOf (now (work .entry)) h) x y v (now (work .entry)) (now (cache .entry)) (now (memory .entry))
+    ensures { λ r. ⌜ Steps price (taskOf (now (work .entry)) h) x y v (now (work .entry)) (now (cache .entry)) (now (memory .entry))
         r (now (work .exit)) (now (cache .exit)) (now (memory .exit)) × Stays (now (work .entry)) (now (work .exit)) ⌝ }
 {
     match y {
@@ -277,13 +284,15 @@ fn preempt(
     memory: &mut [u32],
     v: u32,
 ) -> Turned
-    requires { ⌜ Inside price (now work) h x s × Good (coreOf (x .machine) (now cache) (now memory)) ⌝ }
-    ensures { λ r. ⌜ IsPreemption (sheetAt price (taskOf (now (work .entry)) h)) (taskOf (now (work .entry)) h) x v (now (work .entry)) (now (cache .entry)) (now (memory .entry))
+    requires { ⌜ Inside price (now work) h x s × Good (coreOf (x .machine) (now cache) (now memory)) × (length (now cache) ≤ mostStack) ⌝ }
+    ensures { λ r. ⌜ IsPreemption price (taskOf (now (work .entry)) h) x v (now (work .entry)) (now (cache .entry)) (now (memory .entry))
         r (now (cache .exit)) (now (memory .exit)) ⌝ }
 {
-    let figures = figures::point_figures(work, h, price, x.f, s, x.p);
+    let dead = columns::figure_at(work, Columns::DEAD, s, x.p);
+    let need = columns::figure_at(work, Columns::NEED, s, x.p);
+    let bound = columns::figure_at(work, Bounds::COST, s, x.p);
     let machine = x.machine;
-    let back = machine.preempt(cache, memory, figures.dead, figures.need, v);
+    let back = machine.preempt(cache, memory, dead, need, v);
     let resumed = back.machine;
     let state = State {
         depth: x.depth,
@@ -294,9 +303,8 @@ fn preempt(
     Turned {
         state,
         answer: 0,
-        out: back.out,
-        back: back.back,
-        bound: figures.cost,
+        moved: moves_price(price, back.out, back.back),
+        bound,
     }
 }
 

@@ -1,6 +1,7 @@
 -- The columns have the figures of the point, which are priced.
 use native.Mathlib.Omega.{arith}
 use borrow.Author.Needs.{needs}
+use Rattle.columns.specs.Columns.{highColumn, deadColumn, needColumn, nextColumn, fillColumn}
 use Rattle.figures.proofs.Read.{read-there, small-high, small-need, small-next, small-fill, small-chain, figures-are}
 use Rattle.figures.proofs.point_figures.Statement.{statement}
 use Rattle.figures.proofs.point_figures.Tie as tie
@@ -52,10 +53,10 @@ pub point-figures-spec : {M : Type 1} → statement M
 point-figures-spec =
     tie.close
     (tie.spec
-    (λ c κs. let a = c .before .pre in read-there (a .0) (a .1) (a .2) (a .3) (omega arith))
-    (λ c κs. let a = c .before .before .pre in read-there (a .0) (a .1) (a .2) (a .3) (omega arith))
-    (λ c κs. let a = c .before .before .before .pre in read-there (a .0) (a .1) (a .2) (a .3) (omega arith))
-    (λ c κs. let a = c .before .before .before .before .pre in read-there (a .0) (a .1) (a .2) (a .3) (omega arith))
+    (λ c κs. let a = c .before .pre in read-there (a .0) (a .1) (a .2) highColumn (omega arith) (a .3))
+    (λ c κs. let a = c .before .before .pre in read-there (a .0) (a .1) (a .2) deadColumn (omega arith) (a .3))
+    (λ c κs. let a = c .before .before .before .pre in read-there (a .0) (a .1) (a .2) needColumn (omega arith) (a .3))
+    (λ c κs. let a = c .before .before .before .before .pre in read-there (a .0) (a .1) (a .2) nextColumn (omega arith) (a .3))
     (λ c. search needs) (λ c. search needs) (λ c. search needs) price-above-requires price-above-requires-2 price-above-requires-3
-    (λ c κs. let a = c .before .before .before .before .before .before .before .before .before .pre in read-there (a .0) (a .1) (a .2) (a .3) (omega arith))
+    (λ c κs. let a = c .before .before .before .before .before .before .before .before .before .pre in read-there (a .0) (a .1) (a .2) fillColumn (omega arith) (a .3))
     of-move-requires cost-of-requires returns)

@@ -7,7 +7,7 @@ use borrow.Author.Needs.{needs}
 use Rattle.model.specs.Limits.{mostEventNumbers}
 use Rattle.prices.specs.Prices.{mostPrice}
 use Rattle.turns.proofs.Given.{runs-placed}
-use Rattle.run.proofs.Loop.{mostBound, Loops, loops-start, loops-end, loops-off, loops-more, loops-few, loops-on}
+use Rattle.run.proofs.Loop.{mostBound, Loops, loops-start, loops-end, loops-off, loops-more, loops-on}
 use Rattle.run.proofs.run_events.Statement.{statement}
 use Rattle.run.proofs.run_events.Tie as tie
 
@@ -45,10 +45,6 @@ turn-requires : tie.Need-turn-requires Inv-loop μ-loop
 turn-requires c κs = loops-more (c .before .before .before .before .before .before .before .before .before .before .loop .inv .0) _ _
     (c .before .before .before .enum-told .given .1) (c .before .before .before .before .before .event-row .ensures)
 
-moves-price-requires : tie.Need-moves-price-requires Inv-loop μ-loop
-moves-price-requires c κs =
-    loops-few (c .before .before .before .before .before .before .before .before .before .before .before .before .before .before .before .before .before .loop .inv .0) (c .before .before .before .before .before .before .turn .ensures)
-
 loop-again : tie.Need-loop-again Inv-loop μ-loop
 loop-again c =
     let l = c .before .before .before .before .before .before .before .before .before .before .before .before .before .before .before .before .before
@@ -56,7 +52,7 @@ loop-again c =
     let k = l .before .loop .inv in
     let t = c .before .before .before .before .before .before .before .before .before .turn in (
       loops-on (k .0) {r = t .result} (bounds l .0) (l .before .before .before .before .before .before .before .before .before .pre .answered)
-          (omega (arith, c .before .struct-known .given)) (c .before .before .moves-price .ensures)
+          (omega (arith, c .before .struct-known2 .given))
           (c .before .before .before .before .before .before .before .before .before .before .before .before .before .enum-told .given .1)
           (c .before .before .before .before .before .before .before .before .before .before .before .before .before .before .before .event-row .ensures)
           (t .ensures),
@@ -77,7 +73,7 @@ run-events-spec =
     (tie.spec
     Inv-loop
     μ-loop
-    (λ c κs. (c .before .before .before .before .before .before .pre .figured .settled, c .before .before .before .before .before .before .pre .room))
+    (λ c κs. (c .before .before .before .before .before .before .pre .bounded .figured .settled, c .before .before .before .before .before .before .pre .room))
     (λ c. (loops-start (c .before .before .before .before .before .before .before .pre) (c .start .ensures), omega arith, refl, refl))
     (λ c. omega arith)
     (λ c. omega arith)
@@ -107,8 +103,8 @@ run-events-spec =
       bounds (c .before .before .before .before .before .before .before .before .before .before .before .before .before .before
           .before .before),
     ))
-    moves-price-requires
-    (λ c. omega (arith, bounds (c .before .before .before .before .before .before .before .before .before .before .before .before .before .before .before .before .before), c .moves-price .ensures .1))
+    (λ c. omega arith)
+    (λ c. omega (arith, bounds (c .before .before .before .before .before .before .before .before .before .before .before .before .before .before .before .before .before), c .struct-known .given))
     (λ c. omega arith)
     (λ c. omega (
       arith,

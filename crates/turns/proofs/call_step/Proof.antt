@@ -2,39 +2,40 @@
 use Prim.Native.Nat.{_-_}
 use native.Mathlib.Omega.{arith}
 use borrow.Author.Needs.{needs}
-use Rattle.tables.specs.Tables.{taskOf}
-use Rattle.turns.proofs.Laws.{enters-does, caller-stays, callee-is}
+use Rattle.turns.proofs.Laws.{enters-does, caller-stays, callee-frame, callee-spill, callee-few}
 use Rattle.turns.proofs.call_step.Statement.{statement}
 use Rattle.turns.proofs.call_step.Tie as tie
 
 returns : tie.Need-returns
 returns c =
-    let e = c .before .before .before .before in
-    let w = e .before .before .before .before .before in
-    let f = w .before .before .before .before in
-    let n = f .before .before in
-    let s = n .before .before .before .before in
-    let p = s .pre in
-    let u = w .put-caller .ensures in (
+    let e = c .before .before .before .before .before .reserve .ensures in
+    let u = c .before .before .before .before .before .before .before .before .before .before .put-caller .ensures in
+    let i = c .before .before .before .before .before .before .before .before .before .before .before .before .before .before .before .span-at .ensures in
+    let n = c .before .before .before .before .before .before .before .before .before .before .before .before .before .before .before .before .before .wide .ensures in
+    let s = c .before .before .before .before .before .before .before .before .before .before .before .before .before .before .before .before .before .before .before .before .before in
+    let p = s .pre in (
       λ v.
-          enters-does _ _ (s .args .x) (f .func-figures .result) _ _ _ _ _ _ _ _ v (p .some) (p .few) (omega (arith, p .figured .room))
-          (f .func-figures .ensures) (n .wide .ensures) u (e .reserve .ensures),
+          enters-does _ _ (s .args .x) _ _ _ _ _ _ _ v (p .some) (p .few) (omega (arith, p .bounded .figured .room)) n (callee-frame p n i)
+          (callee-spill p n) (c .moves-price .ensures) u e,
       caller-stays _ (s .args .x .depth - 1) _ _ (omega (arith, p .some, p .few)) _ u,
     )
 
 reserve-requires : tie.Need-reserve-requires
 reserve-requires c κs =
-    let f = c .before .before .before .before .before .before .before .before in
-    let n = f .before .before in
-    let s = n .before .before .before .before in
-    let k = callee-is (s .args .price) (taskOf (s .args .work .now) (s .args .h)) _ _ _ (f .func-figures .ensures) (n .wide .ensures) in
-    (s .pre .good, omega (arith, k .0, s .pre .room))
+    let p = c .before .before .before .before .before .before .before .before .before .before .before .before .before .before .before .pre in
+    (p .good, omega (arith, callee-frame p (c .before .before .before .before .before .before .before .before .before .before .before .wide .ensures) (c .before .before .before .before .before .before .before .before .before .span-at .ensures), p .room))
 
-add-t19 : tie.Need-add-t19
-add-t19 c =
-    let f = c .before .before .before .before .before .before .before .before .before .before .before .before .before in
-    let s = f .before .before .before .before .before .before in
-    let h = s .pre .few in omega arith
+moves-price-requires : tie.Need-moves-price-requires
+moves-price-requires c κs =
+    let p = c .before .before .before .before .before .before .before .before .before .before .before .before .before .before .before .before .before .before .before .before .pre in (
+      p .bounded .figured .small,
+      callee-few p (c .before .before .before .before .before .before .before .before .before .before .before .before .before .before .before .before .wide .ensures) (c .before .before .before .before .before .before .before .before .before .before .before .before .before .before .span-at .ensures) (c .before .before .before .before .reserve .ensures .blocks),
+      omega arith,
+    )
+
+add-t17 : tie.Need-add-t17
+add-t17 c =
+    let h = c .before .before .before .before .before .before .before .before .before .before .before .before .before .before .before .before .before .before .before .before .pre .few in omega arith
 
 pub call-step-spec : {M : Type 1} → statement M
 call-step-spec =
@@ -44,9 +45,13 @@ call-step-spec =
     (λ c κs. search needs)
     (λ c. search needs)
     (λ c. search needs)
+    (λ c. search needs)
+    (λ c. search needs)
+    (λ c. search needs)
     (λ c κs. search needs)
     reserve-requires
-    add-t19
+    add-t17
+    moves-price-requires
     (λ c. search needs)
     (λ c. search needs)
     returns)

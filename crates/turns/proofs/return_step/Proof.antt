@@ -14,7 +14,7 @@ returns c =
     let f = c .before .before .free .ensures in
     let x = c .before .before .before .before .before .args .x in
     λ z t v cache memory e.
-    leave-does _ _ cache memory _ _ (r .0)
+    leave-does z _ _ cache memory _ _ (r .0)
     (ap (λ (m : Machine). coreOf m cache memory) (r .1) ∙ f cache memory ∙ ap (λ k. free k (coreOf (x .machine) cache memory)) (sym e))
 
 pub return-step-spec : {M : Type 1} → statement M

@@ -2,7 +2,6 @@
 use native.Mathlib.Omega.{arith}
 use borrow.Author.Needs.{needs}
 use Rattle.tables.specs.Tables.{taskOf}
-use Rattle.figures.specs.Figured.{sheetAt}
 use Rattle.turns.proofs.Laws.{stays-same, steps-at}
 use Rattle.turns.proofs.Given.{load-given, store-given, call-given, ensure-given, return-given, frame-same}
 use Rattle.turns.proofs.step.Statement.{statement}
@@ -14,8 +13,8 @@ returns c =
     let s = y .before .before .before .before .before in
     let a = s .args in
     let t = taskOf (a .work .now) (a .h) in (
-      steps-at (sheetAt (a .price) t) t (a .x) (a .y) _ (a .v) (a .work .now) (a .cache .now) (a .memory .now) (y .y .given .1)
-          (c .load-step .ensures (sheetAt (a .price) t) t (a .v) (a .work .now) (a .memory .now)),
+      steps-at (a .price) t (a .x) (a .y) _ (a .v) (a .work .now) (a .cache .now) (a .memory .now) (y .y .given .1)
+          (c .load-step .ensures (a .price) t (a .v) (a .work .now) (a .memory .now)),
       stays-same (a .work .now),
     )
 
@@ -25,8 +24,8 @@ returns-2 c =
     let s = y .before .before .before .before .before in
     let a = s .args in
     let t = taskOf (a .work .now) (a .h) in (
-      steps-at (sheetAt (a .price) t) t (a .x) (a .y) _ (a .v) (a .work .now) (a .cache .now) (a .memory .now) (y .y2 .given .1)
-          (c .before .before .store-step .ensures (sheetAt (a .price) t) t (a .work .now) (a .memory .now)),
+      steps-at (a .price) t (a .x) (a .y) _ (a .v) (a .work .now) (a .cache .now) (a .memory .now) (y .y2 .given .1)
+          (c .before .before .store-step .ensures (a .price) t (a .work .now) (a .memory .now)),
       stays-same (a .work .now),
     )
 
@@ -36,7 +35,7 @@ returns-3 c =
     let s = y .before .before .before .before .before in
     let a = s .args in
     let t = taskOf (a .work .now) (a .h) in (
-      steps-at (sheetAt (a .price) t) t (a .x) (a .y) _ (a .v) (a .work .now) (a .cache .now) (a .memory .now) (y .y3 .given .1)
+      steps-at (a .price) t (a .x) (a .y) _ (a .v) (a .work .now) (a .cache .now) (a .memory .now) (y .y3 .given .1)
           (c .before .before .before .before .call-step .ensures .0 (a .v)),
       c .before .before .before .before .call-step .ensures .1,
     )
@@ -47,7 +46,7 @@ returns-4 c =
     let s = y .before .before .before .before .before in
     let a = s .args in
     let t = taskOf (a .work .now) (a .h) in (
-      steps-at (sheetAt (a .price) t) t (a .x) (a .y) _ (a .v) (a .work .now) (a .cache .now) (a .memory .now) (y .y4 .given .1)
+      steps-at (a .price) t (a .x) (a .y) _ (a .v) (a .work .now) (a .cache .now) (a .memory .now) (y .y4 .given .1)
           (c .before .before .ensure-step .ensures (a .v)),
       stays-same (a .work .now),
     )
@@ -58,8 +57,8 @@ returns-5 c =
     let s = y .before .before .before .before .before in
     let a = s .args in
     let t = taskOf (a .work .now) (a .h) in (
-      steps-at (sheetAt (a .price) t) t (a .x) (a .y) _ (a .v) (a .work .now) (a .cache .now) (a .memory .now) (y .y5 .given .1)
-          (c .goto-step .ensures (sheetAt (a .price) t) t (a .v) (a .work .now) (a .cache .now) (a .memory .now)),
+      steps-at (a .price) t (a .x) (a .y) _ (a .v) (a .work .now) (a .cache .now) (a .memory .now) (y .y5 .given .1)
+          (c .goto-step .ensures (a .price) t (a .v) (a .work .now) (a .cache .now) (a .memory .now)),
       stays-same (a .work .now),
     )
 
@@ -69,8 +68,8 @@ returns-6 c =
     let s = y .before .before .before .before .before in
     let a = s .args in
     let t = taskOf (a .work .now) (a .h) in (
-      steps-at (sheetAt (a .price) t) t (a .x) (a .y) _ (a .v) (a .work .now) (a .cache .now) (a .memory .now) (y .y6 .given .1)
-          (c .either-step .ensures (sheetAt (a .price) t) t (a .work .now) (a .cache .now) (a .memory .now)),
+      steps-at (a .price) t (a .x) (a .y) _ (a .v) (a .work .now) (a .cache .now) (a .memory .now) (y .y6 .given .1)
+          (c .either-step .ensures (a .price) t (a .work .now) (a .cache .now) (a .memory .now)),
       stays-same (a .work .now),
     )
 
@@ -80,8 +79,8 @@ returns-7 c =
     let s = y .before .before .before .before .before in
     let a = s .args in
     let t = taskOf (a .work .now) (a .h) in (
-      steps-at (sheetAt (a .price) t) t (a .x) (a .y) _ (a .v) (a .work .now) (a .cache .now) (a .memory .now) (y .enum-told .given .1)
-          (c .return-step .ensures (sheetAt (a .price) t) t (a .v) (a .cache .now) (a .memory .now) (frame-same (s .pre))),
+      steps-at (a .price) t (a .x) (a .y) _ (a .v) (a .work .now) (a .cache .now) (a .memory .now) (y .enum-told .given .1)
+          (c .return-step .ensures (a .price) t (a .v) (a .cache .now) (a .memory .now) (frame-same (s .pre))),
       stays-same (a .work .now),
     )
 
@@ -95,16 +94,16 @@ ensure-step-requires : tie.Need-ensure-step-requires
 ensure-step-requires c κs =
     let y = c .before .before .before .before in
     let s = y .before .before .before .before .before in
-    let g = ensure-given (s .pre) (y .y4 .given .1) in (s .pre .inside, g .0, g .1)
+    let g = ensure-given (s .pre) (y .y4 .given .1) in (s .pre .inside, g .0, g .1, g .2)
 
 pub step-spec : {M : Type 1} → statement M
 step-spec =
     tie.close
     (tie.spec
     (λ c. search needs)
-    (λ c κs. load-given (c .before .before .before .before .before .before .before .pre) (c .before .before .y .given .1) (omega arith))
+    (λ c κs. load-given (c .before .before .before .before .before .before .before .pre) (c .before .before .y .given .1) (omega (arith, c .before .before .before .before .before .before .before .good)))
     (λ c. search needs)
-    (λ c κs. store-given (c .before .before .before .before .before .before .before .pre) (c .before .before .y2 .given .1) (omega arith))
+    (λ c κs. store-given (c .before .before .before .before .before .before .before .pre) (c .before .before .y2 .given .1) (omega (arith, c .before .before .before .before .before .before .before .good)))
     (λ c. search needs)
     call-step-requires
     (λ c. search needs)
@@ -114,7 +113,7 @@ step-spec =
     (λ c. search needs)
     (λ c κs. search needs)
     (λ c. search needs)
-    (λ c κs. return-given (c .before .before .before .before .before .before .pre) (omega arith))
+    (λ c κs. return-given (c .before .before .before .before .before .before .pre) (omega (arith, c .before .before .before .before .before .before .good)))
     (λ c. search needs)
     returns
     (λ c. search needs)

@@ -10,7 +10,7 @@ returns : tie.Need-returns
 returns c =
     let l = c .before .before .before .before in
     let s = l .before .before .before .before in
-    λ z t w memory. plain-does (s .args .x) _ _ _ _ _ w _ memory _ (s .pre .some) (c .onwards .ensures) (omega arith) refl (l .store .ensures memory)
+    λ z t w memory. plain-does z (s .args .x) _ _ _ _ _ w _ memory _ (s .pre .some) (c .onwards .ensures) (omega arith) refl (l .store .ensures memory)
 
 pub store-step-spec : {M : Type 1} → statement M
 store-step-spec = tie.close (tie.spec (λ c κs. search needs) (λ c. search needs) (λ c κs. search needs) (λ c. search needs) returns)

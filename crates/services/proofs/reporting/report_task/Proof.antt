@@ -1,26 +1,31 @@
 -- The task with its figures is that of the tables; the report is too long for the output, or it is written.
 use native.Mathlib.Omega.{arith}
 use Rattle.tables.proofs.Valid.{kept-later}
-use Rattle.services.proofs.Laws.{cleared-same, too-short, long-enough}
+use Rattle.report.proofs.Limits.{report-small}
+use Rattle.services.proofs.Laws.{cleared-same, output-room, too-short, long-enough}
 use borrow.Author.Needs.{needs}
 use Rattle.services.proofs.reporting.report_task.Statement.{statement}
 use Rattle.services.proofs.reporting.report_task.Tie as tie
 
 returns : tie.Need-returns
 returns c =
-    let f = c .before .before .before .before .before .before .figure-task .ensures in
-    let start = c .before .before .before .before .before .before .before .before .before .before in
-    let s = cleared-same (start .pre .1) (kept-later 7744 (f .2)) in
-    rw (c .refused .ensures) (too-short _ (f .1) s (c .before .before .report-length .ensures .0) (omega (arith, c .before .if1 .taken)))
+    let f = c .before .before .before .before .before .before .before .before .figure-task .ensures in
+    let s = cleared-same (c .before .before .before .before .before .before .before .before .before .before .before .before .pre .1) (kept-later 7744 (f .2)) in
+    rw (c .refused .ensures) (too-short _ _ (f .1) (c .before .before .before .before .output-row .ensures) s (c .before .before .r .given .1))
+
+put-report-requires : tie.Need-put-report-requires
+put-report-requires c κs =
+    (c .before .before .before .before .before .before .before .before .figure-task .ensures .0, output-room _ _ _ (c .before .before .before .before .output-row .ensures) (c .before .before .enum-told .given .1))
+
+cast-t19 : tie.Need-cast-t19
+cast-t19 c = omega (arith, c .before .before .put-report .ensures .0, report-small (c .before .before .before .before .before .before .before .before .before .before .before .figure-task .ensures .0))
 
 returns-2 : tie.Need-returns-2
 returns-2 c =
-    let f = c .before .before .before .before .before .before .before .before .before .before .figure-task .ensures in
-    let start = c .before .before .before .before .before .before .before .before .before .before .before .before .before .before in
-    let s = cleared-same (start .pre .1) (kept-later 7744 (f .2)) in
+    let f = c .before .before .before .before .before .before .before .before .before .before .before .figure-task .ensures in
+    let s = cleared-same (c .before .before .before .before .before .before .before .before .before .before .before .before .before .before .before .pre .1) (kept-later 7744 (f .2)) in
     let p = c .before .before .put-report .ensures in
-    let n = c .before .before .before .before .before .before .report-length .ensures .0 in
-    long-enough _ (f .1) s (p .0) (omega (arith, c .before .before .before .before .before .if1 .left)) (p .1)
+    long-enough _ _ (f .1) (c .before .before .before .before .before .before .before .output-row .ensures) s (c .before .before .before .before .before .enum-told .given .1) (p .0) (p .1)
 
 pub report-task-spec : {M : Type 1} → statement M
 report-task-spec =
@@ -32,8 +37,9 @@ report-task-spec =
     (λ c κs. search needs)
     (λ c. search needs)
     returns
-    (λ c κs. search needs)
     (λ c. search needs)
+    put-report-requires
+    cast-t19
     (λ c. search needs)
     (λ c. search needs)
     returns-2)

@@ -1,4 +1,5 @@
 -- 16, 17 and 18 refuse, or the figures are worked out; then 19 refuses, or the events are run.
+use mathlib.Core.Path.{_∙_}
 use native.Mathlib.Omega.{arith}
 use borrow.Author.Needs.{needs}
 use Rattle.tables.proofs.Valid.{kept-later}
@@ -24,26 +25,21 @@ returns-2 c =
 
 run-events-requires : tie.Need-run-events-requires
 run-events-requires c κs =
-    let f = c .before .before .before .before .before .before .before .before .before .figure-task .ensures .0 in
-    fits f _ _ _ _ (c .before .before .before .before .before .before .before .before .before .before .before .before .before .buffer-row .ensures)
-    (c .before .before .before .before .before .before .before .before .before .before .before .enum-told .given .1)
-    (c .before .before .before .before .before .func-figures .ensures) (omega (arith, c .before .before .before .before .if1 .left))
+    let b = c .before .before .before .before .before .before .bound-task .ensures in
+    fits _ (b .0) (b .1) _ _ _ _ (c .before .before .before .before .before .before .before .before .before .before .before .before .before .before .before .before .before .buffer-row .ensures) (c .before .before .before .before .before .before .before .before .before .before .before .before .before .before .before .enum-told .given .1) (c .before .before .before .before .before .before .before .before .before .func-figures .ensures)
+    (omega (arith, c .before .before .before .before .before .before .before .before .if1 .left))
 
 returns-3 : tie.Need-returns-3
 returns-3 c =
-    let f = c .before .before .before .before .before .before .before .before .before .before .before .before .before .before .before .before .before
-    .before .figure-task .ensures in
-    let p = c .before .before .before .before .before .before .before .before .before .before .before .before .before .before .before .before .before
-    .before .before .before .before .before .before .before .before .before .before .before .pre .1 in
+    let f = c .before .before .before .before .before .before .before .before .before .before .before .before .before .before .before .before .before .before .before .before .before .before .figure-task .ensures in
+    let b = c .before .before .before .before .before .before .before .before .before .before .before .before .before .before .before .bound-task .ensures in
     let r = c .before .before .before .before .before .before .before .before .run-events .ensures in
+    let p = c .before .before .before .before .before .before .before .before .before .before .before .before .before .before .before .before .before .before .before .before .before .before .before .before .before .before .before .before .before .before .before .before .pre .1 in
     let s = cleared-same p (kept-later 7744 (f .2)) in
-    let d = cleared-same (omega (arith, p, f .2 .size)) (kept-later 7616 (r .kept)) in
-    all-run _ _ _ _ _ (c .before .before .before .before .before .before .before .before .before .before .before .before .before .before .before
-    .before .before .before .before .before .before .before .buffer-row .ensures)
-    (c .before .before .before .before .before .before .before .before .before .before .before .before .before .before .before .before .before
-    .before .before .before .enum-told .given .1) (f .1)
-    (c .before .before .before .before .before .before .before .before .before .before .before .before .before .before .func-figures .ensures) s
-    (omega (arith, c .before .before .before .before .before .before .before .before .before .before .before .before .before .if1 .left)) r d
+    let u = cleared-same (omega (arith, p, f .2 .size)) (kept-later 5632 (b .2)) in
+    let d = cleared-same (omega (arith, p, f .2 .size, b .2 .size)) (kept-later 5504 (r .kept)) in
+    all-run _ _ _ _ _ (c .before .before .before .before .before .before .before .before .before .before .before .before .before .before .before .before .before .before .before .before .before .before .before .before .before .before .buffer-row .ensures) (c .before .before .before .before .before .before .before .before .before .before .before .before .before .before .before .before .before .before .before .before .before .before .before .before .enum-told .given .1) (f .1) (c .before .before .before .before .before .before .before .before .before .before .before .before .before .before .before .before .before .before .func-figures .ensures) (u ∙ s) (b .1)
+    (omega (arith, c .before .before .before .before .before .before .before .before .before .before .before .before .before .before .before .before .before .if1 .left)) r d
 
 pub run-task-spec : {M : Type 1} → statement M
 run-task-spec =
@@ -60,6 +56,7 @@ run-task-spec =
     (λ c κs. search needs)
     (λ c. search needs)
     returns-2
+    (λ c κs. c .before .before .before .before .before .before .figure-task .ensures .0)
     run-events-requires
     (λ c. search needs)
     (λ c. search needs)

@@ -1,0 +1,38 @@
+-- What the sheet allows at each event of a run, in columns behind those of the figures; the code has each place as a constant of Bounds.
+use Prim.Native.Nat.{ℕ, _-_}
+use mathlib.Core.List.{List}
+use Rattle.tables.specs.declared.Header.{Header}
+use Rattle.tables.specs.Tables.{taskOf}
+use Rattle.prices.specs.declared.Price.{Price}
+use Rattle.figures.specs.Columns.{columnsEnd, Points, Funcs, Changed}
+use Rattle.figures.specs.Figured.{Figured, sheetAt}
+
+-- of each point, counted over all functions: the cost of a preemption and the fill of an ensure
+abbrev pub costBounds : ℕ
+costBounds = columnsEnd
+
+abbrev pub fillBounds : ℕ
+fillBounds = 9664
+
+-- of each function: the spill of a call
+abbrev pub spillBounds : ℕ
+spillBounds = 10688
+
+-- the numbers that the tables and all columns take, these too
+abbrev pub boundsEnd : ℕ
+boundsEnd = 10752
+
+-- the figures stand, and the columns behind them have what the sheet allows in the functions below n
+pub record BoundedTo (price : Price) (w : List ℕ) (h : Header) (n : ℕ) : Type 0 where
+  pub figured : Figured price w h
+  pub cost : Points (λ f p. sheetAt price (taskOf w h) .at f p .cost) costBounds n w
+  pub fill : Points (λ f p. sheetAt price (taskOf w h) .at f p .fill) fillBounds n w
+  pub spill : Funcs (sheetAt price (taskOf w h) .spill) spillBounds 0 n w
+
+-- in every function: what a run reads
+abbrev pub Bounded : Price → List ℕ → Header → Type 0
+Bounded price w h = BoundedTo price w h (h .funcs)
+
+-- w′ is w but for these columns
+abbrev pub OnlyBounds : List ℕ → List ℕ → Type 0
+OnlyBounds w w′ = Changed columnsEnd (boundsEnd - columnsEnd) w w′
