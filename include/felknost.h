@@ -60,6 +60,9 @@ uint32_t felknost_check(const uint8_t *text, size_t length);
  */
 #define FELKNOST_WORK 16384
 
+/* Bytes of output that are enough for every task and every start and each: no report has more than 63,946. */
+#define FELKNOST_OUTPUT 65536
+
 uint32_t felknost_report(const uint8_t *text, size_t text_length, uint32_t start, uint32_t each, uint8_t *output, size_t output_length,
                          uint32_t *work, size_t work_length, uint64_t *result, size_t result_length);
 

@@ -79,9 +79,12 @@ pub extern "C" fn felknost_report(
     result: &mut [u64],
 ) -> u32
     ensures answer { λ n. ⌜ n ≡ reportNumbers (now (text .entry)) start each (now (work .entry)) (now (output .entry)) (now (result .entry)) .answer ⌝ }
-    ensures result { λ n. ⌜ now (result .exit) ≡ reportNumbers (now (text .entry)) start each (now (work .entry)) (now (output .entry)) (now (result .entry)) .result ⌝ }
-    ensures work { λ n. ⌜ now (work .exit) ≡ reportNumbers (now (text .entry)) start each (now (work .entry)) (now (output .entry)) (now (result .entry)) .work ⌝ }
-    ensures output { λ n. ⌜ now (output .exit) ≡ reportNumbers (now (text .entry)) start each (now (work .entry)) (now (output .entry)) (now (result .entry)) .output ⌝ }
+    ensures result { λ n. ⌜ now (result .exit) ≡ reportNumbers (now (text .entry)) start each (now (work .entry)) (now (output .entry))
+        (now (result .entry)) .result ⌝ }
+    ensures work { λ n. ⌜ now (work .exit) ≡ reportNumbers (now (text .entry)) start each (now (work .entry)) (now (output .entry))
+        (now (result .entry)) .work ⌝ }
+    ensures output { λ n. ⌜ now (output .exit) ≡ reportNumbers (now (text .entry)) start each (now (work .entry)) (now (output .entry))
+        (now (result .entry)) .output ⌝ }
 {
     if result.len() < Numbers::ALL {
         return 0;

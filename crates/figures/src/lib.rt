@@ -272,7 +272,8 @@ fn figure_with(
     figure_funcs(work, h, price, values, gens, kills, sets, state, out);
 }
 
-// Works out all figures of the task that the tables hold, at this price of a move, and keeps them in the columns. The task and everything past the columns are as they were.
+// Works out all figures of the task that the tables hold, at this price of a move, and keeps them in the columns. The task and everything past the
+// columns are as they were.
 pub fn figure_task(work: &mut [u32], h: Header, price: Price)
     requires { ⌜ Settled (now work) h × (workLength ≤ length (now work)) × Small price ⌝ }
     ensures { λ r. ⌜ Figured price (now (work .exit)) h × (taskOf (now (work .exit)) h ≡ taskOf (now (work .entry)) h)

@@ -3,9 +3,9 @@ use Prim.Native.Nat.{ℕ}
 use mathlib.Core.Path.{_≡_, refl}
 use mathlib.Core.List.{List, [], _∷_, _++_}
 use lib.ListN.{replicate}
-use Rattle.model.specs.declared.Row.the-variants.{WorkTooSmall, PriceRange, TextTooLong, Form, StackSize, FrameSize, Offset, TooMany, Callee, Pairing, Target, LastPoint}
-use Rattle.model.specs.declared.Row.the-variants.{Unreachable, Uncalled, Uninitialised, EventList, AnswersTooSmall, CacheSize, MemoryTooSmall}
-use Rattle.model.specs.declared.Row.the-variants.{AfterFinish, Kind, Choice}
+use Rattle.model.specs.declared.Row.the-variants.{WorkTooSmall, PriceRange, TextTooLong, Form, StackSize, FrameSize, Offset, TooMany, Callee, Pairing}
+use Rattle.model.specs.declared.Row.the-variants.{Target, LastPoint, Unreachable, Uncalled, Uninitialised, EventList, AnswersTooSmall}
+use Rattle.model.specs.declared.Row.the-variants.{CacheSize, MemoryTooSmall, AfterFinish, Kind, Choice}
 use Rattle.model.specs.declared.Ending.the-variants.{AllDone, Refused}
 use Rattle.model.specs.Text.{bytes}
 use Rattle.model.specs.Task.{Task, Judged, refused, task}

@@ -196,8 +196,8 @@ abbrev pub plainAs : Judged → List Event → Plain
 plainAs (refused r) es = record { ending = ending.Refused r; done = 0; answers = [] }
 plainAs (task t) es = plain t es
 
--- demand 3, of what a run on these buffers has returned and left, first being the rows before those of the text: it has ended, counted its events and answered as the plain stack does, and it has
--- moved at most what the sheet allows
+-- demand 3, of what a run on these buffers has returned and left: it has ended, counted its events and answered as the plain stack does, and its
+-- moves cost at most what the sheet allows. first: the rows before those of the text
 pub record Demand3 (first : Option Refusal) (text events answers cache memory : List ℕ) (after : AfterRun) : Type 0 where
   pub ending : after .result .ending ≡ plainAs (runJudged first text events answers cache memory) (eventsOf events) .ending
   pub done : after .result .done ≡ plainAs (runJudged first text events answers cache memory) (eventsOf events) .done

@@ -10,13 +10,14 @@ pub struct Price {
 }
 
 impl Price {
-    // What a move of so many blocks costs before its first block. A choice between two numbers and no way out, so that no branch is compiled.
+    // What a move of so many blocks costs before its first block. It is one expression, so that the compiler can choose without a branch.
     fn start_of(self, blocks: u32) -> u32
         ensures { λ r. ⌜ r ≡ startOf self blocks ⌝ }
     {
         if blocks == 0 { 0 } else { self.start }
     }
 
+    // The price of a move of so many blocks.
     pub fn of_move(self, blocks: u32) -> u32
         requires { ⌜ Small self × (blocks ≤ mostStack) ⌝ }
         ensures { λ r. ⌜ (r ≡ priceOf self blocks) × (r ≤ mostPrice) ⌝ }

@@ -40,11 +40,13 @@ abbrev pub mostBound : ℕ
 mostBound = 4294967295
 
 -- w₀, buffer, cache₀ and memory₀ as they were lent; after i events the state is x, m was moved and a is allowed. m and a fit 64 bits
-pub record Loops (price : Price) (h : Header) (events buffer cache₀ memory₀ w₀ : List ℕ) (i : ℕ) (x : State) (m a : ℕ) (answers cache memory w : List ℕ) : Type 0 where
+pub record Loops (price : Price) (h : Header) (events buffer cache₀ memory₀ w₀ : List ℕ) (i : ℕ) (x : State) (m a : ℕ)
+    (answers cache memory w : List ℕ) : Type 0 where
   pub runs : Runs price w h x cache memory
   pub task : taskOf w h ≡ taskOf w₀ h
   pub kept : Kept framesEnd w₀ w
-  pub going : Going (taskOf w₀ h) (sheetAt price (taskOf w₀ h)) (ranOn price (taskOf w₀ h) events cache₀ memory₀) (allowedOn price (taskOf w₀ h) events) buffer i
+  pub going : Going (taskOf w₀ h) (sheetAt price (taskOf w₀ h)) (ranOn price (taskOf w₀ h) events cache₀ memory₀) (allowedOn price
+      (taskOf w₀ h) events) buffer i
       (stateOf w x cache memory) (runs .frames) (eventsOf (drop (2 * i) events)) m a answers
   pub small : m ≤ 2 * mostPrice * i
   pub little : a ≤ mostBound * i
@@ -64,7 +66,8 @@ module _ {price : Price} {h : Header} {events buffer cache₀ memory₀ w₀ : L
         little = omega arith;
       }
 
-  module _ {i : ℕ} {x : State} {m a : ℕ} {answers cache memory w : List ℕ} (l : Loops price h events buffer cache₀ memory₀ w₀ i x m a answers cache memory w) where
+  module _ {i : ℕ} {x : State} {m a : ℕ} {answers cache memory w : List ℕ}
+      (l : Loops price h events buffer cache₀ memory₀ w₀ i x m a answers cache memory w) where
     -- the point that runs is that of the plain stack
     place-same : runningPlace (taskOf w₀ h) (framesOf w x) ≡ running (taskOf w₀ h) (l .runs .frames)
     place-same = ap (runningPlace (taskOf w₀ h)) (l .runs .same) ∙ running-same (taskOf w₀ h) (l .runs .frames)

@@ -3,7 +3,7 @@
 ghost use mathlib.Core.Path.{_≡_};
 ghost use mathlib.Core.Option.{Option};
 ghost use lib.ListN.{length};
-ghost use Rattle.model.specs.declared.Refusal as refusal;
+ghost use Rattle.model.specs.declared.Refusal.{Refusal};
 ghost use Rattle.model.specs.Rows.{rowVerdict};
 ghost use Rattle.model.specs.Refusal.{pricedRows};
 ghost use Rattle.model.specs.Services.{cleared, checkOf, reportOf, runOf, Demand3};
@@ -36,7 +36,7 @@ fn clear(work: &mut [u32])
 // The rows before those of the text have this verdict; then the judgement of the text. A working space that is too small is untouched.
 fn judge_lent(first: Verdict, text: &[u8], work: &mut [u32]) -> Judgement
     requires { ⌜ Passes first (now work) ⌝ }
-    ensures { λ r. ⌜ ((rows : Option refusal.Refusal) → first ≡ rowVerdict rows →
+    ensures { λ r. ⌜ ((rows : Option Refusal) → first ≡ rowVerdict rows →
         Lent rows (now (text .entry)) (now (work .entry)) r (now (work .exit))) ⌝ }
 {
     if let Verdict::Refused(r) = first {

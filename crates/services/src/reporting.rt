@@ -73,7 +73,8 @@ pub fn report_judged(
     work: &mut [u32],
 ) -> WriteResult
     requires { ⌜ ReadyAt price (now work) judgement ⌝ }
-    ensures { λ r. ⌜ Reports price (judgedIn (now (work .entry)) judgement) (now (work .entry)) (now (output .entry)) r (now (work .exit)) (now (output .exit)) ⌝ }
+    ensures { λ r. ⌜ Reports price (judgedIn (now (work .entry)) judgement) (now (work .entry)) (now (output .entry)) r (now (work .exit))
+        (now (output .exit)) ⌝ }
 {
     match judgement {
         Judgement::Refused(r) => refused(r),

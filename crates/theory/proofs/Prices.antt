@@ -1,5 +1,5 @@
--- The price of a move that has a start is a price of moves. With start 0 and each 1 it is the count of blocks, and the figures, the report and the run are those of
--- document 01.
+-- The price of a move that has a start is a price of moves. With start 0 and each 1 it is the count of blocks, and the figures, the report and the
+-- run are those of document 01.
 use Prim.Native.Nat.{ℕ, suc, _+_, _-_, _*_, _≤_}
 use mathlib.Core.List.{List}
 use mathlib.Core.Option.{Option, none, some}

@@ -149,7 +149,8 @@ pub record FirstState (price : Price) (w : List ℕ) (h : Header) (x : State) (c
   pub runs : Runs price w h x cache memory
   pub frames : runs .frames ≡ firstFrames (taskOf w h)
 
-pub begins : {price : Price} {w : List ℕ} {h : Header} {x : State} (cache memory : List ℕ) → Bounded price w h → Started w h (length memory) x → length cache ≡ h .stack
+pub begins : {price : Price} {w : List ℕ} {h : Header} {x : State} (cache memory : List ℕ) → Bounded price w h → Started w h (length memory) x
+    → length cache ≡ h .stack
     → model.longest (taskOf w h) 0 ≤ length memory → FirstState price w h x cache memory
 unfolding places
 begins {price} {w} {h} {x} cache memory k a i j =

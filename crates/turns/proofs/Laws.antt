@@ -70,7 +70,8 @@ nothing-moved : (price : Price) → 0 ≡ priceOf price 0 + priceOf price 0
 nothing-moved price = let e = price-moves (price .start) (price .each) .none in omega (arith, e)
 
 -- a step that moves nothing
-pub plain-does : (price : Price) (x : State) (r : Turned) (p a p′ a′ : ℕ) (w cache memory : List ℕ) (c : Core) → 0 < x .depth → r ≡ plainTurn x p a → p ≡ p′ → a ≡ a′
+pub plain-does : (price : Price) (x : State) (r : Turned) (p a p′ a′ : ℕ) (w cache memory : List ℕ) (c : Core) → 0 < x .depth → r ≡ plainTurn x p a
+    → p ≡ p′ → a ≡ a′
     → coreOf (x .machine) cache memory ≡ c → IsTurn price r w cache memory (onwards (x .f) p′ (placesIn w (x .depth - 1)) c a′ 0 0) 0
 plain-does price x r p a p′ a′ w cache memory c h e i j k =
     rw e
@@ -81,7 +82,8 @@ plain-does price x r p a p′ a′ w cache memory c h e i j k =
     })
 
 -- a step or a preemption that moves blocks, with the callers as they were
-moved-does : (price : Price) (x : State) (r : Turned) (p o b n : ℕ) (w cache memory : List ℕ) (c : Core) → 0 < x .depth → r .state .depth ≡ x .depth → r .state .f ≡ x .f
+moved-does : (price : Price) (x : State) (r : Turned) (p o b n : ℕ) (w cache memory : List ℕ) (c : Core) → 0 < x .depth → r .state .depth ≡ x .depth
+    → r .state .f ≡ x .f
     → r .state .p ≡ p → coreOf (r .state .machine) cache memory ≡ c → r .answer ≡ 0
     → r .moved ≡ priceOf price o + priceOf price b → r .bound ≡ n
     → IsTurn price r w cache memory (onwards (x .f) p (placesIn w (x .depth - 1)) c 0 o b) n
@@ -167,7 +169,8 @@ pub stays-same : (w : List ℕ) → Stays w w
 stays-same w = record { below = λ i l. refl; kept = kept-same framesEnd w }
 
 -- a step that enters function g
-call-does : (price : Price) (x : State) (r : Turned) (w w′ cache memory : List ℕ) (g o n : ℕ) (c : Core) → 0 < x .depth → x .depth ≤ mostFuncs → framesEnd ≤ length w
+call-does : (price : Price) (x : State) (r : Turned) (w w′ cache memory : List ℕ) (g o n : ℕ) (c : Core) → 0 < x .depth → x .depth ≤ mostFuncs
+    → framesEnd ≤ length w
     → w′ ≡ putCaller w (x .depth - 1) (x .f) (x .p + 1) → r .state .depth ≡ x .depth + 1 → r .state .f ≡ g → r .state .p ≡ 0
     → coreOf (r .state .machine) cache memory ≡ c → r .answer ≡ 0
     → r .moved ≡ priceOf price o + priceOf price 0 → r .bound ≡ n

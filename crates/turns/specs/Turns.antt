@@ -26,8 +26,8 @@ use Rattle.turns.specs.declared.State.{State}
 use Rattle.turns.specs.declared.Turned.{Turned}
 use Rattle.turns.specs.Frames.{framesAt, framesEnd, placesIn, framesOf, stateOf, turnOf}
 
--- the working space has the task, its figures and the bounds of its events, and the state is one that a run can be in: what an event starts from. frames: those of the plain
--- stack; sound: the sheet obeys the rules
+-- the working space has the task, its figures and the bounds of its events, and the state is one that a run can be in: what an event starts
+-- from. frames: those of the plain stack; sound: the sheet obeys the rules
 pub record Runs (price : Price) (w : List ℕ) (h : Header) (x : State) (cache memory : List ℕ) : Type 0 where
   pub bounded : Bounded price w h
   pub frames : List Frame
@@ -74,10 +74,12 @@ actOf kind value = act (record { kind = kind; value = value })
 abbrev pub modelTurn : Price → List ℕ → Header → State → List ℕ → List ℕ → Act → run.Turn
 modelTurn price w h x cache memory a = run.turn (taskOf w h) (sheetAt price (taskOf w h)) (stateOf w x cache memory) a
 
--- an event does what the model's turn does and costs what its moves cost, the sheet allows what it allows on any plain stack with these frames, and the working space is as it was
--- but for the callers
-pub record Turns (price : Price) (w : List ℕ) (h : Header) (x : State) (cache memory : List ℕ) (a : Act) (r : Turned) (w′ cache′ memory′ : List ℕ) : Type 0 where
-  pub turn : turnOf w′ r (modelTurn price w h x cache memory a .out) (modelTurn price w h x cache memory a .back) cache′ memory′ ≡ modelTurn price w h x cache memory a
+-- an event does what the model's turn does and costs what its moves cost, the sheet allows what it allows on any plain stack with these frames, and
+-- the working space is as it was but for the callers
+pub record Turns (price : Price) (w : List ℕ) (h : Header) (x : State) (cache memory : List ℕ) (a : Act) (r : Turned)
+    (w′ cache′ memory′ : List ℕ) : Type 0 where
+  pub turn : turnOf w′ r (modelTurn price w h x cache memory a .out)
+      (modelTurn price w h x cache memory a .back) cache′ memory′ ≡ modelTurn price w h x cache memory a
   pub moved : r .moved ≡ priceOf price (modelTurn price w h x cache memory a .out) + priceOf price (modelTurn price w h x cache memory a .back)
   pub bound : (fs : List Frame) → framesOf w x ≡ places fs → r .bound ≡ eventBound (taskOf w h) (sheetAt price (taskOf w h)) fs a
   pub stays : Stays w w′

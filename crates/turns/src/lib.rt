@@ -126,7 +126,8 @@ fn onwards(x: State, p: usize, answer: u32) -> Turned
 
 fn load_step(x: State, cache: &[u32], o: u32) -> Turned
     requires { ⌜ Reaches x (now cache) o ⌝ }
-    ensures { λ r. ⌜ ((price : Price·spec) (t : Task) (v : ℕ) (w memory : List ℕ) → Steps price t x (Load o) v w (now (cache .entry)) memory r w (now (cache .entry)) memory) ⌝ }
+    ensures { λ r. ⌜ ((price : Price·spec) (t : Task) (v : ℕ) (w memory : List ℕ) → Steps price t x (Load o) v w (now (cache .entry)) memory r w
+        (now (cache .entry)) memory) ⌝ }
 {
     let machine = x.machine;
     let answer = machine.load(cache, o);
@@ -135,7 +136,8 @@ fn load_step(x: State, cache: &[u32], o: u32) -> Turned
 
 fn store_step(x: State, cache: &mut [u32], o: u32, v: u32) -> Turned
     requires { ⌜ Reaches x (now cache) o ⌝ }
-    ensures { λ r. ⌜ ((price : Price·spec) (t : Task) (w memory : List ℕ) → Steps price t x (Store o) v w (now (cache .entry)) memory r w (now (cache .exit)) memory) ⌝ }
+    ensures { λ r. ⌜ ((price : Price·spec) (t : Task) (w memory : List ℕ) → Steps price t x (Store o) v w (now (cache .entry)) memory r w
+        (now (cache .exit)) memory) ⌝ }
 {
     let machine = x.machine;
     machine.store(cache, o, v);

@@ -27,6 +27,9 @@ extern "C" {
 /// The numbers that the working space of report and run has at least.
 pub const WORK: usize = 16_384;
 
+/// Bytes of output that are enough for the report of every task at every price.
+pub const OUTPUT: usize = 65_536;
+
 /// Checks a task text: accepted, or refused with a row and a line.
 pub fn check(text: &[u8]) -> Result<(), Refusal> {
     // SAFETY: the function reads `length` bytes from the pointer and nothing else, and returns for every text.

@@ -85,7 +85,7 @@ fn largest_prices() {
         start: 255,
         each: 255,
     };
-    let reported = report_at(text.as_bytes(), dearest, 30_000, WORK_MIN);
+    let reported = report_at(text.as_bytes(), dearest, felknost::OUTPUT, WORK_MIN);
     let written = reported.result.written as usize;
     let sheet = std::str::from_utf8(&reported.output[..written]).expect("a report is text");
     let load = "  (at 1 64 0 1 16575 510 0 32130 49215 0)\n";

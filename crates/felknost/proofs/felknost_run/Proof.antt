@@ -8,7 +8,8 @@ use Rattle.felknost.proofs.felknost_run.Tie as tie
 returns : tie.Need-returns
 returns c =
     let a = c .before .before .before .before .before .before .before .before .args in
-    run-parts (run-too-few (a .text .now) (a .start) (a .each) (a .work .now) (a .events .now) (a .answers .now) (a .cache .now) (a .memory .now) (a .result .now)
+    run-parts (run-too-few (a .text .now) (a .start) (a .each) (a .work .now) (a .events .now) (a .answers .now) (a .cache .now) (a .memory .now)
+    (a .result .now)
     (omega (arith, c .if1 .taken)))
 
 returns-2 : tie.Need-returns-2
@@ -17,7 +18,8 @@ returns-2 c =
     .before .before .before .before .before .before .before .before .args in
     let r = c .before .before .before .before .before .before .before .before .before .before .before .before .run .ensures in
     let p = c .before .before .put-run-numbers .ensures in
-    run-parts (run-enough (a .text .now) (a .start) (a .each) (a .work .now) (a .events .now) (a .answers .now) (a .cache .now) (a .memory .now) (a .result .now)
+    run-parts (run-enough (a .text .now) (a .start) (a .each) (a .work .now) (a .events .now) (a .answers .now) (a .cache .now) (a .memory .now)
+    (a .result .now)
     (omega (
       arith,
       c .before .before .before .before .before .before .before .before .before .before .before .before .before .before .before .before

@@ -8,23 +8,45 @@ use Rattle.figures.proofs.point_figures.Tie as tie
 
 price-above-requires : tie.Need-price-above-requires
 price-above-requires c κs =
-    let a = c .before .before .before .before .before .before .pre in
-    (a .0 .small, omega (arith, c .before .before .before .before .figure-at .ensures, small-high (a .0) (a .1) (a .2) (c .before .before .before .before .before .before .args .p) (a .3)))
+    let a = c .before .before .before .before .before .before .pre in (
+      a .0 .small,
+      omega (
+        arith,
+        c .before .before .before .before .figure-at .ensures,
+        small-high (a .0) (a .1) (a .2)
+            (c .before .before .before .before .before .before .args .p) (a .3),
+      ),
+    )
 
 price-above-requires-2 : tie.Need-price-above-requires-2
 price-above-requires-2 c κs =
-    let a = c .before .before .before .before .before .before .before .pre in
-    (a .0 .small, omega (arith, c .before .before .before .figure-at3 .ensures, small-need (a .0) (a .1) (a .2) (c .before .before .before .before .before .before .before .args .p) (a .3)))
+    let a = c .before .before .before .before .before .before .before .pre in (
+      a .0 .small,
+      omega (
+        arith,
+        c .before .before .before .figure-at3 .ensures,
+        small-need (a .0) (a .1) (a .2)
+            (c .before .before .before .before .before .before .before .args .p) (a .3),
+      ),
+    )
 
 price-above-requires-3 : tie.Need-price-above-requires-3
 price-above-requires-3 c κs =
-    let a = c .before .before .before .before .before .before .before .before .pre in
-    (a .0 .small, omega (arith, c .before .before .before .figure-at4 .ensures, small-next (a .0) (a .1) (a .2) (c .before .before .before .before .before .before .before .before .args .p) (a .3)))
+    let a = c .before .before .before .before .before .before .before .before .pre in (
+      a .0 .small,
+      omega (
+        arith,
+        c .before .before .before .figure-at4 .ensures,
+        small-next (a .0) (a .1) (a .2)
+            (c .before .before .before .before .before .before .before .before .args .p) (a .3),
+      ),
+    )
 
 of-move-requires : tie.Need-of-move-requires
 of-move-requires c κs =
-    let a = c .before .before .before .before .before .before .before .before .before .before .pre in
-    (a .0 .small, omega (arith, c .figure-at5 .ensures, small-fill (a .0) (a .1) (a .2) (c .before .before .before .before .before .before .before .before .before .before .args .p) (a .3)))
+    let c10 = c .before .before .before .before .before .before .before .before .before .before in
+    let a = c10 .pre in
+    (a .0 .small, omega (arith, c .figure-at5 .ensures, small-fill (a .0) (a .1) (a .2) (c10 .args .p) (a .3)))
 
 cost-of-requires : tie.Need-cost-of-requires
 cost-of-requires c κs =
@@ -37,8 +59,9 @@ cost-of-requires c κs =
 
 returns : tie.Need-returns
 returns c =
-    let a = c .before .before .before .before .before .before .before .before .before .before .before .before .pre in
-    let high = c .before .before .before .before .before .before .before .before .before .before .figure-at .ensures in
+    let c10 = c .before .before .before .before .before .before .before .before .before .before in
+    let a = c10 .before .before .pre in
+    let high = c10 .figure-at .ensures in
     let dead = c .before .before .before .before .before .before .before .before .before .figure-at2 .ensures in
     let need = c .before .before .before .before .before .before .before .before .figure-at3 .ensures in
     let next = c .before .before .before .before .before .before .before .figure-at4 .ensures in
@@ -46,7 +69,7 @@ returns c =
     let save = c .before .before .before .before .before .price-above .ensures .0 in
     let reload = c .before .before .before .before .price-above2 .ensures .0 in
     let later = c .before .before .before .price-above3 .ensures .0 in
-    figures-are (a .0) (a .1) (a .2) (c .before .before .before .before .before .before .before .before .before .before .before .before .args .p) (a .3) high dead need next fill save reload later (c .before .of-move .ensures .0)
+    figures-are (a .0) (a .1) (a .2) (c10 .before .before .args .p) (a .3) high dead need next fill save reload later (c .before .of-move .ensures .0)
     (c .cost-of .ensures)
 
 pub point-figures-spec : {M : Type 1} → statement M
@@ -58,5 +81,6 @@ point-figures-spec =
     (λ c κs. let a = c .before .before .before .pre in read-there (a .0) (a .1) (a .2) needColumn (omega arith) (a .3))
     (λ c κs. let a = c .before .before .before .before .pre in read-there (a .0) (a .1) (a .2) nextColumn (omega arith) (a .3))
     (λ c. search needs) (λ c. search needs) (λ c. search needs) price-above-requires price-above-requires-2 price-above-requires-3
-    (λ c κs. let a = c .before .before .before .before .before .before .before .before .before .pre in read-there (a .0) (a .1) (a .2) fillColumn (omega arith) (a .3))
+    (λ c κs. let a = c .before .before .before .before .before .before .before .before .before .pre in read-there (a .0) (a .1) (a .2) fillColumn
+    (omega arith) (a .3))
     of-move-requires cost-of-requires returns)

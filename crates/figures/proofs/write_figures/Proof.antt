@@ -27,13 +27,15 @@ working-at {w} {h} {f} e k = subst (λ (i : ℕ). Working w h f i) e k
 write-figure-requires : tie.Need-write-figure-requires Inv-loop μ-loop
 write-figure-requires c κs =
     let l = c .before .before .before .before .before .before .before .before .before .loop in
-    let e = at-place (omega (arith, c .before .before .before .before .before .before .before .before .loop-test .taken)) (l .inv .0) (c .before .before .before .before .before .before .before .figure-in .ensures) in
+    let e = at-place (omega (arith, c .before .before .before .before .before .before .before .before .loop-test .taken)) (l .inv .0)
+    (c .before .before .before .before .before .before .before .figure-in .ensures) in
     working-at (sym e) (l .inv .1)
 
 loop-again : tie.Need-loop-again Inv-loop μ-loop
 loop-again c =
-    let l = c .before .before .before .before .before .before .before .before .before .before .before .before .loop in
-    let e = at-place (omega (arith, c .before .before .before .before .before .before .before .before .before .before .before .loop-test .taken)) (l .inv .0) (c .before .before .before .before .before .before .before .before .before .before .figure-in .ensures) in
+    let c10 = c .before .before .before .before .before .before .before .before .before .before in
+    let l = c10 .before .before .loop in
+    let e = at-place (omega (arith, c10 .before .loop-test .taken)) (l .inv .0) (c10 .figure-in .ensures) in
     let d = c .before .before .write-figure .ensures in
     (omega (arith, l .inv .0), working-at (omega (arith, e)) (d .0), changed-on (l .inv .2) (d .1))
 

@@ -45,6 +45,11 @@ turn-requires : tie.Need-turn-requires Inv-loop μ-loop
 turn-requires c κs = loops-more (c .before .before .before .before .before .before .before .before .before .before .loop .inv .0) _ _
     (c .before .before .before .enum-told .given .1) (c .before .before .before .before .before .event-row .ensures)
 
+add-moved : tie.Need-add-moved Inv-loop μ-loop
+add-moved c =
+    let c10 = c .before .before .before .before .before .before .before .before .before .before in
+    omega (arith, bounds (c10 .before .before .before .before .before .before .before), c .struct-known .given)
+
 loop-again : tie.Need-loop-again Inv-loop μ-loop
 loop-again c =
     let l = c .before .before .before .before .before .before .before .before .before .before .before .before .before .before .before .before .before
@@ -104,7 +109,7 @@ run-events-spec =
           .before .before),
     ))
     (λ c. omega arith)
-    (λ c. omega (arith, bounds (c .before .before .before .before .before .before .before .before .before .before .before .before .before .before .before .before .before), c .struct-known .given))
+    add-moved
     (λ c. omega arith)
     (λ c. omega (
       arith,

@@ -10,12 +10,14 @@ judge-lent-requires c κs = first-passes _ _ _ (c .before .work-row .ensures) (w
 
 returns : tie.Need-returns
 returns c =
-    let j = c .before .before .before .before .before .before .before .before .judge-lent .ensures _ (c .before .before .before .before .before .before .before .before .before .before .work-row .ensures) in
+    let c10 = c .before .before .before .before .before .before .before .before .before .before in
+    let j = c .before .before .before .before .before .before .before .before .judge-lent .ensures _ (c10 .work-row .ensures) in
     (accepts j (c .enum-told .given .1), checked j (c .before .before .before .before .clear .ensures))
 
 returns-2 : tie.Need-returns-2
 returns-2 c =
-    let j = c .before .before .before .before .before .before .before .before .before .judge-lent .ensures _ (c .before .before .before .before .before .before .before .before .before .before .before .work-row .ensures) in
+    let c10 = c .before .before .before .before .before .before .before .before .before .before in
+    let j = c .before .before .before .before .before .before .before .before .before .judge-lent .ensures _ (c10 .before .work-row .ensures) in
     (refuses j (c .before .judgement .given .1), checked j (c .before .before .before .before .before .clear .ensures))
 
 pub check-spec : {M : Type 1} → statement M

@@ -19,7 +19,8 @@ judge-text-requires c κs =
 returns-2 : tie.Need-returns-2
 returns-2 c rows e =
     let i = c .before .before .before .before .enum-told .given .1 in
-    lent-judged rows _ (verdict-none rows (sym e ∙ i)) (rw i at (c .before .before .before .before .before .before .before .before .pre)) (c .before .before .judge-text .ensures)
+    lent-judged rows _ (verdict-none rows (sym e ∙ i)) (rw i at (c .before .before .before .before .before .before .before .before .pre))
+    (c .before .before .judge-text .ensures)
 
 pub judge-lent-spec : {M : Type 1} → statement M
 judge-lent-spec =

@@ -14,7 +14,8 @@ report-judged-requires c κs =
 
 returns : tie.Need-returns
 returns c =
-    let j = c .before .before .before .before .before .before .before .before .before .before .before .before .before .judge-lent .ensures _ (c .before .before .before .before .before .before .before .before .before .before .before .before .before .before .before .priced-row .ensures) in
+    let c10 = c .before .before .before .before .before .before .before .before .before .before in
+    let j = c10 .before .before .before .judge-lent .ensures _ (c10 .before .before .before .before .before .priced-row .ensures) in
     let r = c .before .before .before .before .before .before .before .before .report-judged .ensures in
     (report-result j r, (report-work j r (c .before .before .clear .ensures), report-output j r))
 

@@ -13,12 +13,15 @@ judge-lent-requires c κs = first-passes _ _ _ (c .before .priced-row .ensures) 
 
 run-judged-requires : tie.Need-run-judged-requires
 run-judged-requires c κs =
-    ready-at _ _ _ _ _ (c .before .before .before .before .before .before .judge-lent .ensures _ (c .before .before .before .before .before .before .before .before .priced-row .ensures))
+    ready-at _ _ _ _ _ (c .before .before .before .before .before .before .judge-lent .ensures _
+    (c .before .before .before .before .before .before .before .before .priced-row .ensures))
 
 returns : tie.Need-returns
 returns c =
-    let j = c .before .before .before .before .before .before .before .before .before .before .before .before .before .before .before .before .before .before .before .judge-lent .ensures _ (c .before .before .before .before .before .before .before .before .before .before .before .before .before .before .before .before .before .before .before .before .before .priced-row .ensures) in
-    let r = c .before .before .before .before .before .before .before .before .before .before .before .before .run-judged .ensures in
+    let c10 = c .before .before .before .before .before .before .before .before .before .before in
+    let c20 = c10 .before .before .before .before .before .before .before .before .before .before in
+    let j = c10 .before .before .before .before .before .before .before .before .before .judge-lent .ensures _ (c20 .before .priced-row .ensures) in
+    let r = c10 .before .before .run-judged .ensures in
     let k = c .before .before .clear .ensures in
     let e = run-left j r k in (
       ap (λ (x : AfterRun). x .result) e,

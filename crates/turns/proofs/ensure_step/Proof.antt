@@ -10,16 +10,19 @@ use Rattle.turns.proofs.ensure_step.Tie as tie
 
 moves-price-requires : tie.Need-moves-price-requires
 moves-price-requires c κs =
-    let p = c .before .before .before .before .before .before .before .before .before .before .before .pre in
-    let a = c .before .before .before .before .before .before .before .before .before .before .before .args in
+    let c10 = c .before .before .before .before .before .before .before .before .before .before in
+    let p = c10 .before .pre in
+    let a = c10 .before .args in
     let o = coreOf (a .x .machine) (a .cache .now) (a .memory .now) in
     (p .0 .bounded .figured .small, omega arith, omega (arith, c .before .before .before .before .ensure .ensures .blocks, ensure-blocks o (a .k), p .3))
 
 returns : tie.Need-returns
 returns c =
+    let c10 = c .before .before .before .before .before .before .before .before .before .before in
     let e = c .before .before .before .before .before .ensure .ensures in
-    let s = c .before .before .before .before .before .before .before .before .before .before .before .before in
-    λ v. ensure-does _ _ (s .args .x) _ _ _ _ v (s .pre .0 .some) _ _ (omega arith) (fill-inside (s .pre .0) (c .before .before .before .before .before .before .before .before .figure-at .ensures))
+    let s = c10 .before .before in
+    λ v. ensure-does _ _ (s .args .x) _ _ _ _ v (s .pre .0 .some) _ _ (omega arith) (fill-inside (s .pre .0)
+    (c .before .before .before .before .before .before .before .before .figure-at .ensures))
     (c .moves-price .ensures) e
 
 pub ensure-step-spec : {M : Type 1} → statement M

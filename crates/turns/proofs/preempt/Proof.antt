@@ -15,10 +15,12 @@ moves-price-requires c κs =
 
 returns : tie.Need-returns
 returns c =
-    let s = c .before .before .before .before .before .before .before .before .before .before .before .before .before .before .before .before in
+    let c10 = c .before .before .before .before .before .before .before .before .before .before in
+    let s = c10 .before .before .before .before .before .before in
     let k = s .pre .0 in
-    preempt-does _ _ (s .args .x) _ _ _ _ _ (k .some) _ _ (dead-inside k (c .before .before .before .before .before .before .before .before .before .before .before .before .figure-at .ensures)) (need-inside k (c .before .before .before .before .before .before .before .before .before .before .before .figure-at2 .ensures))
-    (cost-inside k (c .before .before .before .before .before .before .before .before .before .before .figure-at3 .ensures)) (c .moves-price .ensures) (c .before .before .before .before .before .before .preempt .ensures)
+    preempt-does _ _ (s .args .x) _ _ _ _ _ (k .some) _ _ (dead-inside k (c10 .before .before .figure-at .ensures)) (need-inside k
+    (c10 .before .figure-at2 .ensures))
+    (cost-inside k (c10 .figure-at3 .ensures)) (c .moves-price .ensures) (c .before .before .before .before .before .before .preempt .ensures)
 
 pub preempt-spec : {M : Type 1} → statement M
 preempt-spec =

@@ -101,9 +101,11 @@ step-spec =
     tie.close
     (tie.spec
     (λ c. search needs)
-    (λ c κs. load-given (c .before .before .before .before .before .before .before .pre) (c .before .before .y .given .1) (omega (arith, c .before .before .before .before .before .before .before .good)))
+    (λ c κs. load-given (c .before .before .before .before .before .before .before .pre) (c .before .before .y .given .1) (omega
+    (arith, c .before .before .before .before .before .before .before .good)))
     (λ c. search needs)
-    (λ c κs. store-given (c .before .before .before .before .before .before .before .pre) (c .before .before .y2 .given .1) (omega (arith, c .before .before .before .before .before .before .before .good)))
+    (λ c κs. store-given (c .before .before .before .before .before .before .before .pre) (c .before .before .y2 .given .1) (omega
+    (arith, c .before .before .before .before .before .before .before .good)))
     (λ c. search needs)
     call-step-requires
     (λ c. search needs)

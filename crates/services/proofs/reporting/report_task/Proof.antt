@@ -9,23 +9,31 @@ use Rattle.services.proofs.reporting.report_task.Tie as tie
 
 returns : tie.Need-returns
 returns c =
+    let c10 = c .before .before .before .before .before .before .before .before .before .before in
     let f = c .before .before .before .before .before .before .before .before .figure-task .ensures in
-    let s = cleared-same (c .before .before .before .before .before .before .before .before .before .before .before .before .pre .1) (kept-later 7744 (f .2)) in
+    let s = cleared-same (c10 .before .before .pre .1) (kept-later 7744 (f .2)) in
     rw (c .refused .ensures) (too-short _ _ (f .1) (c .before .before .before .before .output-row .ensures) s (c .before .before .r .given .1))
 
 put-report-requires : tie.Need-put-report-requires
-put-report-requires c κs =
-    (c .before .before .before .before .before .before .before .before .figure-task .ensures .0, output-room _ _ _ (c .before .before .before .before .output-row .ensures) (c .before .before .enum-told .given .1))
+put-report-requires c κs = (
+  c .before .before .before .before .before .before .before .before .figure-task .ensures .0,
+  output-room _ _ _
+      (c .before .before .before .before .output-row .ensures) (c .before .before .enum-told .given .1),
+)
 
 cast-t19 : tie.Need-cast-t19
-cast-t19 c = omega (arith, c .before .before .put-report .ensures .0, report-small (c .before .before .before .before .before .before .before .before .before .before .before .figure-task .ensures .0))
+cast-t19 c =
+    let c10 = c .before .before .before .before .before .before .before .before .before .before in
+    omega (arith, c .before .before .put-report .ensures .0, report-small (c10 .before .figure-task .ensures .0))
 
 returns-2 : tie.Need-returns-2
 returns-2 c =
-    let f = c .before .before .before .before .before .before .before .before .before .before .before .figure-task .ensures in
-    let s = cleared-same (c .before .before .before .before .before .before .before .before .before .before .before .before .before .before .before .pre .1) (kept-later 7744 (f .2)) in
+    let c10 = c .before .before .before .before .before .before .before .before .before .before in
+    let f = c10 .before .figure-task .ensures in
+    let s = cleared-same (c10 .before .before .before .before .before .pre .1) (kept-later 7744 (f .2)) in
     let p = c .before .before .put-report .ensures in
-    long-enough _ _ (f .1) (c .before .before .before .before .before .before .before .output-row .ensures) s (c .before .before .before .before .before .enum-told .given .1) (p .0) (p .1)
+    long-enough _ _ (f .1) (c .before .before .before .before .before .before .before .output-row .ensures) s
+    (c .before .before .before .before .before .enum-told .given .1) (p .0) (p .1)
 
 pub report-task-spec : {M : Type 1} → statement M
 report-task-spec =

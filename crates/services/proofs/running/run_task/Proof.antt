@@ -25,21 +25,29 @@ returns-2 c =
 
 run-events-requires : tie.Need-run-events-requires
 run-events-requires c κs =
+    let c10 = c .before .before .before .before .before .before .before .before .before .before in
     let b = c .before .before .before .before .before .before .bound-task .ensures in
-    fits _ (b .0) (b .1) _ _ _ _ (c .before .before .before .before .before .before .before .before .before .before .before .before .before .before .before .before .before .buffer-row .ensures) (c .before .before .before .before .before .before .before .before .before .before .before .before .before .before .before .enum-told .given .1) (c .before .before .before .before .before .before .before .before .before .func-figures .ensures)
+    fits _ (b .0) (b .1) _ _ _ _ (c10 .before .before .before .before .before .before .before .buffer-row .ensures)
+    (c10 .before .before .before .before .before .enum-told .given .1)
+    (c .before .before .before .before .before .before .before .before .before .func-figures .ensures)
     (omega (arith, c .before .before .before .before .before .before .before .before .if1 .left))
 
 returns-3 : tie.Need-returns-3
 returns-3 c =
-    let f = c .before .before .before .before .before .before .before .before .before .before .before .before .before .before .before .before .before .before .before .before .before .before .figure-task .ensures in
-    let b = c .before .before .before .before .before .before .before .before .before .before .before .before .before .before .before .bound-task .ensures in
+    let c10 = c .before .before .before .before .before .before .before .before .before .before in
+    let c20 = c10 .before .before .before .before .before .before .before .before .before .before in
+    let c30 = c20 .before .before .before .before .before .before .before .before .before .before in
+    let f = c20 .before .before .figure-task .ensures in
+    let b = c10 .before .before .before .before .before .bound-task .ensures in
     let r = c .before .before .before .before .before .before .before .before .run-events .ensures in
-    let p = c .before .before .before .before .before .before .before .before .before .before .before .before .before .before .before .before .before .before .before .before .before .before .before .before .before .before .before .before .before .before .before .before .pre .1 in
+    let p = c30 .before .before .pre .1 in
     let s = cleared-same p (kept-later 7744 (f .2)) in
     let u = cleared-same (omega (arith, p, f .2 .size)) (kept-later 5632 (b .2)) in
     let d = cleared-same (omega (arith, p, f .2 .size, b .2 .size)) (kept-later 5504 (r .kept)) in
-    all-run _ _ _ _ _ (c .before .before .before .before .before .before .before .before .before .before .before .before .before .before .before .before .before .before .before .before .before .before .before .before .before .before .buffer-row .ensures) (c .before .before .before .before .before .before .before .before .before .before .before .before .before .before .before .before .before .before .before .before .before .before .before .before .enum-told .given .1) (f .1) (c .before .before .before .before .before .before .before .before .before .before .before .before .before .before .before .before .before .before .func-figures .ensures) (u ∙ s) (b .1)
-    (omega (arith, c .before .before .before .before .before .before .before .before .before .before .before .before .before .before .before .before .before .if1 .left)) r d
+    all-run _ _ _ _ _ (c20 .before .before .before .before .before .before .buffer-row .ensures)
+    (c20 .before .before .before .before .enum-told .given .1) (f .1)
+    (c10 .before .before .before .before .before .before .before .before .func-figures .ensures) (u ∙ s) (b .1)
+    (omega (arith, c10 .before .before .before .before .before .before .before .if1 .left)) r d
 
 pub run-task-spec : {M : Type 1} → statement M
 run-task-spec =
