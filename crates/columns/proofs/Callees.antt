@@ -14,7 +14,7 @@ use Rattle.model.specs.Limits.{mostFuncs}
 use Rattle.model.specs.Walk.{called}
 use Rattle.model.specs.Figures.{theCalled, callees}
 use Rattle.tables.specs.declared.Span.{Span}
-use Rattle.tables.specs.Tables.{item, pointAt, pointsOf, funcIn}
+use Rattle.tables.specs.Tables.{item, pointAt, pointsOf}
 use Rattle.tables.proofs.Laws.{length-points, point-there}
 use Rattle.columns.specs.Columns.{longestColumn, shortestColumn}
 use Rattle.columns.specs.Values.{numbered, calleeAt, CallFits, BoundedBy}

@@ -17,7 +17,7 @@ use Rattle.tables.proofs.Writes.{points-agree}
 use Rattle.problems.specs.Problems.{Filled}
 use Rattle.prices.specs.declared.Price.{Price}
 use Rattle.prices.specs.Prices.{priceOf, Small}
-use Rattle.columns.specs.Columns.{columnsEnd, highColumn, longestColumn, entryColumn, chainColumn, Points, Funcs, Changed, OnlyColumns}
+use Rattle.columns.specs.Columns.{columnsEnd, highColumn, entryColumn, chainColumn, Points, Funcs, Changed, OnlyColumns}
 use Rattle.columns.specs.Values.{mostChain, chainedAt, Put, raisedBy, Raised}
 use Rattle.columns.proofs.Writes.{changed-on, changed-wider, changed-agree, points-kept, funcs-kept, stacked-order, changed-past}
 use Rattle.figures.specs.declared.Figure.{Figure}

@@ -1,10 +1,10 @@
 -- The price of a move in two parts; that of at most a whole cache fits.
 use Prim.Native.Nat.{ℕ, _+_, _*_, _≤_}
-use mathlib.Core.Path.{_≡_, refl, ap}
+use mathlib.Core.Path.{_≡_, refl}
 use native.Mathlib.Omega.{arith}
 use native.Mathlib.Nat.{mul-le-mul}
 use borrow.Author.Tests.{eq-eqb, ne-eqb}
-use Rattle.model.specs.Limits.{mostStack, mostStart, mostEach}
+use Rattle.model.specs.Limits.{mostStack}
 use Rattle.theory.proofs.Prices.{by-price}
 use Rattle.prices.specs.declared.Price.{Price}
 use Rattle.prices.specs.Prices.{priceOf, startOf, Small, mostPrice}

@@ -6,7 +6,7 @@ use mathlib.Core.Path.{_≡_, refl, ap, sym, _∙_}
 use mathlib.Core.List.{List, [], _∷_, _++_, map, append-assoc}
 use lib.ListN.{length, length-append}
 use Rattle.model.specs.Limits.{mostPoints}
-use Rattle.model.specs.Basic.{joined, upTo}
+use Rattle.model.specs.Basic.{joined}
 use Rattle.model.specs.Text.{bytes}
 use Rattle.model.specs.Task.{Task}
 use Rattle.model.specs.Sheet as sheet

@@ -11,7 +11,6 @@ use Rattle.model.specs.declared.Verdict.the-variants as verdict
 use Rattle.model.specs.declared.Ending.{Ending}
 use Rattle.model.specs.declared.Ending.the-variants.{AllDone, Refused}
 use Rattle.model.specs.declared.RunResult.{RunResult}
-use Rattle.model.specs.Limits.{mostStack}
 use Rattle.model.specs.Rows.{rowVerdict}
 use Rattle.model.specs.Task.{Task}
 use Rattle.model.specs.Core.{Core}

@@ -15,7 +15,7 @@ use Rattle.model.specs.Basic.{_orElse_}
 use Rattle.model.specs.Rows.{refuse, rowVerdict}
 use Rattle.model.specs.Refusal.{workRow, priceRow, pricedRows}
 use Rattle.theory.proofs.Lists.{and-holds}
-use Rattle.theory.proofs.Firsts.{row-none, unless-none}
+use Rattle.theory.proofs.Firsts.{unless-none}
 use Rattle.theory.proofs.Search.{verdict-none, verdict-some}
 use Rattle.prices.specs.declared.Price.{Price}
 use Rattle.prices.specs.Prices.{Small}

@@ -22,7 +22,6 @@ use Rattle.theory.proofs.Accepted.{accepted}
 use Rattle.theory.proofs.Firsts.{unless-none}
 use Rattle.theory.proofs.Search.{verdict-none, verdict-some}
 use Rattle.tables.specs.declared.Header.{Header}
-use Rattle.tables.specs.Layout.{tablesLength}
 use Rattle.tables.specs.Valid.{Kept}
 use Rattle.tables.proofs.Valid.{kept-later}
 use Rattle.judge.specs.declared.Judgement.{Judgement}

@@ -13,7 +13,6 @@ use Rattle.model.specs.declared.Verdict.the-variants as verdict
 use Rattle.model.specs.declared.Row.the-variants.{AfterFinish, Kind, Choice}
 use Rattle.model.specs.Rows.{refuse, rowVerdict}
 use Rattle.model.specs.Task.{Task, func, point}
-use Rattle.model.specs.Core.{Core}
 use Rattle.model.specs.Refusal.{isEither, eventRows}
 use Rattle.model.specs.Plain.{Frame, Act, takes, preempted, act}
 use Rattle.model.specs.Run as run

@@ -17,7 +17,7 @@ use Rattle.model.specs.Run.{Place}
 use Rattle.model.specs.WellFormed.{WellFormed}
 use Rattle.theory.proofs.Lists.{or-holds}
 use Rattle.theory.proofs.Links.{callee-later}
-use Rattle.theory.proofs.Frames.{places, place, In, Below, Standing, Window}
+use Rattle.theory.proofs.Frames.{places, place, In, Below, Standing}
 use Rattle.theory.proofs.Window.{room-below, ensures-frame, touched-cached}
 use Rattle.theory.proofs.Fair.{Running}
 use Rattle.tables.specs.declared.Header.{Header}

@@ -14,7 +14,7 @@ ghost use Rattle.model.specs.Run.{runningPlace};
 ghost use Rattle.tables.specs.Tables.{taskOf};
 ghost use Rattle.tables.specs.Valid.{Settled};
 ghost use Rattle.prices.specs.declared.Price.{Price as Price·spec};
-ghost use Rattle.prices.specs.Prices.{priceOf, mostPrice, Small};
+ghost use Rattle.prices.specs.Prices.{priceOf, Small};
 ghost use Rattle.machine.specs.Moves.{coreOf, Good};
 ghost use Rattle.turns.specs.Frames.{framesEnd, placesIn, putCaller, framesOf, plainTurn};
 ghost use Rattle.turns.specs.Turns.{Runs, Placed, Stays, Steps, IsPreemption, Turns, actOf, Started, Reaches, Inside, Enters, Leaves, StandsAt};

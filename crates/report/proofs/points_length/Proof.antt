@@ -8,7 +8,6 @@ use Rattle.print.proofs.Laws.{none-length, next-length}
 use Rattle.report.specs.Report.{pointText, pointsText}
 use Rattle.report.proofs.Laws.{size-low}
 use Rattle.report.proofs.Limits.{points-small}
-use borrow.Author.Needs.{needs}
 use Rattle.report.proofs.points_length.Statement.{statement}
 use Rattle.report.proofs.points_length.Tie as tie
 

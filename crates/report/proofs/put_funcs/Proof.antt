@@ -1,13 +1,12 @@
 -- The loop's invariant: the lines of the first f functions are written, and end at byte end.
 use native.Mathlib.Omega.{arith}
-use Prim.Native.Nat.{_+_, _-_, _*_, _≤_}
+use Prim.Native.Nat.{_-_, _≤_}
 use mathlib.Core.Path.{_≡_, refl}
 use lib.ListN.{length}
 use Rattle.tables.specs.Tables.{taskOf}
 use Rattle.print.specs.Print.{Wrote}
 use Rattle.print.proofs.Laws.{none-wrote, next-wrote, next-room}
 use Rattle.report.specs.Report.{funcText, funcsText}
-use borrow.Author.Needs.{needs}
 use Rattle.report.proofs.put_funcs.Statement.{statement}
 use Rattle.report.proofs.put_funcs.Tie as tie
 

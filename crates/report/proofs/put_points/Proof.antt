@@ -1,6 +1,6 @@
 -- The loop's invariant: the lines of the first p points are written, and end at byte end.
 use native.Mathlib.Omega.{arith}
-use Prim.Native.Nat.{_+_, _-_, _*_, _≤_}
+use Prim.Native.Nat.{_-_, _≤_}
 use mathlib.Core.Path.{_≡_, refl}
 use lib.ListN.{length}
 use Rattle.tables.specs.Tables.{taskOf}
@@ -8,7 +8,6 @@ use Rattle.print.specs.Print.{Wrote}
 use Rattle.print.proofs.Laws.{none-wrote, next-wrote, next-room}
 use Rattle.report.specs.Report.{pointText, pointsText}
 use Rattle.report.proofs.Laws.{size-low}
-use borrow.Author.Needs.{needs}
 use Rattle.report.proofs.put_points.Statement.{statement}
 use Rattle.report.proofs.put_points.Tie as tie
 

@@ -8,7 +8,6 @@ use Rattle.print.proofs.Laws.{none-length, next-length}
 use Rattle.report.specs.Report.{funcText, funcsText, endsText}
 use Rattle.report.proofs.Laws.{report-size}
 use Rattle.report.proofs.Limits.{report-small, funcs-small}
-use borrow.Author.Needs.{needs}
 use Rattle.report.proofs.report_length.Statement.{statement}
 use Rattle.report.proofs.report_length.Tie as tie
 

@@ -1,8 +1,6 @@
 -- The sum of two prices, each of a move of its own.
-use mathlib.Core.Path.{_≡_}
 use Prim.Native.Nat.{_+_}
 use native.Mathlib.Omega.{arith}
-use borrow.Author.Needs.{needs}
 use Rattle.turns.proofs.moves_price.Statement.{statement}
 use Rattle.turns.proofs.moves_price.Tie as tie
 
