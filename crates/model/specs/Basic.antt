@@ -1,8 +1,9 @@
 -- Small functions on tests, lists and numbers that the other files share.
 use Prim.Native.Nat.{ℕ, zero, suc, _+_, min, max}
-use mathlib.Core.Bool.{Bool, true, false, _||_}
+use mathlib.Core.Bool.{Bool, true, false, _&&_, _||_}
 use mathlib.Core.List.{List, [], _∷_, _++_}
 use mathlib.Core.Option.{Option, none, some}
+use lib.Dec.{ltb, eqb}
 
 infix 5 if_then_else_
 abbrev pub if_then_else_ {ℓ} : {A : Type ℓ} → Bool → A → A → A
@@ -76,3 +77,23 @@ lowestFrom t i (suc n) = if t i then i else lowestFrom t (suc i) n
 -- the smallest number below n that passes the test, or n if none does
 abbrev pub lowest : (ℕ → Bool) → ℕ → ℕ
 lowest t n = lowestFrom t 0 n
+
+-- lexicographic comparison: the smaller number goes first, the larger number goes first; where both are the same, the rest decides
+abbrev pub smallerFirst : ℕ → ℕ → Bool → Bool
+smallerFirst a b rest = ltb a b || eqb a b && rest
+
+abbrev pub largerFirst : ℕ → ℕ → Bool → Bool
+largerFirst a b rest = smallerFirst b a rest
+
+-- x put into a list, before the first element that it comes before
+unfoldable pub inserted : {A : Type 0} → (A → A → Bool) → A → List A → List A
+inserted before x [] = x ∷ []
+inserted before x (y ∷ l) = if before x y then x ∷ y ∷ l else y ∷ inserted before x l
+
+-- insertion sort: the elements of r put one after the other into l, and into the empty list
+unfoldable pub sortedOnto : {A : Type 0} → (A → A → Bool) → List A → List A → List A
+sortedOnto before l [] = l
+sortedOnto before l (x ∷ r) = sortedOnto before (inserted before x l) r
+
+abbrev pub sorted : {A : Type 0} → (A → A → Bool) → List A → List A
+sorted before r = sortedOnto before [] r

@@ -5,14 +5,16 @@ use mathlib.Core.List.{List, [], _∷_, _++_}
 use lib.ListN.{replicate}
 use Rattle.model.specs.declared.Row.the-variants.{WorkTooSmall, PriceRange, TextTooLong, Form, StackSize, FrameSize, Offset, TooMany, Callee, Pairing}
 use Rattle.model.specs.declared.Row.the-variants.{Target, LastPoint, Unreachable, Uncalled, Uninitialised, EventList, AnswersTooSmall}
-use Rattle.model.specs.declared.Row.the-variants.{CacheSize, MemoryTooSmall, AfterFinish, Kind, Choice}
+use Rattle.model.specs.declared.Row.the-variants.{OutputTooSmall, CacheSize, MemoryTooSmall, AfterFinish, Kind, Choice}
+use Rattle.model.specs.declared.Verdict.the-variants as verdict
 use Rattle.model.specs.declared.Ending.the-variants.{AllDone, Refused}
 use Rattle.model.specs.Text.{bytes}
 use Rattle.model.specs.Task.{Task, Judged, refused, task}
 use Rattle.model.specs.Sheet.{movePrice, inBlocks, reportText}
+use Rattle.model.specs.Dearest.{dearestText}
 use Rattle.model.specs.Rows.{refuse}
 use Rattle.model.specs.Refusal.{judged, workRow, pricedRows, judge, noRows}
-use Rattle.model.specs.Services.{runOf}
+use Rattle.model.specs.Services.{dearestOf, runOf}
 use Rattle.model.specs.Opened.{opened}
 use Rattle.model.specs.Examples.{lines, sample, sevenSteps, withPreemption}
 
@@ -265,3 +267,40 @@ pub priceRows :
     × (judge (pricedRows 16384 0 1) noRows sample ≡ judged sample)
 unfolding opened lines sample
 priceRows = (refl, refl, refl, refl, refl, refl, refl, refl)
+
+-- document 02, request 2, on the example of document 01, whose eight points are all listed: in blocks, at a price, and what the service returns and leaves
+-- of an output with six bytes more than the list, and of one that is a byte too short
+abbrev dearestLines : List ℕ
+dearestLines =
+    lines ("(dear 1 1 7)" ∷ "(dear 0 1 2)" ∷ "(dear 0 3 2)" ∷ "(dear 1 0 2)" ∷ "(dear 1 2 2)" ∷ "(dear 0 2 1)" ∷ "(dear 0 0 0)" ∷ "(dear 0 4 0)" ∷ [])
+
+pub dearestPoints :
+    (dearestText inBlocks (the (judged sample)) ≡ dearestLines)
+    × (dearestText (movePrice 10 1) (the (judged sample))
+    ≡ lines ("(dear 1 1 37)" ∷ "(dear 0 1 22)" ∷ "(dear 0 3 22)" ∷ "(dear 1 0 22)" ∷ "(dear 1 2 22)" ∷ "(dear 0 2 11)"
+    ∷ "(dear 0 0 0)" ∷ "(dear 0 4 0)" ∷ []))
+    × (dearestOf sample 0 1 space (replicate 110 7)
+    ≡ record {
+      result = record { verdict = verdict.Accepted; written = 104 };
+      work = spaceAfter;
+      output = dearestLines ++ replicate 6 7;
+    })
+    × (dearestOf sample 0 1 space (replicate 103 7)
+    ≡ record {
+      result = record { verdict = verdict.Refused (refuse OutputTooSmall 104); written = 0 };
+      work = spaceAfter;
+      output = replicate 103 7;
+    })
+unfolding opened lines sample
+dearestPoints = (refl, refl, refl, refl)
+
+-- ten of nineteen points: equal costs go by function and then by point, also where the tenth costs as much as the eleventh
+pub dearestTies :
+    dearestText inBlocks (the (judged (lines ("(stack 6)" ∷ "(func 0" ∷ "  (goto 1)" ∷ "  (call 1)" ∷ "  (ensure 0)"
+    ∷ "  (goto 4)" ∷ "  (goto 5)" ∷ "  (goto 4)" ∷ ")" ∷ "(func 6" ∷ "  (store 2)" ∷ "  (store 5)" ∷ "  (store 1)"
+    ∷ "  (call 2)" ∷ "  (ensure 6)" ∷ "  (call 2)" ∷ "  (ensure 6)" ∷ "  (store 2)" ∷ "  (either 9 9)" ∷ "  (return)" ∷ ")"
+    ∷ "(func 5" ∷ "  (store 2)" ∷ "  (store 0)" ∷ "  (goto 2)" ∷ ")" ∷ []))))
+    ≡ lines ("(dear 2 0 2)" ∷ "(dear 2 1 2)" ∷ "(dear 2 2 2)" ∷ "(dear 1 3 1)" ∷ "(dear 1 4 1)" ∷ "(dear 1 5 1)"
+    ∷ "(dear 1 6 1)" ∷ "(dear 0 0 0)" ∷ "(dear 0 1 0)" ∷ "(dear 0 2 0)" ∷ [])
+unfolding opened lines
+dearestTies = refl

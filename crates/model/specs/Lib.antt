@@ -1,4 +1,4 @@
--- Every definition of document 01, in its order. This folder is what a reader has to believe.
+-- Every definition of document 01, in its order, with those of the requests that have landed. This folder is what a reader has to believe.
 pub mod Basic
 pub mod Limits
 pub mod Rows
@@ -8,6 +8,7 @@ pub mod Walk
 pub mod Core
 pub mod Figures
 pub mod Sheet
+pub mod Dearest
 pub mod Refusal
 pub mod WellFormed
 pub mod Plain

@@ -33,3 +33,7 @@ mostStart = 255
 
 abbrev pub mostEach : ℕ
 mostEach = 255
+
+-- points in the list of the dearest
+abbrev pub mostDearest : ℕ
+mostDearest = 10

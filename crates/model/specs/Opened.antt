@@ -6,6 +6,7 @@ use Rattle.model.specs.Walk as Walk
 use Rattle.model.specs.Core as Core
 use Rattle.model.specs.Figures as Figures
 use Rattle.model.specs.Sheet as Sheet
+use Rattle.model.specs.Dearest as Dearest
 use Rattle.model.specs.Refusal as Refusal
 use Rattle.model.specs.Plain as Plain
 use Rattle.model.specs.Run as Run
@@ -13,15 +14,16 @@ use Rattle.model.specs.Services as Services
 
 unfoldable pub opened : Unit {0}
 unfolding Basic.firstOf Basic.any Basic.select Basic.joined Basic.sumOf Basic.largest Basic.smallest Basic.countFrom Basic.aboveAll Basic.lowestFrom
+    Basic.inserted Basic.sortedOnto
     Text.starts Text.digits Text.value Text.numberThen Text.oneNumber Text.numbersThen Text.twoNumbers Text.pointForm Text.lineOf Text.linesFrom
     Task.funcLine Task.readLine Task.readEnd Task.readFrom Walk.leads Walk.meets Walk.sources Walk.arrival Core.spilled Core.filled Core.reserve
     Core.free Core.ensure Core.load Core.store Core.save Core.resume Figures.reached Figures.uninitialised Figures.live Figures.dead
     Figures.need Figures.callees Figures.callFree Figures.longestTo Figures.shortestTo Figures.longest Figures.shortest Figures.fill
     Figures.after Figures.highFrom Figures.callPoints Figures.overCalls Figures.entryTo Figures.entry Figures.high Figures.spill Figures.chainTo
     Figures.chain Figures.firstEnsure Figures.keptNext Sheet.movePrice Sheet.costed Sheet.recordsIn Sheet.recordsOf Sheet.decimalTo Sheet.decimal Sheet.row
-    Sheet.funcRow Sheet.pointRow Sheet.funcRows Sheet.reportWith Refusal.linkRow Refusal.reachRow Refusal.loadRow Refusal.callRow
+    Sheet.funcRow Sheet.pointRow Sheet.funcRows Sheet.reportWith Dearest.dearer Dearest.dearest Dearest.dearRow Dearest.dearestWith Refusal.linkRow Refusal.reachRow Refusal.loadRow Refusal.callRow
     Refusal.firstPoint Refusal.taskRows Refusal.judged Refusal.workRow Refusal.priceRow Refusal.judge Refusal.outputRows Refusal.runRows Refusal.eventRows
     Plain.act Plain.eventsOf Plain.afterEvent Plain.answerOf Plain.plainFrom Run.turn Run.ranFrom Run.eventBound Run.allowedFrom
     Services.cleared Services.over Services.verdictOf Services.checkOf Services.checkNumber Services.writtenOf
-    Services.reportNumbers Services.runJudged Services.runWith Services.runNumbers
+    Services.writeNumbers Services.runJudged Services.runWith Services.runNumbers
 opened = tt

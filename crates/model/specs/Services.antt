@@ -1,4 +1,4 @@
--- What check, report and run return and what every lent buffer holds afterwards, for every input; and demand 3 of run.
+-- What each service returns and what every lent buffer holds afterwards, for every input; and demand 3 of run.
 use Prim.Native.Nat.{ℕ, _≤_}
 use mathlib.Core.List.{List, [], _∷_, _++_}
 use mathlib.Core.Option.{Option}
@@ -17,6 +17,7 @@ use Rattle.model.specs.Rows.{packed, verdictCode, verdictPlace, endingCo
 use Rattle.model.specs.Basic.{if_then_else_}
 use Rattle.model.specs.Task.{Task, Judged, refused, task}
 use Rattle.model.specs.Sheet.{movePrice, inBlocks, pricedSheet, reportText}
+use Rattle.model.specs.Dearest.{dearestText}
 use Rattle.model.specs.Refusal.{judged, workRow, pricedRows, judge, noRows, outputRows, runRows}
 use Rattle.model.specs.Core.{idle}
 use Rattle.model.specs.Plain.{Event, eventsOf, Plain, plain}
@@ -81,6 +82,11 @@ reportOf text start each work output =
 abbrev pub blocksReportOf : List ℕ → List ℕ → List ℕ → AfterWrite
 blocksReportOf text work output = writtenOf (workRow (length work)) (reportText inBlocks) text work output
 
+-- the dearest points, at a price as for the report
+abbrev pub dearestOf : List ℕ → ℕ → ℕ → List ℕ → List ℕ → AfterWrite
+dearestOf text start each work output =
+    writtenOf (pricedRows (length work) start each) (dearestText (movePrice start each)) text work output
+
 -- a service that writes bytes, as C calls it: its answer, and a buffer whose first three numbers are code, place and bytes written
 pub record AfterCall : Type 0 where
   pub answer : ℕ
@@ -95,12 +101,21 @@ abbrev pub calledAs : AfterWrite → List ℕ → AfterCall
 calledAs after result =
     record { answer = 1; result = over (resultNumbers (after .result)) result; work = after .work; output = after .output }
 
--- report; where the buffer of the result has fewer than three numbers, the answer is 0 and nothing is touched
-unfoldable pub reportNumbers : List ℕ → ℕ → ℕ → List ℕ → List ℕ → List ℕ → AfterCall
-reportNumbers text start each work output result =
+-- after: what the service returns and leaves of work and output. Where the buffer of the result has fewer than three numbers, the answer is 0 and
+-- nothing is touched
+unfoldable pub writeNumbers : AfterWrite → List ℕ → List ℕ → List ℕ → AfterCall
+writeNumbers after work output result =
     if ltb (length result) 3
     then record { answer = 0; result = result; work = work; output = output }
-    else calledAs (reportOf text start each work output) result
+    else calledAs after result
+
+abbrev pub reportNumbers : List ℕ → ℕ → ℕ → List ℕ → List ℕ → List ℕ → AfterCall
+reportNumbers text start each work output result =
+    writeNumbers (reportOf text start each work output) work output result
+
+abbrev pub dearestNumbers : List ℕ → ℕ → ℕ → List ℕ → List ℕ → List ℕ → AfterCall
+dearestNumbers text start each work output result =
+    writeNumbers (dearestOf text start each work output) work output result
 
 -- run: its result, the working space, the answers, the cache and the memory
 pub record AfterRun : Type 0 where

@@ -22,6 +22,8 @@ impl Limits {
     pub const START: u32 = 255;
 
     pub const EACH: u32 = 255;
+    // Points in the list of the dearest.
+    pub const DEAREST: usize = 10;
 }
 
 // A point of a function. Offsets, callees, frame sizes and targets are numbers of the text.
