@@ -1,15 +1,18 @@
 -- How large the figures of a task can be.
-use Prim.Native.Nat.{ℕ, zero, suc, pred, _+_, _-_, _*_, _≤_, min}
+use Prim.Native.Nat.{ℕ, zero, suc, pred, _+_, _-_, _*_, _≤_, _<_, min}
 use native.Mathlib.Omega.{arith}
 use mathlib.Core.Option.{Option, none, some}
 use lib.Dec.{eqb}
 use Rattle.model.specs.Basic.{upTo}
-use Rattle.model.specs.Limits.{mostStack}
+use Rattle.model.specs.Limits.{mostStack, mostFuncs}
 use Rattle.model.specs.Task.{Task, size, count, func, point}
 use Rattle.model.specs.Walk.{carried, arrival, sources, leads, called, isEnsure}
-use Rattle.model.specs.Figures.{fillAfter, fill, cutBy, after, highFrom, callPoints, overCalls, entryTo, entry, high, kept, chainTo, chain, keptNext}
+use Rattle.model.specs.Figures.{dead, need, fillAfter, fill, cutBy, after, highFrom, callPoints, overCalls, entryTo, entry, high, kept, chainTo, chain}
+use Rattle.model.specs.Figures.{keptNext}
+use Rattle.model.specs.Sheet.{costed, pricedSheet}
 use Rattle.model.specs.WellFormed.{Shaped}
 use Rattle.theory.proofs.Lists.{by-test, by-max, by-largest}
+use Rattle.theory.proofs.Rules.{need-frame}
 use Rattle.prices.specs.declared.Price.{Price}
 use Rattle.prices.specs.Prices.{priceOf, mostPrice, Small}
 use Rattle.prices.proofs.Laws.{price-small}
@@ -99,3 +102,14 @@ module _ {t : Task} (s : Shaped t) where
   pub entry-low : (f : ℕ) → entry t f ≤ mostStack
   unfolding entry
   entry-low f = entry-to f f
+
+  -- the cost: three moves, and a chain of at most 63 callers
+  pub cost-low : (price : Price) → Small price → (f p : ℕ) → f < mostFuncs → pricedSheet (priceOf price) t .at f p .cost ≤ mostPrice * (mostFuncs + 2)
+  unfolding costed
+  cost-low price small f p l =
+      let x = func t f in
+      let frame = frame-low s f in
+      let save = price-small price (high t f p - dead x p) small (omega (arith, high-low f p)) in
+      let reload = price-small price (need x p - dead x p) small (omega (arith, need-frame x p, s .stack-high)) in
+      let later = price-small price (keptNext t f p - need x p) small (omega (arith, next-low f p)) in
+      omega (arith, chain-low price small f)

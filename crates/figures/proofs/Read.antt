@@ -4,7 +4,7 @@ use native.Mathlib.Omega.{arith}
 use mathlib.Core.List.{List}
 use lib.ListN.{length}
 use mathlib.Core.Path.{_≡_, ap, sym, subst, _∙_}
-use Rattle.model.specs.Limits.{mostStack, mostInAll}
+use Rattle.model.specs.Limits.{mostStack, mostPoints, mostInAll}
 use Rattle.model.specs.Task.{func}
 use Rattle.model.specs.Figures as model
 use Rattle.model.specs.Sheet.{costed}
@@ -14,15 +14,23 @@ use Rattle.tables.specs.declared.Span.{Span}
 use Rattle.tables.specs.Tables.{item, spanAt, taskOf}
 use Rattle.tables.specs.Valid.{Lies}
 use Rattle.tables.proofs.Laws.{frame-is}
-use Rattle.tables.proofs.Valid.{lies-in}
+use Rattle.tables.proofs.Valid.{lies-in, settled-fits}
 use Rattle.prices.specs.declared.Price.{Price}
 use Rattle.prices.specs.Prices.{priceOf}
 use Rattle.columns.specs.Columns.{highColumn, deadColumn, needColumn, nextColumn, fillColumn, longestColumn, shortestColumn, entryColumn}
 use Rattle.columns.specs.Columns.{chainColumn, Points}
-use Rattle.figures.specs.Figured.{Figured, figuredOf, sheetAt, funcFigures}
+use Rattle.figures.specs.Figured.{Figured, InFunc, figuredOf, sheetAt, funcFigures}
 use Rattle.columns.specs.Values.{mostChain}
 use Rattle.columns.proofs.Limits.{frame-low}
 use Rattle.figures.proofs.Limits.{high-low, next-low, fill-low, chain-low, entry-low}
+
+-- function f as it is read
+pub there : {price : Price} {w : List ℕ} {h : Header} {f : ℕ} {s : Span} → Figured price w h → f < h .funcs → s ≡ spanAt w f → InFunc price w h f s
+there k l e = record { figured = k; low = l; span = e }
+
+-- a function has few points
+pub size-low : {price : Price} {w : List ℕ} {h : Header} {f : ℕ} {s : Span} → InFunc price w h f s → s .size ≤ mostPoints
+size-low {f = f} k = omega (arith, ap (λ (s : Span). s .size) (k .span), settled-fits (k .figured .settled) f (k .low) .small)
 
 module _ {price : Price} {w : List ℕ} {h : Header} {f : ℕ} {s : Span} (k : Figured price w h) (l : f < h .funcs) (e : s ≡ spanAt w f) where
   lies-there : Lies w s

@@ -1,5 +1,6 @@
 -- A task in the tables with all its figures in the columns, and the figures as they are read back.
-use Prim.Native.Nat.{ℕ, _≤_}
+use Prim.Native.Nat.{ℕ, _≤_, _<_}
+use mathlib.Core.Path.{_≡_}
 use mathlib.Core.List.{List}
 use lib.ListN.{length}
 use Rattle.model.specs.Limits.{workLength}
@@ -7,7 +8,8 @@ use Rattle.model.specs.Task.{Task, func}
 use Rattle.model.specs.Figures as model
 use Rattle.model.specs.Sheet as sheet
 use Rattle.tables.specs.declared.Header.{Header}
-use Rattle.tables.specs.Tables.{taskOf}
+use Rattle.tables.specs.declared.Span.{Span}
+use Rattle.tables.specs.Tables.{spanAt, taskOf}
 use Rattle.tables.specs.Valid.{Settled}
 use Rattle.prices.specs.declared.Price.{Price}
 use Rattle.prices.specs.Prices.{priceOf, Small}
@@ -31,6 +33,12 @@ pub record Figured (price : Price) (w : List ℕ) (h : Header) : Type 0 where
   pub need : Points (λ f. model.need (func (taskOf w h) f)) needColumn (h .funcs) w
   pub next : Points (model.keptNext (taskOf w h)) nextColumn (h .funcs) w
   pub fill : Points (model.fill (taskOf w h)) fillColumn (h .funcs) w
+
+-- s is function f of a task with its figures in the columns
+pub record InFunc (price : Price) (w : List ℕ) (h : Header) (f : ℕ) (s : Span) : Type 0 where
+  pub figured : Figured price w h
+  pub low : f < h .funcs
+  pub span : s ≡ spanAt w f
 
 -- the figures of a point as the definitions have them
 abbrev pub figuredOf : PointFigures → sheet.PointSheet

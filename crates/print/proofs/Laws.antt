@@ -1,7 +1,7 @@
 -- Laws of a buffer that bytes are written into, and of the lengths of a number in decimal and of a row of them.
 use Prim.Native.Nat.{ℕ, zero, suc, _+_, _-_, _*_, _/_, _%_, _^_, _≤_, _<_, zero-le}
 use mathlib.Core.Path.{_≡_, refl, sym, ap, _∙_}
-use mathlib.Core.List.{List, [], _∷_, _++_, append-assoc, append-nil}
+use mathlib.Core.List.{List, [], _∷_, _++_, append-assoc}
 use native.Mathlib.Numerals.{add-one}
 use native.Mathlib.Nat.{zero-add, add-zero, pow-succ'}
 use native.Mathlib.Decide.{decLt}
@@ -12,6 +12,7 @@ use Rattle.model.specs.Basic.{joined, countFrom, upTo}
 use Rattle.model.specs.Text.{bytes}
 use Rattle.model.specs.Sheet.{decimal, row}
 use Rattle.model.specs.Services.{over}
+use Rattle.theory.proofs.Lists.{joined-append, joined-snoc, joined-next}
 use Rattle.theory.proofs.Decimal.{decimal-small, decimal-large}
 use Rattle.print.specs.Print.{pasted, Wrote, spaced}
 
@@ -109,7 +110,7 @@ decimal-some m =
     ]
 
 -- a number below 10 ^ (k + 1) has at most k + 1 digits
-digits-most : (k m : ℕ) → m < 10 ^ suc k → length (decimal m) ≤ suc k
+pub digits-most : (k m : ℕ) → m < 10 ^ suc k → length (decimal m) ≤ suc k
 digits-most zero m h = omega (arith, length-small m h)
 digits-most (suc k) m h =
     elim (decLt m 10) [
@@ -157,15 +158,6 @@ wrote-two at m out h k l =
 
 -- numbers with a space before each
 
-joined-append : (g : ℕ → List ℕ) (k l : List ℕ) → joined g (k ++ l) ≡ joined g k ++ joined g l
-unfolding joined
-joined-append g [] l = refl
-joined-append g (a ∷ k) l = ap (λ (r : List ℕ). g a ++ r) (joined-append g k l) ∙ sym (append-assoc (g a) (joined g k) (joined g l))
-
-joined-snoc : (g : ℕ → List ℕ) (l : List ℕ) (x : ℕ) → joined g (l ++ (x ∷ [])) ≡ joined g l ++ g x
-unfolding joined
-joined-snoc g l x = joined-append g l (x ∷ []) ∙ ap (λ (r : List ℕ). joined g l ++ r) (append-nil (g x))
-
 -- none of them
 pub length-none : length (spaced []) ≡ 0
 unfolding joined
@@ -205,18 +197,6 @@ spaced-on i l h k a b d =
 
 -- pieces for the numbers below n, one after the other
 
-countFrom-last : (i n : ℕ) → countFrom i (suc n) ≡ countFrom i n ++ ((i + n) ∷ [])
-unfolding countFrom
-countFrom-last i zero = ap (λ (k : ℕ). k ∷ []) (omega arith)
-countFrom-last i (suc n) =
-    ap (λ (l : List ℕ). i ∷ l) (countFrom-last (suc i) n)
-    ∙ ap (λ (k : ℕ). i ∷ (countFrom (suc i) n ++ (k ∷ []))) (omega arith)
-
-joined-last : (g : ℕ → List ℕ) (n : ℕ) → joined g (upTo (n + 1)) ≡ joined g (upTo n) ++ g n
-joined-last g n =
-    rw add-one
-    (ap (joined g) (countFrom-last 0 n) ∙ joined-snoc g (upTo n) (0 + n) ∙ ap (λ (k : ℕ). joined g (upTo n) ++ g k) (zero-add n))
-
 module _ (g : ℕ → List ℕ) where
   -- no piece, and one more
   pub none-length : length (joined g (upTo 0)) ≡ 0
@@ -224,7 +204,7 @@ module _ (g : ℕ → List ℕ) where
   none-length = refl
 
   pub next-length : (n : ℕ) → length (joined g (upTo (n + 1))) ≡ length (joined g (upTo n)) + length (g n)
-  next-length n = ap length (joined-last g n) ∙ length-append (joined g (upTo n)) (g n)
+  next-length n = ap length (joined-next g n) ∙ length-append (joined g (upTo n)) (g n)
 
   pub none-wrote : (at : ℕ) (out : List ℕ) → Wrote at (joined g (upTo 0)) out at out
   unfolding joined countFrom
@@ -232,7 +212,7 @@ module _ (g : ℕ → List ℕ) where
 
   pub next-wrote : {at e r : ℕ} (n : ℕ) {out o o′ : List ℕ} → at ≤ length out → Wrote at (joined g (upTo n)) out e o → Wrote e (g n) o r o′
       → Wrote at (joined g (upTo (n + 1))) out r o′
-  next-wrote n h a b = rw (joined-last g n) (wrote-on h a b)
+  next-wrote n h a b = rw (joined-next g n) (wrote-on h a b)
 
   -- a piece lies before the end of all
   further : (k n : ℕ) → length (joined g (upTo k)) ≤ length (joined g (upTo (k + n)))

@@ -1,30 +1,27 @@
--- The lines of the report by the figures that are read back, and the points of all functions together.
+-- The lines of the report by the figures that are read back.
 use Prim.Native.Nat.{ℕ, _+_, _≤_, _<_, zero-le}
 use native.Mathlib.Omega.{arith}
-use native.Mathlib.Numerals.{add-one}
 use mathlib.Core.Path.{_≡_, refl, ap, sym, _∙_}
-use mathlib.Core.List.{List, [], _∷_, _++_, map, append-assoc}
+use mathlib.Core.List.{List, [], _∷_, _++_, append-assoc}
 use lib.ListN.{length, length-append}
-use Rattle.model.specs.Limits.{mostPoints}
-use Rattle.model.specs.Basic.{joined}
 use Rattle.model.specs.Text.{bytes}
 use Rattle.model.specs.Task.{Task}
 use Rattle.model.specs.Sheet as sheet
-use Rattle.model.specs.Sheet.{row, Record, recordAt, recordsIn, funcRow, pointRow, funcRows, reportWith, reportText}
+use Rattle.model.specs.Sheet.{row, recordAt, recordsIn, funcRow, pointRow, funcRows, reportWith, reportText}
 use Rattle.model.specs.Services.{over}
+use Rattle.theory.proofs.Lists.{joined-map}
 use Rattle.tables.specs.declared.Header.{Header}
 use Rattle.tables.specs.declared.Span.{Span}
-use Rattle.tables.specs.Tables.{sizeAt, spanAt, taskOf, sum, Stacked, none, more}
+use Rattle.tables.specs.Tables.{sizeAt, taskOf}
 use Rattle.tables.proofs.Laws.{size-is, count-is}
-use Rattle.tables.proofs.Valid.{settled-fits}
 use Rattle.prices.specs.declared.Price.{Price}
 use Rattle.prices.specs.Prices.{priceOf}
 use Rattle.print.specs.Print.{Wrote}
 use Rattle.print.proofs.Laws.{pasted-start, wrote-on}
 use Rattle.figures.specs.declared.PointFigures.{PointFigures}
 use Rattle.figures.specs.declared.FuncFigures.{FuncFigures}
-use Rattle.figures.specs.Figured.{Figured, figuredOf, sheetAt, funcFigures}
-use Rattle.report.specs.Report.{pointText, pointsText, headText, funcText, funcsText, InFunc}
+use Rattle.figures.specs.Figured.{InFunc, figuredOf, sheetAt, funcFigures}
+use Rattle.report.specs.Report.{pointText, pointsText, headText, funcText, funcsText}
 
 -- the line of a point, and of a function
 pub point-row : (price : Price) (t : Task) (f p : ℕ) (r : PointFigures) → figuredOf r ≡ sheetAt price t .at f p
@@ -38,11 +35,6 @@ unfolding funcRow funcFigures
 func-row price t f r e = ap (λ (x : FuncFigures). row (bytes "  (func") (f ∷ x .frame ∷ x .shortest ∷ x .longest ∷ x .spill ∷ x .chain ∷ [])) e
 
 -- the lines of a function: its own, and those of its points
-joined-map : (g : Record → List ℕ) (k : ℕ → Record) (l : List ℕ) → joined g (map k l) ≡ joined (λ n. g (k n)) l
-unfolding joined
-joined-map g k [] = refl
-joined-map g k (n ∷ l) = ap (λ (r : List ℕ). g (k n) ++ r) (joined-map g k l)
-
 pub func-lines : (price : Price) (w : List ℕ) (h : Header) (f : ℕ) → f < h .funcs
     → funcText price (taskOf w h) f
     ≡ headText price (taskOf w h) f ++ pointsText price (taskOf w h) f (sizeAt w f)
@@ -51,7 +43,7 @@ func-lines price w h f l =
     let t = taskOf w h in
     ap
     (λ (r : List ℕ). headText price t f ++ r)
-    (joined-map pointRow (recordAt (sheetAt price t) f) _ ∙ ap (pointsText price t f) (size-is w h f l))
+    (joined-map pointRow (recordAt (sheetAt price t) f) _ _ (λ p m. refl) ∙ ap (pointsText price t f) (size-is w h f l))
 
 -- the report: its first line, those of the functions, and its last
 pub report-lines : (price : Price) (w : List ℕ) (h : Header)
@@ -67,24 +59,6 @@ pub report-size : (price : Price) (w : List ℕ) (h : Header)
 report-size price w h =
     let l = funcsText price (taskOf w h) (h .funcs) in
     omega (arith, ap length (report-lines price w h), length-append (bytes "(report\n" ++ l) (bytes ")\n"), length-append (bytes "(report\n") l)
-
--- the points of the functions below f
-pub points-next : (w : List ℕ) (f : ℕ) → sum (sizeAt w) (f + 1) ≡ sum (sizeAt w) f + sizeAt w f
-unfolding sum
-points-next w f = rw add-one
-
-pub points-all : {w : List ℕ} {n m : ℕ} → Stacked w n m → sum (sizeAt w) n ≡ m
-unfolding sum
-points-all none = refl
-points-all {w} (more {n} {m} k e) = ap (λ (x : ℕ). x + sizeAt w n) (points-all k)
-
--- function f as it is read
-pub there : {price : Price} {w : List ℕ} {h : Header} {f : ℕ} {s : Span} → Figured price w h → f < h .funcs → s ≡ spanAt w f → InFunc price w h f s
-there k l e = record { figured = k; low = l; span = e }
-
--- a function has few points
-pub size-low : {price : Price} {w : List ℕ} {h : Header} {f : ℕ} {s : Span} → InFunc price w h f s → s .size ≤ mostPoints
-size-low {f = f} k = omega (arith, ap (λ (s : Span). s .size) (k .span), settled-fits (k .figured .settled) f (k .low) .small)
 
 -- the lines of a function, printed or counted as its own and those of its points
 module _ {price : Price} {w : List ℕ} {h : Header} {f : ℕ} {s : Span} (k : InFunc price w h f s) where

@@ -1,70 +1,33 @@
 -- How long the lines of a report can be.
-use Prim.Native.Nat.{ℕ, zero, suc, _+_, _-_, _*_, _/_, _^_, _≤_, _<_}
+use Prim.Native.Nat.{ℕ, zero, suc, _+_, _-_, _*_, _≤_, _<_}
 use native.Mathlib.Omega.{arith}
-use native.Mathlib.Nat.{pow-succ'}
-use native.Mathlib.Decide.{decLt}
 use native.Mathlib.Numerals.{add-one}
 use mathlib.Core.Path.{refl}
-use mathlib.Core.List.{List, [], _∷_, _++_}
-use lib.ListN.{length, length-append}
+use mathlib.Core.List.{List, [], _∷_}
+use lib.ListN.{length}
 use Rattle.model.specs.Limits.{mostStack, mostFuncs, mostPoints}
-use Rattle.model.specs.Basic.{joined}
 use Rattle.model.specs.Text.{bytes}
 use Rattle.model.specs.Task.{Task, func}
 use Rattle.model.specs.Figures as model
-use Rattle.model.specs.Sheet.{decimal, row, costed, pointRow, funcRow, reportText}
+use Rattle.model.specs.Sheet.{costed, pointRow, funcRow, reportText}
 use Rattle.model.specs.WellFormed.{Shaped}
 use Rattle.theory.proofs.Rules.{dead-frame, need-frame}
 use Rattle.tables.specs.declared.Header.{Header}
 use Rattle.tables.specs.declared.Span.{Span}
 use Rattle.tables.specs.Tables.{sizeAt, taskOf, sum}
+use Rattle.tables.proofs.Laws.{points-next, points-all}
 use Rattle.prices.specs.declared.Price.{Price}
 use Rattle.prices.specs.Prices.{priceOf, mostPrice}
 use Rattle.prices.proofs.Laws.{price-small}
 use Rattle.figures.proofs.Limits.{high-low, next-low, fill-low, chain-low, entry-low}
-use Rattle.figures.specs.Figured.{Figured, sheetAt}
-use Rattle.print.specs.Print.{spaced}
-use Rattle.print.proofs.Laws.{length-small, length-large, length-row, none-length, next-length, next-room}
-use Rattle.report.specs.Report.{pointText, pointsText, headText, funcText, funcsText, InFunc}
+use Rattle.figures.specs.Figured.{Figured, InFunc, sheetAt}
+use Rattle.figures.proofs.Read.{there, size-low}
+use Rattle.print.proofs.Laws.{none-length, next-length, next-room}
+use Rattle.print.proofs.Digits.{Within, taken, digits-row}
+use Rattle.report.specs.Report.{pointText, pointsText, headText, funcText, funcsText}
 use Rattle.report.specs.Report.{mostPointText, mostHeadText, endsText, mostLength, mostReport}
 use Rattle.columns.proofs.Limits.{frame-low, longest-low, shortest-low}
-use Rattle.report.proofs.Laws.{report-size, points-next, points-all, there, size-low, func-size}
-
--- a number below 10 ^ (k + 1) has at most k + 1 digits
-digits : (k m : ℕ) → m < 10 ^ suc k → length (decimal m) ≤ suc k
-digits zero m h = omega (arith, length-small m h)
-digits (suc k) m h =
-    elim (decLt m 10) [
-      | yes i ↦ omega (arith, length-small m i)
-      | no i ↦
-          let l = digits k (m / 10) (omega (arith, pow-succ' 10 (suc k))) in
-          omega (arith, length-large m (omega arith))
-    ]
-
--- each of these numbers has at most so many digits
-abbrev Within : (numbers digits : List ℕ) → Type 0
-Within [] [] = Unit {0}
-Within [] (k ∷ ks) = ⊥
-Within (m ∷ l) [] = ⊥
-Within (m ∷ l) (zero ∷ ks) = ⊥
-Within (m ∷ l) (suc k ∷ ks) = (m < 10 ^ suc k) × Within l ks
-
--- the bytes of so many digits, with a space before each number
-unfoldable taken : List ℕ → ℕ
-taken [] = 0
-taken (k ∷ ks) = suc k + taken ks
-
-digits-spaced : (l ks : List ℕ) → Within l ks → length (spaced l) ≤ taken ks
-unfolding joined taken
-digits-spaced [] [] h = omega arith
-digits-spaced [] (k ∷ ks) h = absurd h
-digits-spaced (m ∷ l) [] h = absurd h
-digits-spaced (m ∷ l) (zero ∷ ks) h = absurd h
-digits-spaced (m ∷ l) (suc k ∷ ks) h =
-    omega (arith, length-append (bytes " " ++ decimal m) (spaced l), digits k m (h .0), digits-spaced l ks (h .1))
-
-digits-row : (w l ks : List ℕ) → Within l ks → length (row w l) ≤ length w + taken ks + 2
-digits-row w l ks h = omega (arith, length-row w l, digits-spaced l ks h)
+use Rattle.report.proofs.Laws.{report-size, func-size}
 
 -- the numbers of the line of a point and of the first line of a function, and their digits
 abbrev pointNumbers : Price → Task → ℕ → ℕ → List ℕ

@@ -1,16 +1,13 @@
--- The text of a report, piece by piece; how long it can be; and what a line is printed from.
-use Prim.Native.Nat.{ℕ, _+_, _*_, _<_}
-use mathlib.Core.Path.{_≡_}
+-- The text of a report, piece by piece, and how long it can be.
+use Prim.Native.Nat.{ℕ, _+_, _*_}
 use mathlib.Core.List.{List}
 use Rattle.model.specs.Limits.{mostFuncs, mostInAll}
 use Rattle.model.specs.Basic.{joined, upTo}
 use Rattle.model.specs.Task.{Task}
 use Rattle.model.specs.Sheet.{recordAt, funcRow, pointRow, funcRows}
 use Rattle.tables.specs.declared.Header.{Header}
-use Rattle.tables.specs.declared.Span.{Span}
-use Rattle.tables.specs.Tables.{spanAt}
 use Rattle.prices.specs.declared.Price.{Price}
-use Rattle.figures.specs.Figured.{Figured, sheetAt}
+use Rattle.figures.specs.Figured.{sheetAt}
 
 -- the line of point p of function f, and those of its first n points
 abbrev pub pointText : Price → Task → ℕ → ℕ → List ℕ
@@ -47,9 +44,3 @@ mostLength h = endsText + mostHeadText * h .funcs + mostPointText * h .points
 
 abbrev pub mostReport : ℕ
 mostReport = endsText + mostHeadText * mostFuncs + mostPointText * mostInAll
-
--- s is function f of a task with its figures in the columns
-pub record InFunc (price : Price) (w : List ℕ) (h : Header) (f : ℕ) (s : Span) : Type 0 where
-  pub figured : Figured price w h
-  pub low : f < h .funcs
-  pub span : s ≡ spanAt w f

@@ -2,6 +2,7 @@
 use Prim.Native.Nat.{ℕ, zero, suc, _+_, _≤_, _<_}
 use native.Mathlib.Omega.{arith}
 use native.Mathlib.Decide.{decLt, ℕ-discrete}
+use native.Mathlib.Numerals.{add-one}
 use mathlib.Core.Path.{_≡_, refl, ap, sym, _∙_}
 use mathlib.Core.Bool.{Bool, true, false}
 use mathlib.Core.List.{List, [], _∷_, _++_}
@@ -197,6 +198,16 @@ sum-but f g q (suc n) h e =
       | yes d ↦ omega (arith, ap f d, ap g d, sum-same f g n (λ p k. e p (omega arith)))
       | no d ↦ omega (arith, sum-but f g q n (omega arith) e, e n d)
     ]
+
+-- the points of the functions below f, and of all
+pub points-next : (w : List ℕ) (f : ℕ) → sum (sizeAt w) (f + 1) ≡ sum (sizeAt w) f + sizeAt w f
+unfolding sum
+points-next w f = rw add-one
+
+pub points-all : {w : List ℕ} {n m : ℕ} → Stacked w n m → sum (sizeAt w) n ≡ m
+unfolding sum
+points-all none = refl
+points-all {w} (more {n} {m} k e) = ap (λ (x : ℕ). x + sizeAt w n) (points-all k)
 
 -- a table after a write: the entry there, and every other one
 pub here : (l : List ℕ) (q v : ℕ) → q < length l → item (set l q v) q ≡ v

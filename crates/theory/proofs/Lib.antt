@@ -14,6 +14,7 @@
 --   Fair                     the state of a task that runs and of one that waits; every event is fair, and so is every list of events
 --   Lawful                   the figures of document 01 obey the rules
 --   Prices                   the price of a move with a start is a price; with start 0 and each 1 report and run are those of document 01
+--   Sorting, Dearest         laws of the sorted list; the list of the dearest points is the first ten of the report's records in a strict order
 --   Faithful                 demand 3, of every sheet that obeys the rules and of the sheet of every text that run accepts
 pub mod Lists
 pub mod Firsts
@@ -40,4 +41,6 @@ pub mod Potential
 pub mod Fair
 pub mod Lawful
 pub mod Prices
+pub mod Sorting
+pub mod Dearest
 pub mod Faithful

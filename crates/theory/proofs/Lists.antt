@@ -1,14 +1,17 @@
--- Laws of the functions of the model's Basic: what is a member of a list that they make, and that the largest and the smallest
--- number that they find is one. The walks and the arrivals are proved from these.
+-- Laws of the functions of the model's Basic: what is a member of a list that they make, that the largest and the smallest number that they find is one,
+-- and lists joined one after the other. The walks and the arrivals are proved from these.
 use Prim.Native.Nat.{ℕ, zero, suc, _+_, _≤_, _<_, min, max}
 use mathlib.Core.Bool.{Bool, true, false, not, _&&_, _||_}
 use mathlib.Core.List.{List, [], _∷_, List·Memᴰ, List·Memᴰ·head, List·Memᴰ·tail, List·Memᴰ·not-nil, List·Memᴰ·cases-cons, List·Memᴰ·eq-of-singleton}
-use mathlib.Core.List.{List·Memᴰ·append-cases, Memᴰ·append-left, Memᴰ·append-right}
+use mathlib.Core.List.{List·Memᴰ·append-cases, Memᴰ·append-left, Memᴰ·append-right, _++_, map, map-append, append-assoc, append-nil}
 use mathlib.Core.Logic.{_↔_, _⊎_, inl, inr, ⊎-elim}
-use mathlib.Core.Path.{_≡_, refl, ap}
+use mathlib.Core.Path.{_≡_, refl, sym, ap, _∙_}
 use native.Mathlib.Decide.{decLe, decLt, ℕ-discrete}
+use native.Mathlib.Nat.{zero-add}
+use native.Mathlib.Numerals.{add-one}
 use native.Mathlib.Omega.{arith}
 use lib.Dec.{T, T-not}
+use lib.ListN.{length}
 use Rattle.model.specs.Basic.{if_then_else_, any, select, joined, largest, smallest, countFrom, upTo, aboveAll, lowestFrom, lowest}
 use Rattle.model.specs.Walk.{Largest, Smallest}
 
@@ -199,3 +202,55 @@ smallest-unique {P} {n} {a} {b} x y = omega (arith, under x y, under y x)
   where
     under : {c d : ℕ} → Smallest P n c → Smallest P n d → c ≤ d
     under {c} {d} u v = elim (decLt d n) [ yes h ↦ u .bounds d h (v .attained h) | no h ↦ let k = u .within in omega arith ]
+
+-- ---- lists mapped, and joined one after the other
+
+module _ {A B : Type 0} where
+  -- the members of a mapped list
+  pub mem-map : (g : A → B) (l : List A) {b : B} → List·Memᴰ b (map g l) → (a : A) × List·Memᴰ a l × (b ≡ g a)
+  mem-map g [] m = absurd (List·Memᴰ·not-nil m)
+  mem-map g (a ∷ l) m =
+      ⊎-elim (λ e. (a, List·Memᴰ·head refl, e)) (λ k. let r = mem-map g l k in (r .0, List·Memᴰ·tail (r .1), r .2)) (List·Memᴰ·cases-cons m)
+
+  pub map-joined : {C : Type 0} (k : B → C) (g : A → List B) (l : List A) → map k (joined g l) ≡ joined (λ a. map k (g a)) l
+  unfolding joined
+  map-joined k g [] = refl
+  map-joined k g (a ∷ l) = map-append k (g a) (joined g l) ∙ ap (λ r. map k (g a) ++ r) (map-joined k g l)
+
+  pub joined-append : (g : A → List B) (k l : List A) → joined g (k ++ l) ≡ joined g k ++ joined g l
+  unfolding joined
+  joined-append g [] l = refl
+  joined-append g (a ∷ k) l = ap (λ (r : List B). g a ++ r) (joined-append g k l) ∙ sym (append-assoc (g a) (joined g k) (joined g l))
+
+  pub joined-snoc : (g : A → List B) (l : List A) (x : A) → joined g (l ++ (x ∷ [])) ≡ joined g l ++ g x
+  unfolding joined
+  joined-snoc g l x = joined-append g l (x ∷ []) ∙ ap (λ (r : List B). joined g l ++ r) (append-nil (g x))
+
+  -- one function after another
+  pub joined-map : {C : Type 0} (g : B → List C) (k : A → B) (m : A → List C) (l : List A) → ((a : A) → List·Memᴰ a l → g (k a) ≡ m a)
+      → joined g (map k l) ≡ joined m l
+  unfolding joined
+  joined-map g k m [] e = refl
+  joined-map g k m (a ∷ l) e = λ i. e a (List·Memᴰ·head refl) i ++ joined-map g k m l (λ b j. e b (List·Memᴰ·tail j)) i
+
+-- the numbers below n + 1 are those below n, and n
+countFrom-last : (i n : ℕ) → countFrom i (suc n) ≡ countFrom i n ++ ((i + n) ∷ [])
+unfolding countFrom
+countFrom-last i zero = ap (λ (k : ℕ). k ∷ []) (omega arith)
+countFrom-last i (suc n) =
+    ap (λ (l : List ℕ). i ∷ l) (countFrom-last (suc i) n)
+    ∙ ap (λ (k : ℕ). i ∷ (countFrom (suc i) n ++ (k ∷ []))) (omega arith)
+
+pub upTo-next : (n : ℕ) → upTo (n + 1) ≡ upTo n ++ (n ∷ [])
+upTo-next n = rw (add-one n) (countFrom-last 0 n ∙ ap (λ (k : ℕ). upTo n ++ (k ∷ [])) (zero-add n))
+
+length-countFrom : (i n : ℕ) → length (countFrom i n) ≡ n
+unfolding countFrom
+length-countFrom i zero = refl
+length-countFrom i (suc n) = ap suc (length-countFrom (suc i) n)
+
+pub length-upTo : (n : ℕ) → length (upTo n) ≡ n
+length-upTo n = length-countFrom 0 n
+
+pub joined-next : {B : Type 0} (g : ℕ → List B) (n : ℕ) → joined g (upTo (n + 1)) ≡ joined g (upTo n) ++ g n
+joined-next g n = ap (joined g) (upTo-next n) ∙ joined-snoc g (upTo n) n

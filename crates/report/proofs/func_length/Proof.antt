@@ -2,7 +2,8 @@
 use native.Mathlib.Omega.{arith}
 use mathlib.Core.Path.{ap}
 use lib.ListN.{length}
-use Rattle.report.proofs.Laws.{there, func-size}
+use Rattle.figures.proofs.Read.{there}
+use Rattle.report.proofs.Laws.{func-size}
 use Rattle.report.proofs.Limits.{func-small}
 use borrow.Author.Needs.{needs}
 use Rattle.report.proofs.func_length.Statement.{statement}

@@ -2,7 +2,8 @@
 use native.Mathlib.Omega.{arith}
 use mathlib.Core.Path.{refl}
 use Rattle.tables.specs.Tables.{taskOf}
-use Rattle.report.proofs.Laws.{point-row, size-low}
+use Rattle.figures.proofs.Read.{size-low}
+use Rattle.report.proofs.Laws.{point-row}
 use borrow.Author.Needs.{needs}
 use Rattle.report.proofs.point_numbers.Statement.{statement}
 use Rattle.report.proofs.point_numbers.Tie as tie

@@ -6,7 +6,7 @@ use lib.ListN.{length}
 use Rattle.tables.specs.Tables.{taskOf}
 use Rattle.print.proofs.Laws.{none-length, next-length}
 use Rattle.report.specs.Report.{pointText, pointsText}
-use Rattle.report.proofs.Laws.{size-low}
+use Rattle.figures.proofs.Read.{size-low}
 use Rattle.report.proofs.Limits.{points-small}
 use Rattle.report.proofs.points_length.Statement.{statement}
 use Rattle.report.proofs.points_length.Tie as tie

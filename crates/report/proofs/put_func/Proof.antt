@@ -2,7 +2,8 @@
 use native.Mathlib.Omega.{arith}
 use mathlib.Core.Path.{ap}
 use lib.ListN.{length}
-use Rattle.report.proofs.Laws.{there, func-size, func-wrote}
+use Rattle.figures.proofs.Read.{there}
+use Rattle.report.proofs.Laws.{func-size, func-wrote}
 use borrow.Author.Needs.{needs}
 use Rattle.report.proofs.put_func.Statement.{statement}
 use Rattle.report.proofs.put_func.Tie as tie

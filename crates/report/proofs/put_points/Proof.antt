@@ -7,7 +7,7 @@ use Rattle.tables.specs.Tables.{taskOf}
 use Rattle.print.specs.Print.{Wrote}
 use Rattle.print.proofs.Laws.{none-wrote, next-wrote, next-room}
 use Rattle.report.specs.Report.{pointText, pointsText}
-use Rattle.report.proofs.Laws.{size-low}
+use Rattle.figures.proofs.Read.{size-low}
 use Rattle.report.proofs.put_points.Statement.{statement}
 use Rattle.report.proofs.put_points.Tie as tie
 
