@@ -1,0 +1,24 @@
+-- The line is the row of its numbers.
+use native.Mathlib.Omega.{arith}
+use mathlib.Core.Path.{ap}
+use lib.ListN.{length}
+use borrow.Author.Needs.{needs}
+use Rattle.dearest.proofs.put_line.Statement.{statement}
+use Rattle.dearest.proofs.put_line.Tie as tie
+
+put-row-requires : tie.Need-put-row-requires
+put-row-requires c κs = omega (arith, ap length (c .before .rank-numbers .ensures .0))
+
+returns : tie.Need-returns
+returns c = rw (c .before .before .before .before .rank-numbers .ensures .0) at (c .before .before .put-row .ensures)
+
+pub put-line-spec : {M : Type 1} → statement M
+put-line-spec =
+    tie.close
+    (tie.spec
+    (λ c. search needs)
+    (λ c κs. search needs)
+    (λ c. search needs)
+    put-row-requires
+    (λ c. search needs)
+    returns)

@@ -1,0 +1,23 @@
+-- The figures are those of the point, and its number and its function's are small.
+use native.Mathlib.Omega.{arith}
+use mathlib.Core.Path.{ap, _∙_}
+use Rattle.model.specs.Sheet as sheet
+use Rattle.figures.proofs.Read.{size-low}
+use Rattle.dearest.specs.Ranking.{rankOf}
+use borrow.Author.Needs.{needs}
+use Rattle.dearest.proofs.rank_at.Statement.{statement}
+use Rattle.dearest.proofs.rank_at.Tie as tie
+
+rank-with-requires : tie.Need-rank-with-requires
+rank-with-requires c κs =
+    let k = c .before .before .pre .0 in
+    (omega (arith, k .low, k .figured .settled .holds .few), omega (arith, size-low k))
+
+returns : tie.Need-returns
+returns c =
+    let a = c .before .before .before .args in
+    c .rank-with .ensures
+    ∙ ap (λ (x : sheet.PointSheet). rankOf (record { fn = a .f; at = a .p; figures = x })) (c .before .point-figures .ensures)
+
+pub rank-at-spec : {M : Type 1} → statement M
+rank-at-spec = tie.close (tie.spec (λ c κs. search needs) rank-with-requires returns)

@@ -1,0 +1,2 @@
+-- The highest ranks of those met so far.
+pub mod Ranks
