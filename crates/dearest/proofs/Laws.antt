@@ -1,8 +1,8 @@
 -- The rank of a record keeps the order of the list and says the record's line; the ranks of a task's points, and the list that is printed from the
 -- highest of them.
-use Prim.Native.Nat.{ℕ, zero, suc, _+_, _*_, _≤_, _<_, min}
+use Prim.Native.Nat.{ℕ, zero, suc, _+_, _≤_, _<_, min}
 use mathlib.Core.Bool.{Bool, true, false}
-use mathlib.Core.List.{List, [], _∷_, _++_, map, map-map, map-append, List·Memᴰ, List·Memᴰ·head, List·Memᴰ·tail}
+use mathlib.Core.List.{List, [], _∷_, _++_, map, map-map, map-append, List·Memᴰ}
 use mathlib.Core.List.{List·Memᴰ·not-nil, List·Memᴰ·cases-cons}
 use mathlib.Core.Logic.{inl, inr, ⊎-elim}
 use mathlib.Core.Path.{_≡_, refl, sym, ap, subst, _∙_}
@@ -10,7 +10,7 @@ use native.Mathlib.Decide.{decLt}
 use native.Mathlib.Numerals.{add-one}
 use native.Mathlib.Omega.{arith}
 use lib.Dec.{T, ltb, ltb→lt, lt→ltb}
-use lib.ListN.{length, take, drop, getD, replicate, length-append, length-map, length-take}
+use lib.ListN.{length, take, getD, replicate, length-append, length-map, length-take}
 use lib.Seq.{take-suc, getD-take}
 use Rattle.model.specs.Limits.{mostFuncs, mostPoints, mostDearest}
 use Rattle.model.specs.Basic.{joined, countFrom, upTo, sorted}
@@ -20,21 +20,22 @@ use Rattle.model.specs.Sheet.{Record, recordAt, recordsIn, recordsOf, row}
 use Rattle.model.specs.Dearest.{placedBefore, dearer, dearest, dearRow, dearestWith, dearestText}
 use Rattle.model.specs.WellFormed.{Shaped}
 use Rattle.theory.proofs.Lists.{mem-map, map-joined, joined-map, upTo-next, joined-next, length-upTo}
+use Rattle.theory.proofs.Between.{mem-getD}
 use Rattle.theory.proofs.Sorting.{first-holds, map-first}
 use Rattle.theory.proofs.Dearest.{record-is, ten-dearest}
 use Rattle.tables.specs.declared.Header.{Header}
 use Rattle.tables.specs.Tables.{sizeAt, taskOf, sum}
-use Rattle.tables.proofs.Laws.{size-is, count-is, points-next, points-all}
+use Rattle.tables.proofs.Laws.{size-is, count-is, points-all}
 use Rattle.prices.specs.declared.Price.{Price}
 use Rattle.prices.specs.Prices.{priceOf, Small}
 use Rattle.figures.specs.Figured.{Figured, sheetAt}
 use Rattle.figures.proofs.Limits.{cost-low}
 use Rattle.print.proofs.Laws.{none-length}
-use Rattle.print.proofs.Digits.{Within, taken, digits-row}
+use Rattle.print.proofs.Digits.{taken, digits-row}
 use Rattle.ranks.specs.Ranks.{Falling, higher, best}
-use Rattle.ranks.proofs.Laws.{best-none, best-append, best-zeros, length-best, falling-best}
-use Rattle.dearest.specs.Ranking.{rankOf, rankAt, pointRanks, funcRanks, rankedFunc, rankedPoint, rankedCost, rankRow, lineAt, listText}
-use Rattle.dearest.specs.Ranking.{rankEnd, mostLine, Printable, Listing, listed}
+use Rattle.ranks.proofs.Laws.{best-append, best-zeros, length-best}
+use Rattle.dearest.specs.Ranking.{rankOf, rankAt, pointRanks, funcRanks, rankedFunc, rankedPoint, rankedCost, rankRow, lineAt}
+use Rattle.dearest.specs.Ranking.{rankEnd, mostLine, Listing, listed}
 
 -- ---- the rank of a record
 
@@ -71,15 +72,17 @@ module _ (x y : Record) (i : Fits x) (j : Fits y) where
       (elim (decLt (y .figures .cost) (x .figures .cost)) [
         | yes k ↦ inl k
         | no k ↦
-          let e : y .figures .cost ≡ x .figures .cost = omega (arith, l, i .fn, i .at, j .fn, j .at) in
-          inr
-          (e, first-holds (x .fn) (y .fn) (ltb (x .at) (y .at)) .1
-          (elim (decLt (x .fn) (y .fn)) [
-            | yes m ↦ inl m
-            | no m ↦
-              let d : x .fn ≡ y .fn = omega (arith, l, e, i .fn, i .at, j .fn, j .at) in
-              inr (d, lt→ltb (x .at) (y .at) (omega (arith, l, e, d, i .at, j .at)))
-          ]))
+            let e : y .figures .cost ≡ x .figures .cost = omega (arith, l, i .fn, i .at, j .fn, j .at) in
+            inr (
+              e,
+              first-holds (x .fn) (y .fn) (ltb (x .at) (y .at)) .1
+                  (elim (decLt (x .fn) (y .fn)) [
+                    | yes m ↦ inl m
+                    | no m ↦
+                        let d : x .fn ≡ y .fn = omega (arith, l, e, i .fn, i .at, j .fn, j .at) in
+                        inr (d, lt→ltb (x .at) (y .at) (omega (arith, l, e, d, i .at, j .at)))
+                  ]),
+            )
       ])
 
   -- it is higher where the record comes earlier
@@ -192,11 +195,6 @@ module _ {price : Price} {t : Task} (s : Shaped t) (small : Small price) where
       rw (q .2) (rank-low (q .0) (k .0) (k .1))
 
 -- the first n of a list by their numbers
-mem-at : (l : List ℕ) (i : ℕ) → i < length l → List·Memᴰ (getD l i 0) l
-mem-at [] i h = absurd (omega arith)
-mem-at (x ∷ l) zero h = List·Memᴰ·head refl
-mem-at (x ∷ l) (suc i) h = List·Memᴰ·tail (mem-at l i (omega arith))
-
 first-numbers : (l : List ℕ) (n : ℕ) → n ≤ length l → map (λ i. getD l i 0) (upTo n) ≡ take n l
 unfolding countFrom
 first-numbers l zero h = refl
@@ -218,13 +216,13 @@ listing {price} {w} {h} ranks n k e m =
     let long : length ranks ≡ mostDearest = ap length e ∙ length-best (replicate mostDearest 0) r refl in
     let c : n ≡ min mostDearest (length r) = omega (arith, m, size) in
     let top : take n ranks ≡ map rankOf (dearest (recordsOf t (sheetAt price t))) =
-        (λ i. take (c i) (e i)) ∙ best-zeros r ∙ ap (λ (q : ℕ). take mostDearest (sorted higher (funcRanks price t q))) (sym (count-is w h))
-        ∙ highest-listed s (k .small) in
+    (λ i. take (c i) (e i)) ∙ best-zeros r ∙ ap (λ (q : ℕ). take mostDearest (sorted higher (funcRanks price t q))) (sym (count-is w h))
+    ∙ highest-listed s (k .small) in
     record {
       printable = record {
         few = omega arith;
         low = λ i l.
-            let g = mem-at (take n ranks) i (omega (arith, length-take n ranks)) in
+            let g = mem-getD (take n ranks) i 0 (omega (arith, length-take n ranks)) in
             rw (← getD-take n ranks i 0 l) (listed-low s (k .small) (getD (take n ranks) i 0) (subst (λ q. List·Memᴰ (getD (take n ranks) i 0) q) top g));
       };
       text =

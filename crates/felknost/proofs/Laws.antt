@@ -1,4 +1,4 @@
--- The judgement of a text as one number, and the result of report as three.
+-- The judgement of a text as one number, the result of a service that writes bytes as three, and that of run as five.
 use Prim.Native.Nat.{ℕ, _≤_, _<_}
 use mathlib.Core.Path.{_≡_, refl, ap, _∙_}
 use mathlib.Core.List.{List, [], _∷_}
@@ -11,7 +11,7 @@ use Rattle.model.specs.declared.RunResult.{RunResult}
 use Rattle.model.specs.Rows.{packed}
 use Rattle.model.specs.Task.{refused}
 use Rattle.model.specs.Refusal.{judged}
-use Rattle.model.specs.Services.{over, judgedNumber, checkNumber, reportOf, resultNumbers, calledAs, reportNumbers}
+use Rattle.model.specs.Services.{over, judgedNumber, checkNumber, AfterWrite, resultNumbers, calledAs, writeNumbers}
 use Rattle.model.specs.Services.{runOf, AfterRunCall, runResultNumbers, runNumbers}
 use Rattle.theory.proofs.Places.{judged-place}
 use Rattle.tables.specs.declared.Header.{Header}
@@ -43,26 +43,26 @@ three-over a b c (x ∷ []) h = absurd (omega arith)
 three-over a b c (x ∷ y ∷ []) h = absurd (omega arith)
 three-over a b c (x ∷ y ∷ z ∷ l) h = refl
 
--- report as C calls it, where the buffer of the result has too few numbers and where it has not
-module _ (text : List ℕ) (start each : ℕ) (work output result : List ℕ) where
+-- a service that writes bytes as C calls it, where the buffer of the result has too few numbers and where it has not
+module _ (after : AfterWrite) (work output result : List ℕ) where
   pub too-few : length result < 3
-      → (0 ≡ reportNumbers text start each work output result .answer)
-      × ((result ≡ reportNumbers text start each work output result .result)
-      × ((work ≡ reportNumbers text start each work output result .work) × (output ≡ reportNumbers text start each work output result .output)))
-  unfolding reportNumbers
+      → (0 ≡ writeNumbers after work output result .answer)
+      × ((result ≡ writeNumbers after work output result .result)
+      × ((work ≡ writeNumbers after work output result .work) × (output ≡ writeNumbers after work output result .output)))
+  unfolding writeNumbers
   too-few h =
       let e = lt-ltb (length result) 3 h in
       rw e (refl, (refl, (refl, refl)))
 
-  enough-is : 3 ≤ length result → reportNumbers text start each work output result ≡ calledAs (reportOf text start each work output) result
-  unfolding reportNumbers
+  enough-is : 3 ≤ length result → writeNumbers after work output result ≡ calledAs after result
+  unfolding writeNumbers
   enough-is h = rw (le-ltb (length result) 3 h)
 
-  pub enough : {r : WriteResult} {result′ work′ output′ : List ℕ} → 3 ≤ length result → r ≡ reportOf text start each work output .result
-      → work′ ≡ reportOf text start each work output .work → output′ ≡ reportOf text start each work output .output → result′ ≡ over (resultNumbers r) result
-      → (1 ≡ reportNumbers text start each work output result .answer)
-      × ((result′ ≡ reportNumbers text start each work output result .result)
-      × ((work′ ≡ reportNumbers text start each work output result .work) × (output′ ≡ reportNumbers text start each work output result .output)))
+  pub enough : {r : WriteResult} {result′ work′ output′ : List ℕ} → 3 ≤ length result → r ≡ after .result → work′ ≡ after .work
+      → output′ ≡ after .output → result′ ≡ over (resultNumbers r) result
+      → (1 ≡ writeNumbers after work output result .answer)
+      × ((result′ ≡ writeNumbers after work output result .result)
+      × ((work′ ≡ writeNumbers after work output result .work) × (output′ ≡ writeNumbers after work output result .output)))
   enough h a b c d = rw (enough-is h) (refl, (d ∙ ap (λ (r : WriteResult). over (resultNumbers r) result) a, (b, c)))
 
 -- five numbers written over the first of a buffer

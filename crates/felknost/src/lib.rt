@@ -3,7 +3,7 @@ ghost use mathlib.Core.Path.{_≡_};
 ghost use Prim.Native.Nat.{_≤_};
 ghost use lib.ListN.{length};
 ghost use Rattle.model.specs.Rows.{verdictCode, verdictPlace, endingCode, endingPlace};
-ghost use Rattle.model.specs.Services.{over, checkNumber, resultNumbers, reportNumbers, runResultNumbers, runNumbers};
+ghost use Rattle.model.specs.Services.{over, checkNumber, resultNumbers, reportNumbers, dearestNumbers, runResultNumbers, runNumbers};
 use judge::Judgement;
 use model::Ending;
 use model::RunResult;
@@ -90,6 +90,32 @@ pub extern "C" fn felknost_report(
         return 0;
     }
     let written = services::report(text, start, each, output, work);
+    put_numbers(result, written);
+    1
+}
+
+// The dearest points, with the result as for report.
+#[no_mangle]
+pub extern "C" fn felknost_dearest_points(
+    text: &[u8],
+    start: u32,
+    each: u32,
+    output: &mut [u8],
+    work: &mut [u32],
+    result: &mut [u64],
+) -> u32
+    ensures answer { λ n. ⌜ n ≡ dearestNumbers (now (text .entry)) start each (now (work .entry)) (now (output .entry)) (now (result .entry)) .answer ⌝ }
+    ensures result { λ n. ⌜ now (result .exit) ≡ dearestNumbers (now (text .entry)) start each (now (work .entry)) (now (output .entry))
+        (now (result .entry)) .result ⌝ }
+    ensures work { λ n. ⌜ now (work .exit) ≡ dearestNumbers (now (text .entry)) start each (now (work .entry)) (now (output .entry))
+        (now (result .entry)) .work ⌝ }
+    ensures output { λ n. ⌜ now (output .exit) ≡ dearestNumbers (now (text .entry)) start each (now (work .entry)) (now (output .entry))
+        (now (result .entry)) .output ⌝ }
+{
+    if result.len() < Numbers::ALL {
+        return 0;
+    }
+    let written = services::dearest_points(text, start, each, output, work);
     put_numbers(result, written);
     1
 }

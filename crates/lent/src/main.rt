@@ -4,6 +4,7 @@ use libc::STDOUT_FILENO;
 use model::Ending;
 use model::Limits;
 use model::Verdict;
+use model::WriteResult;
 
 struct Lent;
 
@@ -20,6 +21,10 @@ impl Lent {
     const OUTPUT: usize = 128;
 
     const SHORT_OUTPUT: usize = 111;
+    // The same for the list of the dearest points.
+    const LIST: usize = 48;
+
+    const SHORT_LIST: usize = 38;
     // Answers of a run, more than it has events; the blocks of the task's cache, of which there may be no more; and a memory that is longer than asked for.
     const ANSWERS: usize = 6;
 
@@ -138,8 +143,7 @@ fn check_cases(task: &[u8], refused: &[u8]) {
     check_short(task);
 }
 
-fn report_over(text: &[u8], start: u32, output: &mut [u8], work: &mut [u32]) {
-    let result = services::report(text, start, Lent::EACH, output, work);
+fn say_written(result: WriteResult, output: &[u8], work: &[u32]) {
     let verdict = result.verdict;
     say_verdict(verdict);
     say(b"  written ");
@@ -149,6 +153,11 @@ fn report_over(text: &[u8], start: u32, output: &mut [u8], work: &mut [u32]) {
     say(b"  output:\n");
     say(output);
     say(b"\n");
+}
+
+fn report_over(text: &[u8], start: u32, output: &mut [u8], work: &mut [u32]) {
+    let result = services::report(text, start, Lent::EACH, output, work);
+    say_written(result, output, work);
 }
 
 fn report_long(text: &[u8], start: u32) {
@@ -182,6 +191,44 @@ fn report_cases(task: &[u8], refused: &[u8]) {
     report_long(task, Lent::START);
     say(b"report with a start that is out of its range\n");
     report_long(task, Lent::HIGH_START);
+}
+
+fn dearest_over(text: &[u8], start: u32, output: &mut [u8], work: &mut [u32]) {
+    let result = services::dearest_points(text, start, Lent::EACH, output, work);
+    say_written(result, output, work);
+}
+
+fn dearest_long(text: &[u8], start: u32) {
+    let mut output = [Lent::BYTE; Lent::LIST];
+    let mut work = [Lent::NUMBER; Lent::WORK];
+    dearest_over(text, start, &mut output, &mut work);
+}
+
+fn dearest_short_work(text: &[u8]) {
+    let mut output = [Lent::BYTE; Lent::LIST];
+    let mut work = [Lent::NUMBER; Lent::SHORT_WORK];
+    dearest_over(text, Lent::NO_START, &mut output, &mut work);
+}
+
+fn dearest_short_output(text: &[u8]) {
+    let mut output = [Lent::BYTE; Lent::SHORT_LIST];
+    let mut work = [Lent::NUMBER; Lent::WORK];
+    dearest_over(text, Lent::NO_START, &mut output, &mut work);
+}
+
+fn dearest_cases(task: &[u8], refused: &[u8]) {
+    say(b"dearest points of a task\n");
+    dearest_long(task, Lent::NO_START);
+    say(b"dearest points of a task that is refused\n");
+    dearest_long(refused, Lent::NO_START);
+    say(b"dearest points with a working space that is one number short\n");
+    dearest_short_work(task);
+    say(b"dearest points with an output that is one byte short\n");
+    dearest_short_output(task);
+    say(b"dearest points of a task whose moves have a start\n");
+    dearest_long(task, Lent::START);
+    say(b"dearest points with a start that is out of its range\n");
+    dearest_long(task, Lent::HIGH_START);
 }
 
 fn say_ending(ending: Ending) {
@@ -266,5 +313,6 @@ fn main() {
     let refused = b"(stack 2)\n(func 1\n  (load 0)\n  (return)\n)\n";
     check_cases(task, refused);
     report_cases(task, refused);
+    dearest_cases(task, refused);
     run_cases(task, refused);
 }

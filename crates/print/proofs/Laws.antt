@@ -6,7 +6,7 @@ use native.Mathlib.Numerals.{add-one}
 use native.Mathlib.Nat.{zero-add, add-zero, pow-succ'}
 use native.Mathlib.Decide.{decLt}
 use native.Mathlib.Omega.{arith}
-use lib.ListN.{length, getD, take, drop, set, length-append, length-drop, length-set, take-append-drop}
+use lib.ListN.{length, getD, take, drop, set, length-append, length-set, take-append-drop}
 use lib.Seq.{length-take-le, take-length, take-suc, append-snoc, take-at, drop-at, take-set-le, drop-drop, set-split, paste}
 use Rattle.model.specs.Basic.{joined, countFrom, upTo}
 use Rattle.model.specs.Text.{bytes}

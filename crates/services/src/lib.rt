@@ -1,49 +1,18 @@
 // The services over a task text. Each judges what it was lent and refuses; none has a requires. Each goes the same way: 15 (and 23 where there are
 // prices), the judgement of the text, its own rows, its own work, and the working space cleared.
 ghost use mathlib.Core.Path.{_≡_};
-ghost use mathlib.Core.Option.{Option};
 ghost use lib.ListN.{length};
-ghost use Rattle.model.specs.declared.Refusal.{Refusal};
-ghost use Rattle.model.specs.Rows.{rowVerdict};
 ghost use Rattle.model.specs.Refusal.{pricedRows};
-ghost use Rattle.model.specs.Services.{cleared, checkOf, reportOf, runOf, Demand3};
-ghost use Rattle.services.specs.Served.{Passes, Lent, afterRun};
+ghost use Rattle.model.specs.Services.{checkOf, reportOf, dearestOf, runOf, Demand3};
+ghost use Rattle.running.specs.Performs.{afterRun};
 use judge::Judgement;
-use model::Limits;
 use model::RunResult;
 use model::Verdict;
 use model::WriteResult;
 use prices::Price;
 
+mod listing;
 mod reporting;
-mod rows;
-mod running;
-
-// The working numbers of a service become 0, where there are as many.
-fn clear(work: &mut [u32])
-    ensures { λ r. ⌜ now (work .exit) ≡ cleared (now (work .entry)) ⌝ }
-{
-    if Limits::WORK > work.len() {
-        return;
-    }
-    let mut i: usize = 0;
-    while i < Limits::WORK {
-        work[i] = 0;
-        i += 1;
-    }
-}
-
-// The rows before those of the text have this verdict; then the judgement of the text. A working space that is too small is untouched.
-fn judge_lent(first: Verdict, text: &[u8], work: &mut [u32]) -> Judgement
-    requires { ⌜ Passes first (now work) ⌝ }
-    ensures { λ r. ⌜ ((rows : Option Refusal) → first ≡ rowVerdict rows →
-        Lent rows (now (text .entry)) (now (work .entry)) r (now (work .exit))) ⌝ }
-{
-    if let Verdict::Refused(r) = first {
-        return Judgement::Refused(r);
-    }
-    judge::judge_text(text, work)
-}
 
 // Check: the verdict on a text, and the working space cleared.
 //
@@ -52,9 +21,9 @@ pub fn check(text: &[u8], work: &mut [u32]) -> Verdict
     ensures verdict { λ r. ⌜ r ≡ checkOf (now (text .entry)) (now (work .entry)) .verdict ⌝ }
     ensures work { λ r. ⌜ now (work .exit) ≡ checkOf (now (text .entry)) (now (work .entry)) .work ⌝ }
 {
-    let first = rows::work_row(work.len());
-    let judgement = judge_lent(first, text, work);
-    clear(work);
+    let first = serving::work_row(work.len());
+    let judgement = serving::judge_lent(first, text, work);
+    serving::clear(work);
     match judgement {
         Judgement::Task(_) => Verdict::Accepted,
         Judgement::Refused(r) => Verdict::Refused(r),
@@ -77,10 +46,33 @@ pub fn report(
     ensures output { λ r. ⌜ now (output .exit) ≡ reportOf (now (text .entry)) start each (now (work .entry)) (now (output .entry)) .output ⌝ }
 {
     let price = Price { start, each };
-    let first = rows::priced_row(work.len(), price);
-    let judgement = judge_lent(first, text, work);
+    let first = serving::priced_row(work.len(), price);
+    let judgement = serving::judge_lent(first, text, work);
     let result = reporting::report_judged(judgement, price, output, work);
-    clear(work);
+    serving::clear(work);
+    result
+}
+
+// The dearest points: the first ten of the sheet's points by falling cost, then by function and by point, or all if there are fewer, a line each over the
+// first bytes of the output, and the working space cleared. Prices are as for the report.
+//
+//     dearest_points(b"(stack 65)\n", 0, 1, &mut output, &mut work) is a refusal in row StackSize at place 1, with 0 bytes written
+pub fn dearest_points(
+    text: &[u8],
+    start: u32,
+    each: u32,
+    output: &mut [u8],
+    work: &mut [u32],
+) -> WriteResult
+    ensures result { λ r. ⌜ r ≡ dearestOf (now (text .entry)) start each (now (work .entry)) (now (output .entry)) .result ⌝ }
+    ensures work { λ r. ⌜ now (work .exit) ≡ dearestOf (now (text .entry)) start each (now (work .entry)) (now (output .entry)) .work ⌝ }
+    ensures output { λ r. ⌜ now (output .exit) ≡ dearestOf (now (text .entry)) start each (now (work .entry)) (now (output .entry)) .output ⌝ }
+{
+    let price = Price { start, each };
+    let first = serving::priced_row(work.len(), price);
+    let judgement = serving::judge_lent(first, text, work);
+    let result = listing::list_judged(judgement, price, output, work);
+    serving::clear(work);
     result
 }
 
@@ -113,9 +105,9 @@ pub fn run(
         (afterRun r (now (work .exit)) (now (answers .exit)) (now (cache .exit)) (now (memory .exit))) ⌝ }
 {
     let price = Price { start, each };
-    let first = rows::priced_row(work.len(), price);
-    let judgement = judge_lent(first, text, work);
+    let first = serving::priced_row(work.len(), price);
+    let judgement = serving::judge_lent(first, text, work);
     let result = running::run_judged(judgement, price, events, answers, cache, memory, work);
-    clear(work);
+    serving::clear(work);
     result
 }

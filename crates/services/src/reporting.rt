@@ -12,51 +12,33 @@ ghost use Rattle.tables.specs.Valid.{Settled};
 ghost use Rattle.prices.specs.Prices.{priceOf, Small};
 ghost use Rattle.figures.specs.Figured.{Figured};
 ghost use Rattle.judge.specs.Judgement.{judgedIn};
-ghost use Rattle.services.specs.Served.{ReadyAt, nothingWritten, Reports};
+ghost use Rattle.serving.specs.Served.{ReadyAt, Writes};
 use judge::Judgement;
-use model::Refusal;
-use model::Row;
 use model::Verdict;
 use model::WriteResult;
 use prices::Price;
 use tables::Header;
 
-// A refusal, with nothing written.
-fn refused(r: Refusal) -> WriteResult
-    ensures { λ a. ⌜ a ≡ nothingWritten r ⌝ }
-{
-    WriteResult {
-        verdict: Verdict::Refused(r),
-        written: 0,
-    }
-}
-
 // 14, for an output of this length. The length of the report is worked out only where the output may be too short, since that takes every figure once more.
-fn output_row(room: usize, work: &[u32], h: Header, price: Price) -> Verdict
+fn report_row(room: usize, work: &[u32], h: Header, price: Price) -> Verdict
     requires { ⌜ Figured price (now work) h ⌝ }
     ensures { λ v. ⌜ v ≡ rowVerdict (outputRows (reportText (priceOf price)) room (taskOf (now (work .entry)) h)) ⌝ }
 {
     if report::most_length(h) <= room {
         return Verdict::Accepted;
     }
-    let length = report::report_length(work, h, price);
-    if room < length {
-        return Verdict::Refused(Refusal {
-            row: Row::OutputTooSmall,
-            place: length as u32,
-        });
-    }
-    Verdict::Accepted
+    serving::output_row(room, report::report_length(work, h, price))
 }
 
 // 14, or the report of the task that the tables hold.
 fn report_task(price: Price, output: &mut [u8], work: &mut [u32], h: Header) -> WriteResult
     requires { ⌜ Settled (now work) h × (workLength ≤ length (now work)) × Small price ⌝ }
-    ensures { λ r. ⌜ Reports price (task (taskOf (now (work .entry)) h)) (now (work .entry)) (now (output .entry)) r (now (work .exit)) (now (output .exit)) ⌝ }
+    ensures { λ r. ⌜ Writes (reportText (priceOf price)) (task (taskOf (now (work .entry)) h)) (now (work .entry)) (now (output .entry)) r
+        (now (work .exit)) (now (output .exit)) ⌝ }
 {
     figures::figure_task(work, h, price);
-    if let Verdict::Refused(r) = output_row(output.len(), work, h, price) {
-        return refused(r);
+    if let Verdict::Refused(r) = report_row(output.len(), work, h, price) {
+        return serving::nothing_written(r);
     }
     let written = report::put_report(output, work, h, price);
     WriteResult {
@@ -73,11 +55,11 @@ pub fn report_judged(
     work: &mut [u32],
 ) -> WriteResult
     requires { ⌜ ReadyAt price (now work) judgement ⌝ }
-    ensures { λ r. ⌜ Reports price (judgedIn (now (work .entry)) judgement) (now (work .entry)) (now (output .entry)) r (now (work .exit))
-        (now (output .exit)) ⌝ }
+    ensures { λ r. ⌜ Writes (reportText (priceOf price)) (judgedIn (now (work .entry)) judgement) (now (work .entry)) (now (output .entry)) r
+        (now (work .exit)) (now (output .exit)) ⌝ }
 {
     match judgement {
-        Judgement::Refused(r) => refused(r),
+        Judgement::Refused(r) => serving::nothing_written(r),
         Judgement::Task(h) => report_task(price, output, work, h),
     }
 }

@@ -1,7 +1,7 @@
 -- The ten dearest points: records of the report, none twice, each before the next, and none that is left out comes before one that is listed. Their
 -- order is strict, and total on records of different points.
 use Prim.Native.Nat.{ℕ, zero, suc, _+_, _≤_, _<_}
-use mathlib.Core.List.{List, [], _∷_, map, List·Memᴰ}
+use mathlib.Core.List.{List, map, List·Memᴰ}
 use mathlib.Core.Logic.{_⊎_, inl, inr, ⊎-elim}
 use mathlib.Core.Path.{_≡_, refl, sym}
 use native.Mathlib.Decide.{decLt}

@@ -1,7 +1,7 @@
 -- Laws of the sorted list, for any order: its members, its sequence, the first n of it against the rest; that the first n so far are all that has to be
 -- kept; and that a function which keeps the order maps one sorted list to the other.
-use Prim.Native.Nat.{ℕ, zero, suc, _+_, _≤_, _<_, min}
-use mathlib.Core.Bool.{Bool, true, false, not, _&&_, _||_}
+use Prim.Native.Nat.{ℕ, zero, suc, _+_, _<_, min}
+use mathlib.Core.Bool.{Bool, true, false, not, _&&_}
 use mathlib.Core.List.{List, [], _∷_, _++_, map, List·Memᴰ, List·Memᴰ·head, List·Memᴰ·tail, List·Memᴰ·not-nil, List·Memᴰ·cases-cons}
 use mathlib.Core.List.{List·Memᴰ·append-cases}
 use mathlib.Core.Logic.{_↔_, _⊎_, inl, inr, ⊎-elim}
@@ -43,8 +43,8 @@ first-total a b r s g =
       | no h ↦ elim (decLt b a) [
         | yes k ↦ inr (first-holds b a s .1 (inl k))
         | no k ↦
-          let e : a ≡ b = omega arith in
-          ⊎-elim (λ t. inl (first-holds a b r .1 (inr (e, t)))) (λ t. inr (first-holds b a s .1 (inr (sym e, t)))) (g e)
+            let e : a ≡ b = omega arith in
+            ⊎-elim (λ t. inl (first-holds a b r .1 (inr (e, t)))) (λ t. inr (first-holds b a s .1 (inr (sym e, t)))) (g e)
       ]
     ]
 
@@ -232,8 +232,8 @@ module _ {A : Type 0} {Apart : A → A → Type 0} {before : A → A → Bool} (
       let q = pairs-take (λ x y. T (before x y)) n (sorted before l) p in
       let i : (x : A) → List·Memᴰ x (take n (sorted before l)) → List·Memᴰ x l = λ x m. mem-sorted before l .0 (mem-take n (sorted before l) m) in
       let b : (x y : A) → List·Memᴰ x (take n (sorted before l)) → List·Memᴰ y l → List·Memᴰ y (take n (sorted before l)) ⊎ T (before x y) =
-          λ x y m k.
-          ⊎-elim inl (λ j. inr (pairs-split (λ x y. T (before x y)) n (sorted before l) p x y m j)) (mem-split n (sorted before l) (mem-sorted before l .1 k)) in
+      λ x y m k.
+      ⊎-elim inl (λ j. inr (pairs-split (λ x y. T (before x y)) n (sorted before l) p x y m j)) (mem-split n (sorted before l) (mem-sorted before l .1 k)) in
       record {
         size = length-take n (sorted before l) ∙ ap (min n) (length-sortedOnto before [] l ∙ omega arith);
         part = i;

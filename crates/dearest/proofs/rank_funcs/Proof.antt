@@ -40,8 +40,7 @@ loop-again : tie.Need-loop-again Inv-loop μ-loop
 loop-again c =
     let a = c .before .before .before .before .before .before .args in
     let l = c .before .before .before .before .loop in
-    let taken = rw (c .before .before .span-at .ensures) at (c .rank-points .ensures) in
-    (
+    let taken = rw (c .before .before .span-at .ensures) at (c .rank-points .ensures) in (
       omega arith,
       taken-more (a .ranks .now) (funcRanks (a .price) (taskOf (a .work .now) (a .h)) (l .f)) _ (l .inv .1) taken
           (funcs-more (a .price) (a .work .now) (a .h) (l .f) (omega arith)),

@@ -1,6 +1,6 @@
 -- No rank is taken in yet, and then the points of all functions.
-use mathlib.Core.Path.{_≡_, refl, ap, _∙_}
-use lib.ListN.{length, replicate}
+use mathlib.Core.Path.{ap, _∙_}
+use lib.ListN.{length}
 use Rattle.model.specs.Limits.{mostDearest}
 use Rattle.tables.specs.Tables.{taskOf}
 use Rattle.ranks.specs.Ranks.{best}

@@ -6,13 +6,13 @@ use Rattle.felknost.proofs.felknost_report.Statement.{statement}
 use Rattle.felknost.proofs.felknost_report.Tie as tie
 
 returns : tie.Need-returns
-returns c = too-few _ _ _ _ _ _ (omega (arith, c .if1 .taken))
+returns c = too-few _ _ _ _ (omega (arith, c .if1 .taken))
 
 returns-2 : tie.Need-returns-2
 returns-2 c =
     let r = c .before .before .before .before .before .before .before .before .report .ensures in
     let h = c .before .before .before .before .before .before .before .before .before .before .before .if1 .left in
-    enough _ _ _ _ _ _ (omega (arith, h)) (r .0) (r .1 .0) (r .1 .1) (c .before .before .put-numbers .ensures)
+    enough _ _ _ _ (omega (arith, h)) (r .0) (r .1 .0) (r .1 .1) (c .before .before .put-numbers .ensures)
 
 pub felknost-report-spec : {M : Type 1} → statement M
 felknost-report-spec =

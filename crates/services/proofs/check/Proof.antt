@@ -1,7 +1,8 @@
 -- The verdict is that of the judgement; then the space is cleared.
 use borrow.Author.Needs.{needs}
-use Rattle.services.proofs.Before.{work-room}
-use Rattle.services.proofs.Laws.{first-passes, accepts, refuses, checked}
+use Rattle.serving.proofs.Before.{work-room}
+use Rattle.serving.proofs.Laws.{first-passes}
+use Rattle.services.proofs.Laws.{accepts, refuses, checked}
 use Rattle.services.proofs.check.Statement.{statement}
 use Rattle.services.proofs.check.Tie as tie
 

@@ -1,7 +1,7 @@
 -- What is judged is refused or reported; then the space is cleared.
 use borrow.Author.Needs.{needs}
-use Rattle.services.proofs.Before.{priced-room}
-use Rattle.services.proofs.Laws.{first-passes, ready-at, report-result, report-work, report-output}
+use Rattle.serving.proofs.Before.{priced-room}
+use Rattle.serving.proofs.Laws.{first-passes, ready-at, write-result, write-work, write-output}
 use Rattle.services.proofs.report.Statement.{statement}
 use Rattle.services.proofs.report.Tie as tie
 
@@ -17,7 +17,7 @@ returns c =
     let c10 = c .before .before .before .before .before .before .before .before .before .before in
     let j = c10 .before .before .before .judge-lent .ensures _ (c10 .before .before .before .before .before .priced-row .ensures) in
     let r = c .before .before .before .before .before .before .before .before .report-judged .ensures in
-    (report-result j r, (report-work j r (c .before .before .clear .ensures), report-output j r))
+    (write-result j r, (write-work j r (c .before .before .clear .ensures), write-output j r))
 
 pub report-spec : {M : Type 1} → statement M
 report-spec =

@@ -2,9 +2,9 @@
 use mathlib.Core.Path.{ap}
 use borrow.Author.Needs.{needs}
 use Rattle.model.specs.Services.{AfterRun}
-use Rattle.services.proofs.Before.{priced-room}
-use Rattle.services.proofs.Laws.{first-passes, ready-at}
-use Rattle.services.proofs.Events.{run-left, run-demand}
+use Rattle.serving.proofs.Before.{priced-room}
+use Rattle.serving.proofs.Laws.{first-passes, ready-at}
+use Rattle.running.proofs.Events.{run-left, run-demand}
 use Rattle.services.proofs.run.Statement.{statement}
 use Rattle.services.proofs.run.Tie as tie
 

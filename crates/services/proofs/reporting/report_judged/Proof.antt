@@ -1,5 +1,5 @@
 -- By what the judgement is.
-use Rattle.services.proofs.Laws.{none-reported}
+use Rattle.serving.proofs.Laws.{none-written}
 use borrow.Author.Needs.{needs}
 use Rattle.services.proofs.reporting.report_judged.Statement.{statement}
 use Rattle.services.proofs.reporting.report_judged.Tie as tie
@@ -8,7 +8,7 @@ report-task-requires : tie.Need-report-task-requires
 report-task-requires c κs = rw (c .before .before .before .judgement2 .given .1) at (c .before .before .before .before .before .before .before .pre)
 
 returns : tie.Need-returns
-returns c = rw (c .before .before .judgement .given .1, c .refused .ensures) (none-reported _ _ _ _)
+returns c = rw (c .before .before .judgement .given .1, c .nothing-written .ensures) (none-written _ _ _ _)
 
 returns-2 : tie.Need-returns-2
 returns-2 c =

@@ -2,7 +2,7 @@
 use native.Mathlib.Omega.{arith}
 use Rattle.tables.proofs.Valid.{kept-later}
 use Rattle.report.proofs.Limits.{report-small}
-use Rattle.services.proofs.Laws.{cleared-same, output-room, too-short, long-enough}
+use Rattle.serving.proofs.Laws.{cleared-same, output-room, too-short, long-enough}
 use borrow.Author.Needs.{needs}
 use Rattle.services.proofs.reporting.report_task.Statement.{statement}
 use Rattle.services.proofs.reporting.report_task.Tie as tie
@@ -12,13 +12,13 @@ returns c =
     let c10 = c .before .before .before .before .before .before .before .before .before .before in
     let f = c .before .before .before .before .before .before .before .before .figure-task .ensures in
     let s = cleared-same (c10 .before .before .pre .1) (kept-later 7744 (f .2)) in
-    rw (c .refused .ensures) (too-short _ _ (f .1) (c .before .before .before .before .output-row .ensures) s (c .before .before .r .given .1))
+    rw (c .nothing-written .ensures) (too-short _ _ (f .1) (c .before .before .before .before .report-row .ensures) s (c .before .before .r .given .1))
 
 put-report-requires : tie.Need-put-report-requires
 put-report-requires c κs = (
   c .before .before .before .before .before .before .before .before .figure-task .ensures .0,
   output-room _ _ _
-      (c .before .before .before .before .output-row .ensures) (c .before .before .enum-told .given .1),
+      (c .before .before .before .before .report-row .ensures) (c .before .before .enum-told .given .1),
 )
 
 cast-t19 : tie.Need-cast-t19
@@ -32,7 +32,7 @@ returns-2 c =
     let f = c10 .before .figure-task .ensures in
     let s = cleared-same (c10 .before .before .before .before .before .pre .1) (kept-later 7744 (f .2)) in
     let p = c .before .before .put-report .ensures in
-    long-enough _ _ (f .1) (c .before .before .before .before .before .before .before .output-row .ensures) s
+    long-enough _ _ (f .1) (c .before .before .before .before .before .before .before .report-row .ensures) s
     (c .before .before .before .before .before .enum-told .given .1) (p .0) (p .1)
 
 pub report-task-spec : {M : Type 1} → statement M

@@ -1,0 +1,193 @@
+-- The rows of run by their tests, and what run returns and leaves.
+use Prim.Native.Nat.{ℕ, _/_, _%_, _≤_, _<_}
+use mathlib.Core.Bool.{_&&_}
+use mathlib.Core.List.{List}
+use mathlib.Core.Option.{Option, none, some}
+use mathlib.Core.Path.{_≡_, refl, ap, sym, subst, _∙_}
+use native.Mathlib.Omega.{arith}
+use lib.Dec.{eqb, leb, eqb→eq, leb→le}
+use lib.ListN.{length}
+use borrow.Author.Tests.{eq-eqb, ne-eqb, lt-leb, le-leb}
+use Rattle.model.specs.declared.Row.the-variants.{EventList, AnswersTooSmall, CacheSize, MemoryTooSmall}
+use Rattle.model.specs.declared.Refusal.{Refusal}
+use Rattle.model.specs.declared.Verdict.{Verdict}
+use Rattle.model.specs.declared.Verdict.the-variants.{Accepted, Refused}
+use Rattle.model.specs.declared.RunResult.{RunResult}
+use Rattle.model.specs.Limits.{mostEventNumbers}
+use Rattle.model.specs.Basic.{unless, _orElse_}
+use Rattle.model.specs.Rows.{refuse, rowVerdict}
+use Rattle.model.specs.Task.{Task, Judged, refused, task}
+use Rattle.model.specs.Figures.{longest}
+use Rattle.model.specs.Refusal.{withRows, pricedRows, runRows}
+use Rattle.model.specs.Plain.{eventsOf}
+use Rattle.model.specs.Services.{cleared, AfterRun, runAs, runJudged, runWith, runOf, Demand3}
+use Rattle.theory.proofs.Lists.{and-holds}
+use Rattle.theory.proofs.Firsts.{row-none, unless-none}
+use Rattle.theory.proofs.Search.{verdict-none, verdict-some}
+use Rattle.theory.proofs.Faithful.{demand-3}
+use Rattle.tables.specs.declared.Header.{Header}
+use Rattle.tables.specs.Tables.{taskOf}
+use Rattle.tables.proofs.Laws.{count-is}
+use Rattle.prices.specs.declared.Price.{Price}
+use Rattle.prices.specs.Prices.{priceOf}
+use Rattle.figures.specs.declared.FuncFigures.{FuncFigures}
+use Rattle.figures.specs.Figured.{Figured, funcFigures}
+use Rattle.bounds.specs.Bounds.{Bounded}
+use Rattle.run.specs.Events.{Fitting, Serves}
+use Rattle.judge.specs.declared.Judgement.{Judgement}
+use Rattle.judge.specs.Judgement.{judgedIn}
+use Rattle.serving.specs.Served.{Lent}
+use Rattle.running.specs.Performs.{bufferRows, noneDone, afterRun, performed, Performs}
+use Rattle.serving.proofs.Laws.{own-rows}
+
+-- ---- 16, 17 and 18 by their tests
+
+module _ (e a c s : ℕ) {v : Verdict} where
+  pub odd-list : (e % 2 ≡ 0 → ⊥) → v ≡ Refused (refuse EventList 0) → v ≡ rowVerdict (bufferRows e a c s)
+  odd-list n i = rw (ne-eqb (e % 2) 0 n) i
+
+  module _ (p : e % 2 ≡ 0) where
+    pub long-list : mostEventNumbers < e → v ≡ Refused (refuse EventList 0) → v ≡ rowVerdict (bufferRows e a c s)
+    long-list h i = rw (eq-eqb (e % 2) 0 p, lt-leb e mostEventNumbers h) i
+
+    module _ (h : e ≤ mostEventNumbers) where
+      pub few-answers : a < e / 2 → v ≡ Refused (refuse AnswersTooSmall (e / 2)) → v ≡ rowVerdict (bufferRows e a c s)
+      few-answers k i = rw (eq-eqb (e % 2) 0 p, le-leb e mostEventNumbers h, lt-leb (e / 2) a k) i
+
+      pub other-cache : e / 2 ≤ a → (c ≡ s → ⊥) → v ≡ Refused (refuse CacheSize s) → v ≡ rowVerdict (bufferRows e a c s)
+      other-cache k n i = rw (eq-eqb (e % 2) 0 p, le-leb e mostEventNumbers h, le-leb (e / 2) a k, ne-eqb c s n) i
+
+      pub buffers-pass : e / 2 ≤ a → c ≡ s → v ≡ Accepted → v ≡ rowVerdict (bufferRows e a c s)
+      buffers-pass k j i = rw (eq-eqb (e % 2) 0 p, le-leb e mostEventNumbers h, le-leb (e / 2) a k, eq-eqb c s j) i
+
+-- buffers that they do not refuse
+record Pass (e a c s : ℕ) : Type 0 where
+  paired : e % 2 ≡ 0
+  few : e ≤ mostEventNumbers
+  answered : e / 2 ≤ a
+  blocks : c ≡ s
+
+passes : (e a c s : ℕ) → bufferRows e a c s ≡ none → Pass e a c s
+passes e a c s n =
+    let i = row-none (eqb (e % 2) 0 && leb e mostEventNumbers) (refuse EventList 0) _ .0 n in
+    let j = row-none (leb (e / 2) a) (refuse AnswersTooSmall (e / 2)) _ .0 (i .1) in
+    let k = unless-none (eqb c s) (refuse CacheSize s) .0 (j .1) in
+    let l = and-holds (eqb (e % 2) 0) (leb e mostEventNumbers) .0 (i .0) in
+    record {
+      paired = eqb→eq (e % 2) 0 (l .0);
+      few = leb→le e mostEventNumbers (l .1);
+      answered = leb→le (e / 2) a (j .0);
+      blocks = eqb→eq c s k;
+    }
+
+-- ---- 16 to 19
+
+or-later : (a b c d : Option Refusal) → (a orElse b orElse c orElse d) ≡ ((a orElse b orElse c) orElse d)
+or-later none none c d = refl
+or-later none (some r) c d = refl
+or-later (some r) b c d = refl
+
+-- 19 comes after the others
+rows-split : (e a c m : ℕ) (t : Task)
+    → runRows e a c m t ≡ (bufferRows e a c (t .stack) orElse unless (leb (longest t 0) m) (refuse MemoryTooSmall (longest t 0)))
+unfolding runRows
+rows-split e a c m t =
+    or-later (unless (eqb (e % 2) 0 && leb e mostEventNumbers) (refuse EventList 0)) (unless (leb (e / 2) a) (refuse AnswersTooSmall (e / 2))) _ _
+
+-- the run of an accepted task, where v is the verdict of 16, 17 and 18
+module _ (price : Price) {t : Task} (events answers cache memory : List ℕ) {v : Verdict}
+    (e : v ≡ rowVerdict (bufferRows (length events) (length answers) (length cache) (t .stack))) where
+  pub unfit : {q : Refusal} {r : RunResult} (w : List ℕ) → v ≡ Refused q → r ≡ noneDone q
+      → Performs price (task t) w events answers cache memory r w answers cache memory
+  unfit w n i =
+      let m : bufferRows (length events) (length answers) (length cache) (t .stack) ≡ some _ = verdict-some _ (sym e ∙ n) in
+      record {
+        left = λ work. rw (rows-split (length events) (length answers) (length cache) (length memory) t, m)
+            (ap (λ (x : RunResult). afterRun x work answers cache memory) i);
+        after = refl;
+      }
+
+  -- t′: the task as its figures were worked out; k: those of function 0
+  module _ (n : v ≡ Accepted) {t′ : Task} (same : t′ ≡ t) {k : FuncFigures} (g : k ≡ funcFigures price t′ 0) where
+    room-is : k .longest ≡ longest t 0
+    unfolding funcFigures
+    room-is = ap (λ (z : FuncFigures). z .longest) g ∙ ap (λ (z : Task). longest z 0) same
+
+    rows-are : runRows (length events) (length answers) (length cache) (length memory) t
+        ≡ unless (leb (longest t 0) (length memory)) (refuse MemoryTooSmall (longest t 0))
+    rows-are =
+        let m : bufferRows (length events) (length answers) (length cache) (t .stack) ≡ none = verdict-none _ (sym e ∙ n) in
+        rw (rows-split (length events) (length answers) (length cache) (length memory) t, m) refl
+
+    module _ {w w′ : List ℕ} {r : RunResult} (after : cleared w′ ≡ cleared w) where
+      pub too-little : length memory < k .longest → r ≡ noneDone (refuse MemoryTooSmall (k .longest))
+          → Performs price (task t) w events answers cache memory r w′ answers cache memory
+      too-little h i =
+          let l : length memory < longest t 0 = omega (arith, room-is) in
+          record {
+            left = λ work. rw (rows-are, lt-leb (longest t 0) (length memory) l)
+                (ap (λ (x : RunResult). afterRun x work answers cache memory) (i ∙ ap (λ (x : ℕ). noneDone (refuse MemoryTooSmall x)) room-is));
+            after = after;
+          }
+
+      -- t″: the task as its events are run
+      pub all-run : {t″ : Task} {w″ answers′ cache′ memory′ : List ℕ} → t″ ≡ t′ → k .longest ≤ length memory
+          → Serves price t″ events answers cache memory w′ r answers′ cache′ memory′ w″
+          → cleared w″ ≡ cleared w′ → Performs price (task t) w events answers cache memory r w″ answers′ cache′ memory′
+      all-run i h s d =
+          let l : longest t 0 ≤ length memory = omega (arith, room-is) in
+          let z = rw (i ∙ same) at s in
+          record {
+            left = λ work. rw (rows-are, le-leb (longest t 0) (length memory) l)
+                (λ i. afterRun (z .returned i) work (z .answered i) (z .cached i) (z .stored i));
+            after = d ∙ after;
+          }
+
+-- function 0 is there
+module _ {price : Price} {w : List ℕ} {h : Header} (f : Figured price w h) where
+  pub some-func : 0 < h .funcs
+  some-func = omega (arith, f .settled .formed .shaped .some, count-is w h)
+
+-- what the run of the events asks for; w: the working space when the room was asked for
+module _ {price : Price} (w : List ℕ) {w′ : List ℕ} {h : Header} (b : Bounded price w′ h) (same : taskOf w′ h ≡ taskOf w h) where
+  pub fits : (events answers cache memory : List ℕ) {v : Verdict} {k : FuncFigures}
+      → v ≡ rowVerdict (bufferRows (length events) (length answers) (length cache) (h .stack)) → v ≡ Accepted → k ≡ funcFigures price (taskOf w h) 0
+      → k .longest ≤ length memory → Fitting price w′ h events answers cache memory
+  unfolding funcFigures
+  fits events answers cache memory e n g l =
+      let p = passes (length events) (length answers) (length cache) (h .stack) (verdict-none _ (sym e ∙ n)) in
+      record {
+        bounded = b;
+        paired = p .paired;
+        few = p .few;
+        answered = p .answered;
+        blocks = p .blocks;
+        room = omega (arith, ap (λ (z : FuncFigures). z .longest) g, ap (λ (z : Task). longest z 0) same);
+      }
+
+-- ---- what was judged
+
+pub none-run : (price : Price) (q : Refusal) (w events answers cache memory : List ℕ)
+    → Performs price (refused q) w events answers cache memory (noneDone q) w answers cache memory
+none-run price q w events answers cache memory = record { left = λ work. refl; after = refl }
+
+-- the service
+module _ {price : Price} {text w w′ w″ events answers cache memory answers′ cache′ memory′ : List ℕ} {j : Judgement} {r : RunResult}
+    (a : Lent (pricedRows (length w) (price .start) (price .each)) text w j w′)
+    (b : Performs price (judgedIn w′ j) w′ events answers cache memory r w″ answers′ cache′ memory′) {l : List ℕ} (c : l ≡ cleared w″) where
+  run-is : runOf text (price .start) (price .each) w events answers cache memory
+      ≡ performed price (judgedIn w′ j) (cleared w) events answers cache memory
+  unfolding runWith runJudged
+  run-is =
+      ap
+      (λ (x : Judged). runAs (priceOf price) x (cleared w) (eventsOf events) answers cache memory)
+      (own-rows (runRows (length events) (length answers) (length cache) (length memory)) _ text
+      ∙ ap (withRows (runRows (length events) (length answers) (length cache) (length memory))) (a .same))
+
+  pub run-left : afterRun r l answers′ cache′ memory′ ≡ runOf text (price .start) (price .each) w events answers cache memory
+  run-left = ap (λ (x : List ℕ). afterRun r x answers′ cache′ memory′) (c ∙ b .after ∙ a .after) ∙ b .left (cleared w) ∙ sym run-is
+
+  pub run-demand : Demand3 (pricedRows (length w) (price .start) (price .each)) text events answers cache memory (afterRun r l answers′ cache′ memory′)
+  run-demand =
+      subst (λ (x : AfterRun). Demand3 (pricedRows (length w) (price .start) (price .each)) text events answers cache memory x) (sym run-left)
+      (demand-3 text (price .start) (price .each) w events answers cache memory)

@@ -1,0 +1,73 @@
+-- 16, 17 and 18 refuse, or the figures are worked out; then 19 refuses, or the events are run.
+use mathlib.Core.Path.{_∙_}
+use native.Mathlib.Omega.{arith}
+use borrow.Author.Needs.{needs}
+use Rattle.tables.proofs.Valid.{kept-later}
+use Rattle.serving.proofs.Laws.{cleared-same}
+use Rattle.running.proofs.Events.{unfit, too-little, all-run, some-func, fits}
+use Rattle.running.proofs.run_task.Statement.{statement}
+use Rattle.running.proofs.run_task.Tie as tie
+
+returns : tie.Need-returns
+returns c = unfit _ _ _ _ _ (c .before .before .before .before .buffer-row .ensures) _ (c .before .before .r .given .1) (c .refused .ensures)
+
+func-figures-requires : tie.Need-func-figures-requires
+func-figures-requires c κs = let f = c .before .before .before .figure-task .ensures .0 in (f, some-func f)
+
+returns-2 : tie.Need-returns-2
+returns-2 c =
+    let f = c .before .before .before .before .before .before .figure-task .ensures in
+    let s = cleared-same (c .before .before .before .before .before .before .before .before .before .before .before .before .before .before .before
+    .before .pre .1) (kept-later 7744 (f .2)) in
+    too-little _ _ _ _ _ (c .before .before .before .before .before .before .before .before .before .before .buffer-row .ensures)
+    (c .before .before .before .before .before .before .before .before .enum-told .given .1) (f .1) (c .before .before .func-figures .ensures) s
+    (omega (arith, c .before .if1 .taken)) (c .refused2 .ensures)
+
+run-events-requires : tie.Need-run-events-requires
+run-events-requires c κs =
+    let c10 = c .before .before .before .before .before .before .before .before .before .before in
+    let b = c .before .before .before .before .before .before .bound-task .ensures in
+    fits _ (b .0) (b .1) _ _ _ _ (c10 .before .before .before .before .before .before .before .buffer-row .ensures)
+    (c10 .before .before .before .before .before .enum-told .given .1)
+    (c .before .before .before .before .before .before .before .before .before .func-figures .ensures)
+    (omega (arith, c .before .before .before .before .before .before .before .before .if1 .left))
+
+returns-3 : tie.Need-returns-3
+returns-3 c =
+    let c10 = c .before .before .before .before .before .before .before .before .before .before in
+    let c20 = c10 .before .before .before .before .before .before .before .before .before .before in
+    let c30 = c20 .before .before .before .before .before .before .before .before .before .before in
+    let f = c20 .before .before .figure-task .ensures in
+    let b = c10 .before .before .before .before .before .bound-task .ensures in
+    let r = c .before .before .before .before .before .before .before .before .run-events .ensures in
+    let p = c30 .before .before .pre .1 in
+    let s = cleared-same p (kept-later 7744 (f .2)) in
+    let u = cleared-same (omega (arith, p, f .2 .size)) (kept-later 5632 (b .2)) in
+    let d = cleared-same (omega (arith, p, f .2 .size, b .2 .size)) (kept-later 5504 (r .kept)) in
+    all-run _ _ _ _ _ (c20 .before .before .before .before .before .before .buffer-row .ensures)
+    (c20 .before .before .before .before .enum-told .given .1) (f .1)
+    (c10 .before .before .before .before .before .before .before .before .func-figures .ensures) (u ∙ s) (b .1)
+    (omega (arith, c10 .before .before .before .before .before .before .before .if1 .left)) r d
+
+pub run-task-spec : {M : Type 1} → statement M
+run-task-spec =
+    tie.close
+    (tie.spec
+    (λ c κs. search needs)
+    (λ c. search needs)
+    (λ c κs. search needs)
+    returns
+    (λ c. search needs)
+    (λ c κs. search needs)
+    func-figures-requires
+    (λ c. search needs)
+    (λ c κs. search needs)
+    (λ c. search needs)
+    returns-2
+    (λ c κs. c .before .before .before .before .before .before .figure-task .ensures .0)
+    run-events-requires
+    (λ c. search needs)
+    (λ c. search needs)
+    (λ c. search needs)
+    (λ c. search needs)
+    returns-3)

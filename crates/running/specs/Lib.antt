@@ -1,0 +1,2 @@
+-- What run does with a text that is judged.
+pub mod Performs

@@ -1,0 +1,52 @@
+-- 16, 17 and 18; and what run returns and leaves of a text that is judged.
+use Prim.Native.Nat.{ℕ, _/_, _%_}
+use mathlib.Core.Bool.{_&&_}
+use mathlib.Core.Path.{_≡_}
+use mathlib.Core.List.{List}
+use mathlib.Core.Option.{Option}
+use lib.Dec.{eqb, leb}
+use lib.ListN.{length}
+use Rattle.model.specs.declared.Refusal.{Refusal}
+use Rattle.model.specs.declared.Row.the-variants.{EventList, AnswersTooSmall, CacheSize}
+use Rattle.model.specs.declared.Ending.the-variants as ending
+use Rattle.model.specs.declared.RunResult.{RunResult}
+use Rattle.model.specs.Limits.{mostEventNumbers}
+use Rattle.model.specs.Basic.{unless, _orElse_}
+use Rattle.model.specs.Rows.{refuse}
+use Rattle.model.specs.Task.{Judged}
+use Rattle.model.specs.Refusal.{withRows, runRows}
+use Rattle.model.specs.Plain.{eventsOf}
+use Rattle.model.specs.Services.{cleared, AfterRun, runAs}
+use Rattle.prices.specs.declared.Price.{Price}
+use Rattle.prices.specs.Prices.{priceOf}
+
+-- 16, 17 and 18, for buffers of these lengths and a task with this many cache blocks
+abbrev pub bufferRows : ℕ → ℕ → ℕ → ℕ → Option Refusal
+bufferRows events answers cache stack =
+    unless (eqb (events % 2) 0 && leb events mostEventNumbers) (refuse EventList 0)
+    orElse unless (leb (events / 2) answers) (refuse AnswersTooSmall (events / 2))
+    orElse unless (eqb cache stack) (refuse CacheSize stack)
+
+-- a refusal before the first event
+abbrev pub noneDone : Refusal → RunResult
+noneDone r = record { ending = ending.Refused r; done = 0; moved = 0; allowed = 0 }
+
+-- what a run has returned and left, as one
+abbrev pub afterRun : RunResult → (work answers cache memory : List ℕ) → AfterRun
+afterRun r work answers cache memory = record { result = r; work = work; answers = answers; cache = cache; memory = memory }
+
+-- what run returns and leaves at this price of what was judged as j: one of 16 to 19 for an accepted task, or its run
+abbrev pub performed : Price → Judged → (work events answers cache memory : List ℕ) → AfterRun
+performed price j work events answers cache memory =
+    runAs
+    (priceOf price)
+    (withRows (runRows (length events) (length answers) (length cache) (length memory)) j)
+    work
+    (eventsOf events)
+    answers
+    cache
+    memory
+
+pub record Performs (price : Price) (j : Judged) (w events answers cache memory : List ℕ) (r : RunResult) (w′ answers′ cache′ memory′ : List ℕ) : Type 0 where
+  pub left : (work : List ℕ) → afterRun r work answers′ cache′ memory′ ≡ performed price j work events answers cache memory
+  pub after : cleared w′ ≡ cleared w
