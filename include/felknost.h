@@ -1,9 +1,10 @@
 /*
  * Felknost: the preemption sheet of a task on a core with a stack cache.
  *
- * felknost_check judges a task text, given as its bytes; felknost_report writes its preemption sheet; felknost_run steps and preempts the task on the
- * machine. All return for every byte string and every length of the buffers, and touch nothing but the buffers that they are lent and their own
- * stack. Threads may call them at the same time, each with buffers of its own. Link with libfelknost.a and a C library for memset and memcpy.
+ * felknost_check judges a task text, given as its bytes; felknost_report writes its preemption sheet; felknost_dearest_points writes the ten dearest
+ * points of that sheet; felknost_run steps and preempts the task on the machine. All return for every byte string and every length of the buffers, and
+ * touch nothing but the buffers that they are lent and their own stack. Threads may call them at the same time, each with buffers of its own. Link with
+ * libfelknost.a and a C library for memset and memcpy.
  */
 #ifndef FELKNOST_H
 #define FELKNOST_H
@@ -65,6 +66,21 @@ uint32_t felknost_check(const uint8_t *text, size_t length);
 
 uint32_t felknost_report(const uint8_t *text, size_t text_length, uint32_t start, uint32_t each, uint8_t *output, size_t output_length,
                          uint32_t *work, size_t work_length, uint64_t *result, size_t result_length);
+
+/*
+ * Writes a list of the ten dearest points of a task text to the front of output, or of all points where there are fewer. Each has one line,
+ * "(dear F P COST)" and a line feed: the number of the function, the number of the point in it, and the cost that the sheet at the same start and each
+ * gives for it. Higher costs come first. Equal costs go by rising function, and in one function by rising point. There are no other lines.
+ *
+ * All else is as for felknost_report: what is lent and what it holds afterwards, start and each, result, the refusals and their order, NULL, overlap and
+ * the return value. With 14 PLACE is the number of bytes of the list.
+ */
+
+/* Bytes of output that are enough for every list: none has more than 220. */
+#define FELKNOST_DEAREST_OUTPUT 256
+
+uint32_t felknost_dearest_points(const uint8_t *text, size_t text_length, uint32_t start, uint32_t each, uint8_t *output, size_t output_length,
+                                 uint32_t *work, size_t work_length, uint64_t *result, size_t result_length);
 
 /*
  * Runs a list of events on the task of a text, from a fresh start on the lent cache and memory, whatever they hold. An event is two numbers: kind 0 takes

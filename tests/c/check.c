@@ -5,6 +5,7 @@
 #ifndef _GNU_SOURCE
 #define _GNU_SOURCE 1
 #endif
+#include "built.h"
 #include "felknost.h"
 #include "room.h"
 #include "stack.h"
@@ -14,7 +15,6 @@
 #include <stdlib.h>
 #include <string.h>
 
-#define LONGEST 32768
 #define CODES 13
 
 static int passed, failed;
@@ -100,23 +100,7 @@ static void refusals(void)
         expect(samples[i].name, samples[i].text, strlen(samples[i].text), samples[i].code, samples[i].place);
 }
 
-/* ---- long texts, built here */
-
-static char built[2 * LONGEST];
-static size_t used;
-
-static void put(const char *line)
-{
-    size_t n = strlen(line);
-    memcpy(built + used, line, n);
-    used += n;
-}
-
-static void put_many(const char *line, int times)
-{
-    for (int i = 0; i < times; i++)
-        put(line);
-}
+/* ---- long texts */
 
 static void built_gives(const char *name, uint32_t code, uint32_t place)
 {
@@ -126,13 +110,11 @@ static void built_gives(const char *name, uint32_t code, uint32_t place)
 
 static void functions_of(int number)
 {
-    char line[32];
     put("(stack 1)\n");
     for (int f = 0; f < number; f++) {
         put("(func 0\n");
         if (f + 1 < number) {
-            snprintf(line, sizeof line, "  (call %d)\n", f + 1);
-            put(line);
+            put_call(f + 1);
             put("  (ensure 0)\n");
         }
         put("  (return)\n)\n");

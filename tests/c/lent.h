@@ -1,6 +1,6 @@
 /*
  * Buffers that are lent to a service, each at one end of its pages: the front, where what lies before traps, or the end, where what lies behind does.
- * And the count of what passed.
+ * The task and the prices that they are used with, and the count of what passed.
  */
 #ifndef LENT_H
 #define LENT_H
@@ -25,6 +25,11 @@ static inline void count(const char *name, int good)
     failed++;
     printf("%s: FAILED\n", name);
 }
+
+/* A task of two functions in which the callee spills one block. */
+#define TASK                                                                                  \
+    "(stack 5)\n(func 2\n  (store 1)\n  (call 1)\n  (ensure 2)\n  (load 1)\n  (return)\n)\n" \
+    "(func 4\n  (store 0)\n  (load 0)\n  (return)\n)\n"
 
 /* The price of a move: start where it moves a block at all, and each for each block. */
 struct price {

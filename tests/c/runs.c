@@ -12,9 +12,6 @@
 #include <stdlib.h>
 #include <string.h>
 
-#define TASK                                                                                  \
-    "(stack 5)\n(func 2\n  (store 1)\n  (call 1)\n  (ensure 2)\n  (load 1)\n  (return)\n)\n" \
-    "(func 4\n  (store 0)\n  (load 0)\n  (return)\n)\n"
 #define CHOICE "(stack 5)\n(func 2\n  (either 0 1)\n  (return)\n)\n"
 #define STEP 0
 #define PREEMPTION 1

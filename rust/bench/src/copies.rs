@@ -7,7 +7,8 @@ use std::process::ExitCode;
 use crate::run::List;
 use crate::texts::{report_texts, texts};
 use crate::timing::{micros, Call, Rounds};
-use crate::{check, report, run, EACH, START};
+use crate::written::ROUNDS;
+use crate::{check, run, EACH, START};
 
 /// The slowest that a row may get, in parts of what it was.
 const SLOWEST: f64 = 1.03;
@@ -22,11 +23,53 @@ struct Room {
     result: [u64; 5],
 }
 
+/// A service that writes bytes about a text.
+type Writer = fn(&[u8], &mut Room) -> u64;
+
 /// The services of one copy. Each gives a number in which all copies have to agree: the answer, the bytes written, what is moved.
 struct Services {
     check: fn(&[u8]) -> u64,
-    report: fn(&[u8], &mut Room) -> u64,
+    report: Writer,
+    #[cfg(dearest_copies)]
+    dearest_points: Writer,
     run: fn(&List, &mut Room) -> u64,
+}
+
+/// A service that writes, in one copy.
+macro_rules! writer {
+    ($service:literal $copy:literal) => {{
+        extern "C" {
+            #[link_name = concat!("felknost_", $service, "_", $copy)]
+            fn write(
+                text: *const u8,
+                text_length: usize,
+                start: u32,
+                each: u32,
+                output: *mut u8,
+                output_length: usize,
+                work: *mut u32,
+                work_length: usize,
+                result: *mut u64,
+                result_length: usize,
+            ) -> u32;
+        }
+        // SAFETY: as in the binding.
+        |text, room| unsafe {
+            write(
+                text.as_ptr(),
+                text.len(),
+                START,
+                EACH,
+                room.output.as_mut_ptr(),
+                room.output.len(),
+                room.work.as_mut_ptr(),
+                room.work.len(),
+                room.result.as_mut_ptr(),
+                room.result.len(),
+            );
+            room.result[2]
+        }
+    }};
 }
 
 macro_rules! services {
@@ -35,20 +78,6 @@ macro_rules! services {
             extern "C" {
                 #[link_name = concat!("felknost_check_", $copy)]
                 fn check(text: *const u8, length: usize) -> u32;
-
-                #[link_name = concat!("felknost_report_", $copy)]
-                fn report(
-                    text: *const u8,
-                    text_length: usize,
-                    start: u32,
-                    each: u32,
-                    output: *mut u8,
-                    output_length: usize,
-                    work: *mut u32,
-                    work_length: usize,
-                    result: *mut u64,
-                    result_length: usize,
-                ) -> u32;
 
                 #[link_name = concat!("felknost_run_", $copy)]
                 fn run(
@@ -71,23 +100,11 @@ macro_rules! services {
                 ) -> u32;
             }
             Services {
-                // SAFETY, of all three: as in the binding.
+                // SAFETY, here and below: as in the binding.
                 check: |text| unsafe { check(text.as_ptr(), text.len()).into() },
-                report: |text, room| unsafe {
-                    report(
-                        text.as_ptr(),
-                        text.len(),
-                        START,
-                        EACH,
-                        room.output.as_mut_ptr(),
-                        room.output.len(),
-                        room.work.as_mut_ptr(),
-                        room.work.len(),
-                        room.result.as_mut_ptr(),
-                        room.result.len(),
-                    );
-                    room.result[2]
-                },
+                report: writer!("report" $copy),
+                #[cfg(dearest_copies)]
+                dearest_points: writer!("dearest_points" $copy),
                 run: |list, room| unsafe {
                     let cache = &mut room.cache[..list.cache];
                     let memory = &mut room.memory[..list.memory];
@@ -124,14 +141,19 @@ const COPIES: [Services; 8] = services! {
 /// A row: its name, and the call that is timed.
 type Row = (&'static str, Box<dyn Fn(&Services, &mut Room) -> u64>);
 
-/// The tables: the service, how it is timed, and the rows.
-fn tables() -> [(&'static str, Rounds, Vec<Row>); 3] {
-    let checked = |(name, text): (_, Vec<u8>)| -> Row {
-        let call = move |copy: &Services, _: &mut Room| (copy.check)(black_box(&text));
+/// The rows of a service that writes.
+fn written_rows(service: fn(&Services) -> Writer) -> Vec<Row> {
+    let row = |(name, text): (_, Vec<u8>)| -> Row {
+        let call = move |copy: &Services, room: &mut Room| service(copy)(black_box(&text), room);
         (name, Box::new(call))
     };
-    let reported = |(name, text): (_, Vec<u8>)| -> Row {
-        let call = move |copy: &Services, room: &mut Room| (copy.report)(black_box(&text), room);
+    report_texts().into_iter().map(row).collect()
+}
+
+/// The tables: the service, how it is timed, and the rows. The dearest points are there where both archives have them.
+fn tables() -> Vec<(&'static str, Rounds, Vec<Row>)> {
+    let checked = |(name, text): (_, Vec<u8>)| -> Row {
+        let call = move |copy: &Services, _: &mut Room| (copy.check)(black_box(&text));
         (name, Box::new(call))
     };
     let ran = |list: List| -> Row {
@@ -139,23 +161,21 @@ fn tables() -> [(&'static str, Rounds, Vec<Row>); 3] {
         let call = move |copy: &Services, room: &mut Room| (copy.run)(black_box(&list), room);
         (name, Box::new(call))
     };
-    [
-        (
-            "Check",
-            check::ROUNDS,
-            texts().into_iter().map(checked).collect(),
-        ),
-        (
-            "Report",
-            report::ROUNDS,
-            report_texts().into_iter().map(reported).collect(),
-        ),
-        (
-            "Run",
-            run::ROUNDS,
-            run::lists().into_iter().map(ran).collect(),
-        ),
-    ]
+    let checks = texts().into_iter().map(checked).collect();
+    let runs = run::lists().into_iter().map(ran).collect();
+    let tables = [
+        ("Check", check::ROUNDS, checks),
+        ("Report", ROUNDS, written_rows(|copy| copy.report)),
+        ("Run", run::ROUNDS, runs),
+    ];
+    let tables = tables.into_iter();
+    #[cfg(dearest_copies)]
+    let tables = tables.chain([(
+        "Dearest points",
+        ROUNDS,
+        written_rows(|copy| copy.dearest_points),
+    )]);
+    tables.collect()
 }
 
 /// Seconds of the old and of the new archive. All copies are lent the same room.
@@ -183,7 +203,7 @@ fn twice_if_slower(rounds: Rounds, row: &Row, room: &RefCell<Room>) -> (f64, f64
 /// Prints the tables.
 pub fn compare() -> ExitCode {
     let room = RefCell::new(Room {
-        output: vec![0; report::OUTPUT],
+        output: vec![0; felknost::OUTPUT],
         answers: vec![0; run::EVENTS],
         cache: vec![7; 64],
         memory: vec![7; 256],

@@ -6,10 +6,12 @@
 mod check;
 #[cfg(copies)]
 mod copies;
+mod dearest;
 mod report;
 mod run;
 mod texts;
 mod timing;
+mod written;
 
 use std::process::ExitCode;
 
@@ -29,9 +31,10 @@ fn tables() -> ExitCode {
     match std::env::args().nth(1).as_deref() {
         Some("check") => check::table(),
         Some("report") => report::table(),
+        Some("dearest") => dearest::table(),
         Some("run") => run::table(),
         _ => {
-            eprintln!("usage: bench check | report | run");
+            eprintln!("usage: bench check | report | dearest | run");
             return ExitCode::from(2);
         }
     }
@@ -40,6 +43,9 @@ fn tables() -> ExitCode {
 
 #[cfg(test)]
 mod tests {
+    use felknost::Row;
+
+    use crate::dearest::Room;
     use crate::texts::{report_texts, texts};
     use crate::timing::grouped;
 
@@ -59,9 +65,10 @@ mod tests {
         for (head, texts) in [
             ("| Text | Bytes |", texts()),
             ("| Text of a report |", report_texts()),
+            ("| Text of a list |", report_texts()),
         ] {
             let rows = rows(head);
-            assert_eq!(rows.len(), texts.len());
+            assert_eq!(rows.len(), texts.len(), "{head}");
             for (row, (name, text)) in rows.iter().zip(texts) {
                 let start = format!("| {name} | {} | ", grouped(text.len()));
                 assert!(row.starts_with(&start), "{row} should start with {start}");
@@ -78,6 +85,16 @@ mod tests {
         for (row, list) in rows.iter().zip(lists) {
             let start = format!("| {} | ", list.name);
             assert!(row.starts_with(&start), "{row} should start with {start}");
+        }
+    }
+
+    /// Row 19 refuses the run that is timed, unless the text is refused: no other row of a run comes before the figures.
+    #[test]
+    fn runs_without_memory_are_refused_after_the_figures() {
+        for (name, text) in report_texts() {
+            let ran = Room::of(&text).run(&text).map_err(|refusal| refusal.row);
+            let wanted = felknost::check(&text).map_err(|refusal| refusal.row);
+            assert_eq!(ran, wanted.and(Err(Row::MemoryTooSmall)), "{name}");
         }
     }
 

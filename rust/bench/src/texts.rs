@@ -5,7 +5,14 @@ pub fn points(text: &[u8]) -> usize {
     text.windows(3).filter(|part| part == b"  (").count()
 }
 
-/// The rows of report's table: those of check, and fewer functions of 16 points, so that growth with the functions shows.
+/// The cache blocks that the first line of a text states.
+pub fn cache_blocks(text: &[u8]) -> usize {
+    let digits = text.iter().skip(b"(stack ".len());
+    let digits = digits.take_while(|byte| byte.is_ascii_digit());
+    digits.fold(0, |number, digit| 10 * number + usize::from(digit - b'0'))
+}
+
+/// The rows of the tables of report and of lists: those of check, and fewer functions of 16 points, so that growth with the functions shows.
 pub fn report_texts() -> Vec<(&'static str, Vec<u8>)> {
     let mut rows = texts();
     let whole = rows

@@ -11,11 +11,13 @@
 
 #![warn(missing_docs)]
 
+mod dearest;
 pub mod raw;
 mod refusal;
 mod report;
 mod run;
 
+pub use dearest::dearest_points;
 pub use refusal::{Refusal, Row};
 pub use report::report;
 pub use run::{run, RunResult};
@@ -24,11 +26,14 @@ extern "C" {
     fn felknost_check(text: *const u8, length: usize) -> u32;
 }
 
-/// The numbers that the working space of report and run has at least.
+/// The numbers that a lent working space has at least.
 pub const WORK: usize = 16_384;
 
 /// Bytes of output that are enough for the report of every task at every price.
 pub const OUTPUT: usize = 65_536;
+
+/// Bytes of output that are enough for the dearest points of every task at every price: no list has more than 220.
+pub const DEAREST_OUTPUT: usize = 256;
 
 /// Checks a task text: accepted, or refused with a row and a line.
 pub fn check(text: &[u8]) -> Result<(), Refusal> {

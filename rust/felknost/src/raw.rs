@@ -1,20 +1,67 @@
-//! Report and run as C calls them, with slices in place of pointers and lengths. The numbers of a result go to a buffer; the answer is 1, or 0 with
-//! nothing touched where that buffer is too short.
+//! Report, the dearest points and run as C calls them, with slices in place of pointers and lengths. The numbers of a result go to a buffer; the answer is
+//! 1, or 0 with nothing touched where that buffer is too short.
+
+/// A function that writes bytes about a text at a price.
+pub type Writer = fn(&[u8], u32, u32, &mut [u8], &mut [u32], &mut [u64]) -> u32;
+
+/// Declares a C function, and its call as a [`Writer`].
+macro_rules! writer {
+    ($(#[$doc:meta])* $name:ident calls $function:ident) => {
+        extern "C" {
+            fn $function(
+                text: *const u8,
+                text_length: usize,
+                start: u32,
+                each: u32,
+                output: *mut u8,
+                output_length: usize,
+                work: *mut u32,
+                work_length: usize,
+                result: *mut u64,
+                result_length: usize,
+            ) -> u32;
+        }
+
+        $(#[$doc])*
+        pub fn $name(
+            text: &[u8],
+            start: u32,
+            each: u32,
+            output: &mut [u8],
+            work: &mut [u32],
+            result: &mut [u64],
+        ) -> u32 {
+            // SAFETY: each pointer comes with the length of its slice, and the slices that are written do not overlap others, since they are unique
+            // borrows.
+            unsafe {
+                $function(
+                    text.as_ptr(),
+                    text.len(),
+                    start,
+                    each,
+                    output.as_mut_ptr(),
+                    output.len(),
+                    work.as_mut_ptr(),
+                    work.len(),
+                    result.as_mut_ptr(),
+                    result.len(),
+                )
+            }
+        }
+    };
+}
+
+writer! {
+    /// The report of a text at a price. `result` gets code, place and bytes written.
+    report calls felknost_report
+}
+
+writer! {
+    /// The dearest points of a text at a price. `result` is as for [`report`].
+    dearest_points calls felknost_dearest_points
+}
 
 extern "C" {
-    fn felknost_report(
-        text: *const u8,
-        text_length: usize,
-        start: u32,
-        each: u32,
-        output: *mut u8,
-        output_length: usize,
-        work: *mut u32,
-        work_length: usize,
-        result: *mut u64,
-        result_length: usize,
-    ) -> u32;
-
     fn felknost_run(
         text: *const u8,
         text_length: usize,
@@ -35,32 +82,6 @@ extern "C" {
     ) -> u32;
 }
 
-/// The report of a text at a price. `result` gets code, place and bytes written.
-pub fn report(
-    text: &[u8],
-    start: u32,
-    each: u32,
-    output: &mut [u8],
-    work: &mut [u32],
-    result: &mut [u64],
-) -> u32 {
-    // SAFETY: each pointer comes with the length of its slice, and the slices that are written do not overlap others, since they are unique borrows.
-    unsafe {
-        felknost_report(
-            text.as_ptr(),
-            text.len(),
-            start,
-            each,
-            output.as_mut_ptr(),
-            output.len(),
-            work.as_mut_ptr(),
-            work.len(),
-            result.as_mut_ptr(),
-            result.len(),
-        )
-    }
-}
-
 /// The run of an event list at a price. `result` gets code, place, events done, moved and allowed.
 #[allow(clippy::too_many_arguments, reason = "the C function has them")]
 pub fn run(
@@ -74,7 +95,7 @@ pub fn run(
     work: &mut [u32],
     result: &mut [u64],
 ) -> u32 {
-    // SAFETY: as for `report`.
+    // SAFETY: as above.
     unsafe {
         felknost_run(
             text.as_ptr(),

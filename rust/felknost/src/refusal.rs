@@ -32,7 +32,7 @@ pub enum Row {
     Uncalled = 12,
     /// A load that some walk from point 0 reaches with no store of its offset.
     Uninitialised = 13,
-    /// The output is shorter than the report; the place is the length wanted.
+    /// The output is shorter than what is to be written; the place is the length wanted.
     OutputTooSmall = 14,
     /// The working space has fewer than 16,384 numbers; the place is that number.
     WorkTooSmall = 15,

@@ -1,4 +1,4 @@
-//! The report of a task text.
+//! The report of a task text, and what every service that writes has in common with it.
 
 use crate::{raw, Refusal};
 
@@ -12,8 +12,20 @@ pub fn report(
     output: &mut [u8],
     work: &mut [u32],
 ) -> Result<usize, Refusal> {
+    written(raw::report, text, start, each, output, work)
+}
+
+/// How many bytes a function writes, or why it writes none.
+pub(crate) fn written(
+    writer: raw::Writer,
+    text: &[u8],
+    start: u32,
+    each: u32,
+    output: &mut [u8],
+    work: &mut [u32],
+) -> Result<usize, Refusal> {
     let mut result = [0; 3];
-    let answer = raw::report(text, start, each, output, work, &mut result);
+    let answer = writer(text, start, each, output, work, &mut result);
     debug_assert_eq!(answer, 1);
     let [code, place, written] = result;
     Refusal::of(code as u32, place as u32)?;

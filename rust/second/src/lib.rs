@@ -1,10 +1,12 @@
-//! A second implementation of the preemption sheet: check, report and run over one task text.
+//! A second implementation of the preemption sheet: check, report, the dearest points and run over
+//! one task text.
 //!
 //! It is written for comparison with another implementation and depends on nothing else.
 
 #![forbid(unsafe_code)]
 #![warn(missing_docs)]
 
+pub mod dearest;
 pub mod figures;
 pub mod links;
 pub mod machine;
@@ -15,11 +17,14 @@ pub mod run;
 pub mod sheet;
 pub mod text;
 pub mod walks;
+pub mod written;
 
+pub use dearest::dearest_points;
 pub use price::Price;
 pub use refusal::{code_and_place, Refusal, Row, Verdict};
 pub use run::{run, RunResult};
-pub use sheet::{report, WriteResult};
+pub use sheet::report;
+pub use written::WriteResult;
 
 use text::{Task, TEXT_MAX};
 

@@ -32,7 +32,7 @@ pub enum Row {
     Uncalled = 12,
     /// A load that may happen before any store of its offset.
     Uninitialised = 13,
-    /// The output of the report is too short.
+    /// The output is too short for what is printed.
     OutputTooSmall = 14,
     /// The working space is too short.
     WorkTooSmall = 15,

@@ -2,47 +2,13 @@
 
 use std::fmt::Write;
 
-use crate::figures::{figures, Figures};
-use crate::refusal::{code_and_place, Refusal, Row, Verdict};
+use crate::figures::Figures;
 use crate::text::Task;
-
-/// The result of a report.
-#[derive(Clone, Copy, Debug, PartialEq, Eq)]
-pub struct WriteResult {
-    /// Acceptance, or the refusal.
-    pub verdict: Verdict,
-    /// The bytes written.
-    pub written: u32,
-}
-
-impl WriteResult {
-    /// Code, place and bytes written.
-    pub fn numbers(self) -> [u64; 3] {
-        let (code, place) = code_and_place(self.verdict);
-        [code.into(), place.into(), self.written.into()]
-    }
-}
+use crate::written::{write, WriteResult};
 
 /// Writes the report of a text at a price to the front of `out`.
 pub fn report(text: &[u8], start: u32, each: u32, work_len: usize, out: &mut [u8]) -> WriteResult {
-    let written = crate::admit_at(text, start, each, work_len).and_then(|(task, price)| {
-        let sheet = print(&task, &figures(&task, price));
-        write(&sheet, out)
-    });
-    WriteResult {
-        verdict: written.map(|_| ()),
-        written: written.unwrap_or(0),
-    }
-}
-
-/// Refuses by row 14.
-fn write(sheet: &str, out: &mut [u8]) -> Result<u32, Refusal> {
-    let length = sheet.len() as u32;
-    let Some(front) = out.get_mut(..sheet.len()) else {
-        return Err(Row::OutputTooSmall.at(length));
-    };
-    front.copy_from_slice(sheet.as_bytes());
-    Ok(length)
+    write(print, text, start, each, work_len, out)
 }
 
 /// The report as a string.

@@ -7,8 +7,8 @@ use std::sync::OnceLock;
 /// The elements of a guard, on each side.
 const GUARD: usize = 8;
 
-/// How much noise is kept, so that a working space is filled by copying.
-const KEPT: usize = 20_000;
+/// How much noise is kept, so that a working space, or an output for every report, is filled by copying.
+const KEPT: usize = 70_000;
 
 /// A number that noise is made of.
 pub trait Noise: Copy + PartialEq + Debug + 'static {

@@ -3,8 +3,12 @@
 
 mod guarded;
 mod services;
+mod sheets;
 mod texts;
+mod written;
 
 pub use guarded::{is_noise_from, noise, Guarded, Noise};
-pub use services::{check, report, report_at, run, run_at, verdict, Lent, Ran, Reported};
-pub use texts::{steps, text, TWO};
+pub use services::{check, run, run_at, verdict, Lent, Ran};
+pub use sheets::{rows, whole_report};
+pub use texts::{called, deep, prices, steps, text, TWO};
+pub use written::{assert_short_results, dearest_points_at, report, report_at, Wanted, Written};

@@ -1,6 +1,6 @@
-//! The services in both implementations.
+//! Check and run in both implementations, and what is required of every service.
 
-use second::{code_and_place, Row, RunResult, Verdict, WriteResult, WORK_MIN};
+use second::{code_and_place, Row, RunResult, Verdict, WORK_MIN};
 
 use felknost::raw;
 use generate::Price;
@@ -8,7 +8,7 @@ use generate::Price;
 use crate::guarded::{is_noise_from, noise, Guarded};
 
 /// Requires that a service refuses a price that does not fit, then a text where check does, and likewise, and else by none of these rows.
-fn assert_checked(text: &[u8], price: Price, work: usize, verdict: Verdict) {
+pub(crate) fn assert_checked(text: &[u8], price: Price, work: usize, verdict: Verdict) {
     if work < WORK_MIN {
         return;
     }
@@ -34,28 +34,6 @@ pub fn check(text: &[u8]) -> Verdict {
 /// Code and place of a text.
 pub fn verdict(text: impl AsRef<[u8]>) -> (u32, u32) {
     code_and_place(check(text.as_ref()))
-}
-
-/// What a report gives: its result and the output, which held noise before.
-#[derive(Debug, PartialEq, Eq)]
-pub struct Reported {
-    pub result: WriteResult,
-    pub output: Vec<u8>,
-}
-
-/// Reports into an output of this length with a working space of that length, in both implementations. Blocks are counted.
-pub fn report(text: &[u8], output: usize, work: usize) -> Reported {
-    report_at(text, Price::BLOCKS, output, work)
-}
-
-/// Reports at a price.
-pub fn report_at(text: &[u8], price: Price, output: usize, work: usize) -> Reported {
-    let mut output = noise(output);
-    let result = second::report(text, price.start, price.each, work, &mut output);
-    assert_checked(text, price, work, result.verdict);
-    let reported = Reported { result, output };
-    report_in_archive(text, price, work, &reported);
-    reported
 }
 
 /// What a run is lent.
@@ -119,7 +97,7 @@ pub fn run_at(text: &[u8], price: Price, events: &[u32], lent: &Lent, work: usiz
 }
 
 /// Requires that a working space of noise was left as the rules say: the first 16,384 numbers 0, unless it is too short, and the rest as it was.
-fn assert_cleared(work: &Guarded<u32>) {
+pub(crate) fn assert_cleared(work: &Guarded<u32>) {
     let held = work.held("the working space");
     let cleared = if held.len() < WORK_MIN { 0 } else { WORK_MIN };
     let (first, rest) = held.split_at(cleared);
@@ -128,33 +106,10 @@ fn assert_cleared(work: &Guarded<u32>) {
 }
 
 /// The numbers of a result, and noise behind them.
-fn with_noise(numbers: &[u64], length: usize) -> Vec<u64> {
+pub(crate) fn with_noise(numbers: &[u64], length: usize) -> Vec<u64> {
     let mut whole = noise(length);
     whole[..numbers.len()].copy_from_slice(numbers);
     whole
-}
-
-fn report_in_archive(text: &[u8], price: Price, work: usize, wanted: &Reported) {
-    let mut output = Guarded::noisy(wanted.output.len());
-    let mut space = Guarded::noisy(work);
-    let mut result = Guarded::noisy(3 + text.len() % 3);
-    let length = result.lent().len();
-    let answer = raw::report(
-        text,
-        price.start,
-        price.each,
-        output.lent(),
-        space.lent(),
-        result.lent(),
-    );
-    assert_eq!(answer, 1);
-    assert_eq!(
-        result.held("the result"),
-        with_noise(&wanted.result.numbers(), length),
-        "the archive's report (left) and the second"
-    );
-    assert!(output.held("the output") == wanted.output, "the output");
-    assert_cleared(&space);
 }
 
 fn run_in_archive(

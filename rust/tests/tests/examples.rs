@@ -2,8 +2,11 @@
 
 use generate::Price;
 use second::figures::{figures, PointFigures};
-use second::{admit, machine, plain, Row, RunResult, WriteResult, WORK_MIN};
-use tests::{is_noise_from, report, report_at, run, run_at, steps, text, verdict, Lent, Ran, TWO};
+use second::{admit, machine, plain, Row, RunResult, WORK_MIN};
+use tests::{
+    dearest_points_at, report, report_at, run, run_at, steps, text, verdict, Lent, Ran, Written,
+    TWO,
+};
 
 const TWO_REPORT: &str = "(report
   (func 0 2 6 6 0 0)
@@ -32,6 +35,26 @@ const TWO_REPORT_AT_10: &str = "(report
   (at 1 5 0 1 15 11 0 11 37 0)
   (at 2 5 4 0 11 0 0 11 22 0)
 )
+";
+
+/// Its dearest points, which are all its points, in blocks and where a move costs 10 to begin.
+const TWO_DEAREST: &str = "(dear 1 1 7)
+(dear 0 1 2)
+(dear 0 3 2)
+(dear 1 0 2)
+(dear 1 2 2)
+(dear 0 2 1)
+(dear 0 0 0)
+(dear 0 4 0)
+";
+const TWO_DEAREST_AT_10: &str = "(dear 1 1 37)
+(dear 0 1 22)
+(dear 0 3 22)
+(dear 1 0 22)
+(dear 1 2 22)
+(dear 0 2 11)
+(dear 0 0 0)
+(dear 0 4 0)
 ";
 
 const START_OF_10: Price = Price { start: 10, each: 1 };
@@ -89,26 +112,30 @@ fn free() {
     assert_eq!(machine::free(1, 4), 0);
 }
 
-fn report_of_two_is(price: Price, wanted: &str) {
-    let length = wanted.len();
-    let reported = report_at(TWO.as_bytes(), price, 400, WORK_MIN);
-    let accepted = WriteResult {
-        verdict: Ok(()),
-        written: length as u32,
-    };
-    assert_eq!(reported.result, accepted);
-    assert_eq!(&reported.output[..length], wanted.as_bytes());
-    assert!(is_noise_from(length, &reported.output[length..]));
+/// Requires that a service writes this of the task, into an output with room to spare.
+fn of_two_is(service: fn(&[u8], Price, usize, usize) -> Written, price: Price, wanted: &str) {
+    let written = service(TWO.as_bytes(), price, 400, WORK_MIN);
+    written.assert_whole_or_none(wanted.as_bytes(), &"two");
 }
 
 #[test]
 fn report_of_two() {
-    report_of_two_is(Price::BLOCKS, TWO_REPORT);
+    of_two_is(report_at, Price::BLOCKS, TWO_REPORT);
 }
 
 #[test]
 fn report_of_two_with_a_start() {
-    report_of_two_is(START_OF_10, TWO_REPORT_AT_10);
+    of_two_is(report_at, START_OF_10, TWO_REPORT_AT_10);
+}
+
+#[test]
+fn dearest_points_of_two() {
+    of_two_is(dearest_points_at, Price::BLOCKS, TWO_DEAREST);
+}
+
+#[test]
+fn dearest_points_of_two_with_a_start() {
+    of_two_is(dearest_points_at, START_OF_10, TWO_DEAREST_AT_10);
 }
 
 #[test]

@@ -2,7 +2,9 @@
 
 use generate::Price;
 use second::{Row, WORK_MIN};
-use tests::{noise, report, report_at, run, run_at, steps, text, verdict, Lent, Ran, TWO};
+use tests::{
+    called, deep, noise, report, report_at, run, run_at, steps, text, verdict, Lent, Ran, TWO,
+};
 
 fn run_on(text: &str, cache: usize, memory: usize, events: &[u32]) -> Ran {
     let lent = Lent::noisy(events.len() / 2, cache, memory);
@@ -65,22 +67,11 @@ fn prices() {
     assert_eq!(of(255, 0), outside);
 }
 
-/// 64 functions of one block, each calling the next, the last with a load. Nothing is spilled or filled.
-fn deep() -> String {
-    let calls: Vec<String> = (1..64).map(|callee| format!("call {callee}")).collect();
-    let points: Vec<[&str; 3]> = calls
-        .iter()
-        .map(|call| [call, "ensure 1", "return"])
-        .collect();
-    let mut funcs: Vec<(usize, &[&str])> = points.iter().map(|points| (1, &points[..])).collect();
-    funcs.push((1, &["store 0", "load 0", "return"]));
-    text(64, &funcs)
-}
-
-/// At the load every block is saved and one comes back, and 63 callers have a share of one block each.
+/// 64 functions of one block, of which nothing is spilled or filled. At the load every block is saved and one comes back, and 63 callers have a share of
+/// one block each.
 #[test]
 fn largest_prices() {
-    let text = deep();
+    let text = deep(1, &["store 0", "load 0", "return"]);
     let dearest = Price {
         start: 255,
         each: 255,
@@ -158,16 +149,8 @@ fn digits() {
 
 /// A task in which function 0 calls `count` - 1 others.
 fn many_funcs(count: usize) -> String {
-    let mut points = Vec::new();
-    for callee in 1..count {
-        points.push(format!("call {callee}"));
-        points.push("ensure 0".to_string());
-    }
-    points.push("return".to_string());
-    let points: Vec<&str> = points.iter().map(String::as_str).collect();
-    let mut funcs: Vec<(usize, &[&str])> = vec![(0, &points)];
-    funcs.resize(count, (0, &["return"]));
-    text(1, &funcs)
+    let callee: (usize, &[&str]) = (0, &["return"]);
+    called(1, &vec![callee; count - 1])
 }
 
 #[test]

@@ -1,5 +1,5 @@
 //! The rows of the table of refusals have the same names and codes in the model, in the binding and in the second implementation, and the
-//! header lists what each service can return.
+//! header lists what each service can return, and the lengths of the binding.
 
 use std::path::{Path, PathBuf};
 
@@ -60,4 +60,18 @@ fn header_lists_the_codes() {
         .collect();
     let wanted = (1..=15).chain([23, 23]).chain(16..=22);
     assert_eq!(codes, wanted.collect::<Vec<u32>>());
+}
+
+/// The lengths that the header defines are those of the binding.
+#[test]
+fn lengths_agree() {
+    let text = vectors::read_text(&root("include/felknost.h"));
+    let defined = |name: &str| -> usize {
+        let start = format!("#define FELKNOST_{name} ");
+        let number = text.lines().find_map(|line| line.strip_prefix(&start));
+        number.expect(name).parse().expect("a number")
+    };
+    assert_eq!(defined("WORK"), felknost::WORK);
+    assert_eq!(defined("OUTPUT"), felknost::OUTPUT);
+    assert_eq!(defined("DEAREST_OUTPUT"), felknost::DEAREST_OUTPUT);
 }

@@ -4,7 +4,7 @@ use std::collections::BTreeSet;
 
 use generate::Price;
 use second::WORK_MIN;
-use tests::{is_noise_from, report, report_at, run, run_at, steps, text, verdict, Lent, TWO};
+use tests::{dearest_points_at, report_at, run, run_at, steps, text, verdict, Lent, TWO};
 
 #[test]
 fn forms_of_lines() {
@@ -195,18 +195,18 @@ fn row_13_names_the_first_load_by_line() {
     assert_eq!(verdict(text(5, &[(2, &loop_store)])), (13, 4));
 }
 
-/// Code and place of report and of run, which agree, with an output and buffers that would be refused too. Nothing of them changes.
+/// Code and place of report, of the dearest points and of run, which agree, with an output and buffers that would be refused too. Nothing of these
+/// changes.
 fn priced(text: &[u8], price: Price, work: usize) -> (u32, u32) {
-    let reported = report_at(text, price, 3, work);
-    assert!(is_noise_from(0, &reported.output));
-    let [code, place, 0] = reported.result.numbers() else {
-        panic!("bytes were written");
-    };
+    let refusal = report_at(text, price, 3, work).refusal(&"report");
+    let listed = dearest_points_at(text, price, 3, work);
+    assert_eq!(listed.refusal(&"dearest points"), refusal);
     let lent = Lent::noisy(0, 1, 2);
     let ran = run_at(text, price, &[2, 0, 0], &lent, work);
-    assert_eq!(ran.result.numbers(), [code, place, 0, 0, 0]);
+    assert_eq!(ran.verdict(), refusal);
+    assert_eq!(ran.result.numbers()[2..], [0, 0, 0]);
     assert_eq!(ran.lent, lent);
-    (code as u32, place as u32)
+    refusal
 }
 
 #[test]
@@ -241,10 +241,12 @@ fn row_23_before_the_lengths() {
 }
 
 #[test]
-fn report_length_after_the_checks() {
+fn output_length_after_the_checks() {
     let refused = text(5, &[(1, &["load 0", "return"])]);
-    let reported = report(refused.as_bytes(), 0, WORK_MIN);
-    assert_eq!(reported.result.numbers(), [13, 3, 0]);
+    for service in [report_at, dearest_points_at] {
+        let written = service(refused.as_bytes(), Price::BLOCKS, 0, WORK_MIN);
+        assert_eq!(written.result.numbers(), [13, 3, 0]);
+    }
 }
 
 /// Lengths that meet the rows 16 to 19 together, mended one after another.

@@ -4,7 +4,7 @@ use std::path::PathBuf;
 
 use generate::Price;
 use second::WORK_MIN;
-use tests::{is_noise_from, report, report_at, run, run_at, verdict, Lent};
+use tests::{is_noise_from, prices, report, report_at, run, run_at, verdict, Lent};
 use vectors::{read, read_text, tasks};
 
 /// The numbers on the line that begins with `name`.
@@ -17,11 +17,6 @@ fn numbers(text: &str, name: &str) -> Vec<u64> {
         .skip(1)
         .map(|word| word.parse().expect("a number"))
         .collect()
-}
-
-/// The prices at which every case is tried: those at the ends of the ranges and past them, and some from inside.
-fn prices() -> impl Iterator<Item = Price> {
-    Price::at_ends().chain((0..6).map(generate::price))
 }
 
 fn blocks(text: &str, name: &str) -> Vec<u32> {

@@ -1,0 +1,426 @@
+//! The ten dearest points: as the report itself gives them, on the vectors and on generated texts, with equal costs, few points and many, outputs of every
+//! length around the one wanted, any price, and the refusals of the report.
+
+use std::cmp::Reverse;
+use std::collections::BTreeSet;
+use std::fmt::Display;
+
+use generate::Price;
+use second::WORK_MIN;
+use tests::{
+    called, dearest_points_at, deep, prices, report_at, rows, text, whole_report, Wanted, TWO,
+};
+use vectors::{read, tasks};
+
+/// How many texts of each kind are listed, and how many lists are held against the report.
+const VALID: u64 = 100_000;
+const PRICED: u64 = 8_000;
+const DAMAGED: u64 = 20_000;
+const COMPARED: u64 = 10_000;
+
+/// The most lines and bytes of a list.
+const MOST: usize = 10;
+const MOST_BYTES: usize = 220;
+
+/// A record of a report, or a line of a list. The order of the fields makes the order of the list.
+#[derive(Clone, Copy, Debug, PartialEq, Eq, PartialOrd, Ord)]
+struct Record {
+    cost: Reverse<u32>,
+    func: u32,
+    point: u32,
+}
+
+impl Record {
+    fn of(func: u32, point: u32, cost: u32) -> Self {
+        let cost = Reverse(cost);
+        Record { cost, func, point }
+    }
+
+    fn line(&self) -> String {
+        format!("(dear {} {} {})\n", self.func, self.point, self.cost.0)
+    }
+}
+
+/// The records of a report, in its order.
+fn report_records(report: &[u8]) -> Vec<Record> {
+    let mut func = 0;
+    let mut records = Vec::new();
+    for (word, numbers) in rows(report) {
+        match (word, &numbers[..]) {
+            ("func", &[number, _, _, _, _, _]) => func = number,
+            ("at", &[point, _, _, _, _, _, _, _, cost, _]) => {
+                records.push(Record::of(func, point, cost));
+            }
+            _ => panic!("a line {word} {numbers:?}"),
+        }
+    }
+    records
+}
+
+fn printed(records: &[Record]) -> Vec<u8> {
+    let lines: String = records.iter().map(Record::line).collect();
+    lines.into_bytes()
+}
+
+/// The first ten of a report's records in the order of the list, printed.
+fn list_of(report: &[u8]) -> Vec<u8> {
+    let mut records = report_records(report);
+    records.sort();
+    records.truncate(MOST);
+    printed(&records)
+}
+
+/// Lists a text, and requires this list.
+fn assert_list(text: &[u8], price: Price, output: usize, wanted: &[u8], case: &impl Display) {
+    let work = WORK_MIN + output % 3;
+    let listed = dearest_points_at(text, price, output, work);
+    listed.assert_whole_or_none(wanted, case);
+}
+
+#[test]
+fn vectors_dearest() {
+    for path in tasks("report") {
+        let text = read(&path);
+        let wanted = list_of(&read(&path.with_extension("report")));
+        for output in wanted.len() - 2..wanted.len() + 3 {
+            assert_list(&text, Price::BLOCKS, output, &wanted, &path.display());
+        }
+    }
+}
+
+#[test]
+fn vectors_dearest_at_prices() {
+    for path in tasks("report") {
+        let text = read(&path);
+        for price in prices() {
+            let case = format!("{} {price:?}", path.display());
+            if price.fits() {
+                let wanted = list_of(&whole_report(&text, price));
+                assert_list(&text, price, felknost::DEAREST_OUTPUT, &wanted, &case);
+            } else {
+                let listed = dearest_points_at(&text, price, 256, WORK_MIN);
+                assert_eq!(listed.refusal(&case), (23, 0), "{case}");
+            }
+        }
+    }
+}
+
+/// Requires that the list is refused as the report is, but for the place of 14, and gives the code.
+fn refused_like_report(text: &[u8], price: Price, work: usize, case: &impl Display) -> u32 {
+    let listed = dearest_points_at(text, price, 3, work).refusal(case);
+    let mut wanted = report_at(text, price, 3, work).refusal(case);
+    if wanted.0 == 14 {
+        wanted.1 = list_of(&whole_report(text, price)).len() as u32;
+    }
+    assert_eq!(listed, wanted, "{case} {price:?} {work}");
+    listed.0
+}
+
+/// Every text of the vectors, with prices that fit and that do not, and working spaces around the length wanted.
+#[test]
+fn refused_vectors() {
+    let refused = vectors::refused().into_iter();
+    let mut texts: Vec<_> = refused.map(|(name, text, ..)| (name, text)).collect();
+    let accepted = tasks("report").into_iter();
+    texts.extend(accepted.map(|path| (path.display().to_string(), read(&path))));
+    let mut codes = BTreeSet::new();
+    for (seed, (name, text)) in (0..).zip(&texts) {
+        let fits = generate::price(seed);
+        for price in [Price::BLOCKS, fits, generate::unfit_price(seed)] {
+            for work in [0, WORK_MIN - 1, WORK_MIN, WORK_MIN + 2] {
+                codes.insert(refused_like_report(text, price, work, name));
+            }
+        }
+    }
+    assert!(codes.into_iter().eq((1..=15).chain([23])));
+}
+
+/// Damaged texts at any price. One in fifty has a working space that is too short.
+#[test]
+fn refused_generated() {
+    let mut codes = BTreeSet::new();
+    for seed in 0..DAMAGED {
+        let case = generate::damaged(seed + 10_000_000);
+        let price = generate::any_price(seed);
+        let work = WORK_MIN - 1 + seed as usize % 50;
+        codes.insert(refused_like_report(&case.text, price, work, &case));
+    }
+    assert!(codes.into_iter().eq((1..=15).chain([23])));
+}
+
+#[test]
+fn lists_of_accepted_texts() {
+    for seed in 0..VALID {
+        let case = generate::valid(seed + 11_000_000);
+        Wanted::dearest_points(&case.text, Price::BLOCKS).write_around(&case, seed);
+    }
+}
+
+#[test]
+fn lists_at_any_price() {
+    for seed in 0..PRICED {
+        let case = generate::valid(seed + 12_000_000);
+        let price = generate::any_price(seed);
+        let named = format!("{case} {price:?}");
+        if price.fits() {
+            Wanted::dearest_points(&case.text, price).write_around(&named, seed);
+        } else {
+            let listed = dearest_points_at(&case.text, price, 256, WORK_MIN + seed as usize % 5);
+            assert_eq!(listed.refusal(&named), (23, 0), "{named}");
+        }
+    }
+}
+
+/// The records of a list, each of whose lines has to be of the form.
+fn list_records(list: &[u8]) -> Vec<Record> {
+    let list = std::str::from_utf8(list).expect("a list is text");
+    let record = |line: &str| {
+        let numbers = line.strip_prefix("(dear ")?.strip_suffix(')')?.split(' ');
+        let numbers: Vec<u32> = numbers.map_while(|number| number.parse().ok()).collect();
+        let &[func, point, cost] = &numbers[..] else {
+            return None;
+        };
+        Some(Record::of(func, point, cost))
+    };
+    let records = list.lines().map(|line| record(line).expect("a line"));
+    let records: Vec<Record> = records.collect();
+    assert_eq!(printed(&records), list.as_bytes());
+    records
+}
+
+/// Requires the rules of a list by the report's records alone. Gives the record that the list leaves out first.
+fn assert_first(case: &impl Display, list: &[Record], records: &[Record]) -> Option<Record> {
+    assert_eq!(list.len(), records.len().min(MOST), "{case}");
+    let known: BTreeSet<Record> = records.iter().copied().collect();
+    assert_eq!(known.len(), records.len(), "{case}");
+    let in_report = list.iter().all(|record| known.contains(record));
+    assert!(in_report, "{case}: {list:?}");
+    // This rules out too that a record is listed twice.
+    let ordered = list.windows(2).all(|pair| pair[0] < pair[1]);
+    assert!(ordered, "{case}: {list:?}");
+    let others = records.iter().filter(|record| !list.contains(record));
+    let first = others.min().copied();
+    assert!(
+        first.is_none_or(|other| list.last() < Some(&other)),
+        "{case}: {first:?}"
+    );
+    first
+}
+
+/// In blocks and at prices. Most lists leave points out, and most leave one out that has the cost of the tenth.
+#[test]
+fn lists_keep_to_the_report() {
+    let (mut cut, mut tied) = (0, 0);
+    for seed in 0..COMPARED {
+        let case = generate::valid(seed + 13_000_000);
+        let price = match seed % 2 {
+            0 => Price::BLOCKS,
+            _ => generate::price(seed),
+        };
+        let written = dearest_points_at(&case.text, price, MOST_BYTES, WORK_MIN);
+        assert_eq!(written.result.verdict, Ok(()), "{case}");
+        let list = list_records(&written.output[..written.result.written as usize]);
+        let records = report_records(&whole_report(&case.text, price));
+        let next = assert_first(&case, &list, &records);
+        cut += u64::from(next.is_some());
+        tied += u64::from(next.is_some_and(|next| next.cost == list[MOST - 1].cost));
+    }
+    assert!(cut > COMPARED / 2 && tied > COMPARED / 2, "{cut} {tied}");
+}
+
+/// Requires a list of these records, in outputs around its length.
+fn lists(text: &str, price: Price, records: &[[u32; 3]]) {
+    let record = |&[func, point, cost]: &[u32; 3]| Record::of(func, point, cost);
+    let wanted = printed(&records.iter().map(record).collect::<Vec<_>>());
+    for output in [wanted.len() - 1, wanted.len(), felknost::DEAREST_OUTPUT] {
+        assert_list(text.as_bytes(), price, output, &wanted, &text);
+    }
+}
+
+/// 64 functions without frames: no point costs anything.
+#[test]
+fn equal_costs_go_by_function_and_then_by_point() {
+    let first: Vec<[u32; 3]> = (0..10).map(|index| [index / 3, index % 3, 0]).collect();
+    for price in [Price::BLOCKS, generate::price(1)] {
+        lists(&deep(0, &["return"]), price, &first);
+    }
+}
+
+/// Twelve loads of three functions cost the same. Two of the third function are left out.
+#[test]
+fn equal_costs_across_the_tenth_place() {
+    let callee: (usize, &[&str]) = (
+        1,
+        &["store 0", "load 0", "load 0", "load 0", "load 0", "return"],
+    );
+    let text = called(8, &[callee; 3]);
+    let listed = |cost| (0..10).map(move |index| [1 + index / 4, 1 + index % 4, cost]);
+    lists(&text, Price::BLOCKS, &listed(2).collect::<Vec<_>>());
+    let price = Price { start: 7, each: 30 };
+    lists(&text, price, &listed(74).collect::<Vec<_>>());
+}
+
+/// The two dearest points are in function 2. Of those that cost 2, the eight of function 1 come before one of function 2 and two of function 3.
+#[test]
+fn dearer_points_of_a_later_function_come_first() {
+    let mut eight = vec!["load 0"; 10];
+    eight[0] = "store 0";
+    eight[9] = "return";
+    let two = ["store 0", "store 1", "load 0", "load 1", "return"];
+    let last = ["store 0", "load 0", "load 0", "return"];
+    let text = called(8, &[(1, &eight), (2, &two), (1, &last)]);
+    let mut wanted = vec![[2, 1, 4], [2, 2, 4]];
+    wanted.extend((1..9).map(|point| [1, point, 2]));
+    lists(&text, Price::BLOCKS, &wanted);
+}
+
+/// A case of the model, which proves the same list.
+#[test]
+fn ten_of_nineteen() {
+    let funcs: [(usize, &[&str]); 3] = [
+        (
+            0,
+            &["goto 1", "call 1", "ensure 0", "goto 4", "goto 5", "goto 4"],
+        ),
+        (
+            6,
+            &[
+                "store 2",
+                "store 5",
+                "store 1",
+                "call 2",
+                "ensure 6",
+                "call 2",
+                "ensure 6",
+                "store 2",
+                "either 9 9",
+                "return",
+            ],
+        ),
+        (5, &["store 2", "store 0", "goto 2"]),
+    ];
+    let mut wanted = vec![[2, 0, 2], [2, 1, 2], [2, 2, 2]];
+    wanted.extend((3..7).map(|point| [1, point, 1]));
+    wanted.extend((0..3).map(|point| [0, point, 0]));
+    lists(&text(6, &funcs), Price::BLOCKS, &wanted);
+}
+
+#[test]
+fn one_point() {
+    lists(&text(1, &[(1, &["return"])]), Price::BLOCKS, &[[0, 0, 0]]);
+}
+
+/// A store and a return, which cost nothing, and loads between them, which cost two blocks each.
+#[test]
+fn two_to_thirteen_points() {
+    for count in 2..=13 {
+        let mut points = vec!["load 0"; count];
+        points[0] = "store 0";
+        points[count - 1] = "return";
+        let last = count as u32 - 1;
+        let mut wanted: Vec<[u32; 3]> = (1..last).map(|point| [0, point, 2]).collect();
+        wanted.extend([[0, 0, 0], [0, last, 0]]);
+        wanted.truncate(MOST);
+        assert_eq!(wanted.len(), count.min(MOST));
+        lists(&text(1, &[(1, &points)]), Price::BLOCKS, &wanted);
+    }
+}
+
+/// Every length from 0 to some bytes too many, on small tasks.
+#[test]
+fn every_output_length() {
+    for seed in 0..60 {
+        let small = generate::small(seed + 14_000_000, 4 + seed as usize % 12);
+        let price = match seed % 3 {
+            0 => generate::price(seed),
+            _ => Price::BLOCKS,
+        };
+        let list = Wanted::dearest_points(&small.text, price);
+        for output in 0..list.bytes.len() + 8 {
+            list.write_into(&small, output, WORK_MIN);
+        }
+    }
+}
+
+/// Functions of so many points, each calling the next.
+fn functions(count: usize, points: usize) -> String {
+    let mut text = String::from("(stack 64)\n");
+    for callee in 1..=count {
+        text += "(func 4\n";
+        text += &match callee < count {
+            true => format!("  (call {callee})\n  (ensure 4)\n"),
+            false => "  (store 3)\n  (load 3)\n".to_string(),
+        };
+        text += &"  (store 3)\n  (load 3)\n".repeat(points / 2 - 2);
+        text += "  (load 3)\n  (return)\n)\n";
+    }
+    text
+}
+
+#[test]
+fn most_points() {
+    for (count, points) in [(64, 16), (4, 256)] {
+        let text = functions(count, points);
+        for (start, each) in [(0, 1), (255, 255), (10, 1)] {
+            let price = Price { start, each };
+            let report = whole_report(text.as_bytes(), price);
+            assert_eq!(report_records(&report).len(), 1_024);
+            let wanted = list_of(&report);
+            assert_list(text.as_bytes(), price, 256, &wanted, &text);
+        }
+    }
+}
+
+/// Two digits for the function, three for the point and five for the cost.
+#[test]
+fn a_list_of_200_bytes() {
+    let mut points = vec!["load 0"; 256];
+    points[..101].fill("store 0");
+    points[255] = "return";
+    let text = deep(1, &points);
+    let dearest = Price {
+        start: 255,
+        each: 255,
+    };
+    let wanted: Vec<[u32; 3]> = (101..111).map(|point| [63, point, 49_215]).collect();
+    lists(&text, dearest, &wanted);
+    let list = Wanted::dearest_points(text.as_bytes(), dearest);
+    assert_eq!(list.bytes.len(), 200);
+    for output in 0..260 {
+        list.write_into(&"200 bytes", output, WORK_MIN);
+    }
+}
+
+/// What only the archive can show.
+mod in_archive {
+    use super::*;
+    use felknost::{raw, Refusal, Row};
+    use tests::assert_short_results;
+
+    #[test]
+    fn a_result_that_is_too_short_leaves_all_as_it_was() {
+        assert_short_results(raw::dearest_points);
+    }
+
+    #[test]
+    fn binding() {
+        let mut output = [7; felknost::DEAREST_OUTPUT];
+        let mut work = vec![7; felknost::WORK];
+        let text = TWO.as_bytes();
+        for (start, each) in [(0, 1), (10, 1)] {
+            let wanted = list_of(&whole_report(text, Price { start, each }));
+            let written = felknost::dearest_points(text, start, each, &mut output, &mut work);
+            assert_eq!(written, Ok(wanted.len()));
+            assert_eq!(output[..wanted.len()], wanted);
+        }
+        let refused = |row, place| Err(Refusal { row, place });
+        let short = felknost::dearest_points(text, 0, 1, &mut output[..103], &mut work);
+        assert_eq!(short, refused(Row::OutputTooSmall, 104));
+        let no_space = felknost::dearest_points(text, 0, 1, &mut output, &mut work[1..]);
+        assert_eq!(no_space, refused(Row::WorkTooSmall, 16_384));
+        let no_price = felknost::dearest_points(text, 0, 0, &mut output, &mut work);
+        assert_eq!(no_price, refused(Row::PriceRange, 0));
+        let no_text = felknost::dearest_points(b"", 0, 1, &mut [], &mut work);
+        assert_eq!(no_text, refused(Row::Form, 1));
+    }
+}
