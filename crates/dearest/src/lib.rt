@@ -23,9 +23,9 @@ use tables::Span;
 struct Rank;
 
 impl Rank {
-    const FUNCS: u64 = 64;
+    const FUNCS: u64 = Limits::FUNCS as u64;
 
-    const POINTS: u64 = 256;
+    const POINTS: u64 = Limits::POINTS as u64;
 }
 
 // The rank of point p of function f with these figures.

@@ -1,4 +1,5 @@
--- The dearest points of a task (document 02, request 2): the first ten of the report's records in another order, a line each.
+-- The dearest points of a task (document 02, request 2): the program points with the highest cache-related preemption delay. They are the first ten of the
+-- report's records in another order, a line each.
 use Prim.Native.Nat.{ℕ}
 use mathlib.Core.Bool.{Bool}
 use mathlib.Core.List.{List, [], _∷_}
