@@ -284,13 +284,15 @@ fn a_store_in_one_branch_leaves_the_offset_live() {
     run_like_plain(&text, 3, 1, &events);
 }
 
+/// A file of a shipped example.
+fn shipped_file(name: &str, ending: &str) -> String {
+    let folder = concat!(env!("CARGO_MANIFEST_DIR"), "/../../examples");
+    std::fs::read_to_string(format!("{folder}/{name}.{ending}")).expect("a shipped file")
+}
+
 /// A shipped example: the task text and its sheet.
 fn shipped(name: &str) -> (String, String) {
-    let folder = concat!(env!("CARGO_MANIFEST_DIR"), "/../../examples");
-    let read = |ending| {
-        std::fs::read_to_string(format!("{folder}/{name}.{ending}")).expect("a shipped file")
-    };
-    (read("task"), read("sheet"))
+    (shipped_file(name, "task"), shipped_file(name, "sheet"))
 }
 
 #[test]
@@ -301,6 +303,17 @@ fn shipped_sheets() {
         assert_eq!(reported.result.verdict, Ok(()), "{name}");
         assert_eq!(reported.output, sheet.as_bytes(), "{name}");
     }
+}
+
+#[test]
+fn shipped_list() {
+    let (task, list) = (
+        shipped_file("press", "task"),
+        shipped_file("press", "dearest"),
+    );
+    let listed = dearest_points_at(task.as_bytes(), Price::BLOCKS, list.len(), WORK_MIN);
+    assert_eq!(listed.result.verdict, Ok(()));
+    assert_eq!(listed.output, list.as_bytes());
 }
 
 /// What examples/README.md says of the press: a sheet that charges the running frame alone is 9 blocks short.
