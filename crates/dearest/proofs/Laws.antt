@@ -35,7 +35,7 @@ use Rattle.print.proofs.Digits.{taken, digits-row}
 use Rattle.ranks.specs.Ranks.{Falling, higher, best}
 use Rattle.ranks.proofs.Laws.{best-append, best-zeros, length-best}
 use Rattle.dearest.specs.Ranking.{rankOf, rankAt, pointRanks, funcRanks, rankedFunc, rankedPoint, rankedCost, rankRow, lineAt}
-use Rattle.dearest.specs.Ranking.{rankEnd, mostLine, Listing, listed}
+use Rattle.dearest.specs.Ranking.{costEnd, rankEnd, mostLine, Listing, listed}
 
 -- ---- the rank of a record
 
@@ -99,7 +99,7 @@ rank-row x i =
     let c : rankedCost r ≡ x .figures .cost = omega (arith, i .fn, i .at) in
     λ z. row (bytes "(dear") (f z ∷ p z ∷ c z ∷ [])
 
-pub rank-low : (x : Record) → Fits x → x .figures .cost < 10000000 → rankOf x < rankEnd
+pub rank-low : (x : Record) → Fits x → x .figures .cost < costEnd → rankOf x < rankEnd
 unfolding rankOf
 rank-low x i h = omega (arith, i .fn, i .at)
 
@@ -165,7 +165,7 @@ ranks-count price w h (suc n) l =
 
 -- the record of a point of the task has room in a rank, and a cost of at most seven digits
 module _ {price : Price} {t : Task} (s : Shaped t) (small : Small price) where
-  record-fits : (x : Record) → List·Memᴰ x (recordsOf t (sheetAt price t)) → Fits x × (x .figures .cost < 10000000)
+  record-fits : (x : Record) → List·Memᴰ x (recordsOf t (sheetAt price t)) → Fits x × (x .figures .cost < costEnd)
   record-fits x m =
       let r = record-is (sheetAt price t) t m in
       let f = s .few in
@@ -173,7 +173,7 @@ module _ {price : Price} {t : Task} (s : Shaped t) (small : Small price) where
       rw (r .4) (record { fn = omega arith; at = omega (arith, s .small (r .0) (r .2)) }, omega arith)
 
   -- so do those that are listed
-  listed-fits : (x : Record) → List·Memᴰ x (dearest (recordsOf t (sheetAt price t))) → Fits x × (x .figures .cost < 10000000)
+  listed-fits : (x : Record) → List·Memᴰ x (dearest (recordsOf t (sheetAt price t))) → Fits x × (x .figures .cost < costEnd)
   listed-fits x m = record-fits x (ten-dearest t (sheetAt price t) .part x m)
 
   -- the ranks of the listed points are the highest ones

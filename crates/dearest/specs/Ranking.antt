@@ -53,9 +53,12 @@ lineAt ranks i = rankRow (getD ranks i 0)
 abbrev pub listText : List ℕ → ℕ → List ℕ
 listText ranks n = joined (lineAt ranks) (upTo n)
 
--- a cost has at most seven digits, so ranks are below this number; the most bytes of a line, and of a list
+-- a cost has at most seven digits, so costs and ranks are below these numbers; the most bytes of a line, and of a list
+abbrev pub costEnd : ℕ
+costEnd = 10000000
+
 abbrev pub rankEnd : ℕ
-rankEnd = 10000000 * mostFuncs * mostPoints
+rankEnd = costEnd * mostFuncs * mostPoints
 
 abbrev pub mostLine : ℕ
 mostLine = 22

@@ -5,6 +5,7 @@ ghost use lib.ListN.{length};
 ghost use Rattle.model.specs.Refusal.{pricedRows};
 ghost use Rattle.model.specs.Services.{checkOf, reportOf, dearestOf, runOf, Demand3};
 ghost use Rattle.running.specs.Performs.{afterRun};
+ghost use Rattle.services.specs.Printing.{wroteOf};
 use judge::Judgement;
 use model::RunResult;
 use model::Verdict;
@@ -13,6 +14,13 @@ use prices::Price;
 
 mod listing;
 mod reporting;
+mod writing;
+
+// The bytes of a task that a service writes.
+enum Print {
+    Report,
+    Dearest,
+}
 
 // Check: the verdict on a text, and the working space cleared.
 //
@@ -30,6 +38,27 @@ pub fn check(text: &[u8], work: &mut [u32]) -> Verdict
     }
 }
 
+// A service that writes bytes, and the working space cleared.
+fn write(
+    which: Print,
+    text: &[u8],
+    start: u32,
+    each: u32,
+    output: &mut [u8],
+    work: &mut [u32],
+) -> WriteResult
+    ensures result { λ r. ⌜ r ≡ wroteOf which start each (now (text .entry)) (now (work .entry)) (now (output .entry)) .result ⌝ }
+    ensures work { λ r. ⌜ now (work .exit) ≡ wroteOf which start each (now (text .entry)) (now (work .entry)) (now (output .entry)) .work ⌝ }
+    ensures output { λ r. ⌜ now (output .exit) ≡ wroteOf which start each (now (text .entry)) (now (work .entry)) (now (output .entry)) .output ⌝ }
+{
+    let price = Price { start, each };
+    let first = serving::priced_row(work.len(), price);
+    let judgement = serving::judge_lent(first, text, work);
+    let result = writing::write_judged(which, judgement, price, output, work);
+    serving::clear(work);
+    result
+}
+
 // Report: the sheet of a text over the first bytes of the output, and the working space cleared. A move of n blocks has the price start + each * n, and
 // none where n is 0; with 0 and 1 the sheet counts blocks.
 //
@@ -45,12 +74,7 @@ pub fn report(
     ensures work { λ r. ⌜ now (work .exit) ≡ reportOf (now (text .entry)) start each (now (work .entry)) (now (output .entry)) .work ⌝ }
     ensures output { λ r. ⌜ now (output .exit) ≡ reportOf (now (text .entry)) start each (now (work .entry)) (now (output .entry)) .output ⌝ }
 {
-    let price = Price { start, each };
-    let first = serving::priced_row(work.len(), price);
-    let judgement = serving::judge_lent(first, text, work);
-    let result = reporting::report_judged(judgement, price, output, work);
-    serving::clear(work);
-    result
+    write(Print::Report, text, start, each, output, work)
 }
 
 // The dearest points: the first ten of the sheet's points by falling cost, then by function and by point, or all if there are fewer, a line each over the
@@ -68,12 +92,7 @@ pub fn dearest_points(
     ensures work { λ r. ⌜ now (work .exit) ≡ dearestOf (now (text .entry)) start each (now (work .entry)) (now (output .entry)) .work ⌝ }
     ensures output { λ r. ⌜ now (output .exit) ≡ dearestOf (now (text .entry)) start each (now (work .entry)) (now (output .entry)) .output ⌝ }
 {
-    let price = Price { start, each };
-    let first = serving::priced_row(work.len(), price);
-    let judgement = serving::judge_lent(first, text, work);
-    let result = listing::list_judged(judgement, price, output, work);
-    serving::clear(work);
-    result
+    write(Print::Dearest, text, start, each, output, work)
 }
 
 // Run: the events of a list on the task of a text, from a fresh start on the lent cache and memory, and the working space cleared. In demand_3: what

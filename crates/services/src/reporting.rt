@@ -1,19 +1,16 @@
-// What report does with a text that is judged: a refusal, or the preemption sheet as bytes.
+// The report of a task with its figures, or 14.
 ghost use mathlib.Core.Path.{_≡_};
-ghost use Prim.Native.Nat.{_≤_};
-ghost use lib.ListN.{length};
-ghost use Rattle.model.specs.Limits.{workLength};
+ghost use mathlib.Core.List.{List};
+ghost use Prim.Native.Nat.{ℕ};
 ghost use Rattle.model.specs.Rows.{rowVerdict};
-ghost use Rattle.model.specs.Task.{task};
+ghost use Rattle.model.specs.Task.{Task, task};
 ghost use Rattle.model.specs.Sheet.{reportText};
 ghost use Rattle.model.specs.Refusal.{outputRows};
+ghost use Rattle.model.specs.Services.{cleared};
 ghost use Rattle.tables.specs.Tables.{taskOf};
-ghost use Rattle.tables.specs.Valid.{Settled};
-ghost use Rattle.prices.specs.Prices.{priceOf, Small};
+ghost use Rattle.prices.specs.Prices.{priceOf};
 ghost use Rattle.figures.specs.Figured.{Figured};
-ghost use Rattle.judge.specs.Judgement.{judgedIn};
-ghost use Rattle.serving.specs.Served.{ReadyAt, Writes};
-use judge::Judgement;
+ghost use Rattle.serving.specs.Served.{Writes};
 use model::Verdict;
 use model::WriteResult;
 use prices::Price;
@@ -30,13 +27,12 @@ fn report_row(room: usize, work: &[u32], h: Header, price: Price) -> Verdict
     serving::output_row(room, report::report_length(work, h, price))
 }
 
-// 14, or the report of the task that the tables hold.
-fn report_task(price: Price, output: &mut [u8], work: &mut [u32], h: Header) -> WriteResult
-    requires { ⌜ Settled (now work) h × (workLength ≤ length (now work)) × Small price ⌝ }
-    ensures { λ r. ⌜ Writes (reportText (priceOf price)) (task (taskOf (now (work .entry)) h)) (now (work .entry)) (now (output .entry)) r
-        (now (work .exit)) (now (output .exit)) ⌝ }
+// 14, or the report.
+pub fn write_report(output: &mut [u8], work: &[u32], h: Header, price: Price) -> WriteResult
+    requires { ⌜ Figured price (now work) h ⌝ }
+    ensures { λ r. ⌜ ((t : Task) (w w′ : List ℕ) → taskOf (now (work .entry)) h ≡ t → cleared w′ ≡ cleared w →
+        Writes (reportText (priceOf price)) (task t) w (now (output .entry)) r w′ (now (output .exit))) ⌝ }
 {
-    figures::figure_task(work, h, price);
     if let Verdict::Refused(r) = report_row(output.len(), work, h, price) {
         return serving::nothing_written(r);
     }
@@ -44,22 +40,5 @@ fn report_task(price: Price, output: &mut [u8], work: &mut [u32], h: Header) -> 
     WriteResult {
         verdict: Verdict::Accepted,
         written: written as u32,
-    }
-}
-
-// What was judged is refused, or its report is written.
-pub fn report_judged(
-    judgement: Judgement,
-    price: Price,
-    output: &mut [u8],
-    work: &mut [u32],
-) -> WriteResult
-    requires { ⌜ ReadyAt price (now work) judgement ⌝ }
-    ensures { λ r. ⌜ Writes (reportText (priceOf price)) (judgedIn (now (work .entry)) judgement) (now (work .entry)) (now (output .entry)) r
-        (now (work .exit)) (now (output .exit)) ⌝ }
-{
-    match judgement {
-        Judgement::Refused(r) => serving::nothing_written(r),
-        Judgement::Task(h) => report_task(price, output, work, h),
     }
 }

@@ -7,8 +7,8 @@ use lib.ListN.{length}
 use Rattle.model.specs.Services.{over}
 use Rattle.serving.proofs.Laws.{row-room, row-of, too-short, long-enough}
 use borrow.Author.Needs.{needs}
-use Rattle.services.proofs.listing.list_ranks.Statement.{statement}
-use Rattle.services.proofs.listing.list_ranks.Tie as tie
+use Rattle.services.proofs.listing.write_ranks.Statement.{statement}
+use Rattle.services.proofs.listing.write_ranks.Tie as tie
 
 returns : tie.Need-returns
 returns c print t w w′ e after =
@@ -33,8 +33,8 @@ returns-2 c print t w w′ e after =
     long-enough print output refl row after (c .before .before .before .before .enum-told .given .1)
     (p .0 ∙ ap length e) (p .1 ∙ ap (λ (l : List ℕ). over l output) e)
 
-pub list-ranks-spec : {M : Type 1} → statement M
-list-ranks-spec =
+pub write-ranks-spec : {M : Type 1} → statement M
+write-ranks-spec =
     tie.close
     (tie.spec
     (λ c κs. search needs)

@@ -1,0 +1,2 @@
+-- The bytes of a task that a service writes.
+pub mod Printing
