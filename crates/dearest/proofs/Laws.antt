@@ -3,7 +3,6 @@
 use Prim.Native.Nat.{ℕ, zero, suc, _+_, _≤_, _<_, min}
 use mathlib.Core.Bool.{Bool, true, false}
 use mathlib.Core.List.{List, [], _∷_, _++_, map, map-map, map-append, List·Memᴰ}
-use mathlib.Core.List.{List·Memᴰ·not-nil, List·Memᴰ·cases-cons}
 use mathlib.Core.Logic.{inl, inr, ⊎-elim}
 use mathlib.Core.Path.{_≡_, refl, sym, ap, subst, _∙_}
 use native.Mathlib.Decide.{decLt}
@@ -32,7 +31,7 @@ use Rattle.figures.specs.Figured.{Figured, sheetAt}
 use Rattle.figures.proofs.Limits.{cost-low}
 use Rattle.print.proofs.Laws.{none-length}
 use Rattle.print.proofs.Digits.{taken, digits-row}
-use Rattle.ranks.specs.Ranks.{Falling, higher, best}
+use Rattle.ranks.specs.Ranks.{higher, best}
 use Rattle.ranks.proofs.Laws.{best-append, best-zeros, length-best}
 use Rattle.dearest.specs.Ranking.{rankOf, rankAt, pointRanks, funcRanks, rankedFunc, rankedPoint, rankedCost, rankRow, lineAt}
 use Rattle.dearest.specs.Ranking.{costEnd, rankEnd, mostLine, Listing, listed}
@@ -126,15 +125,6 @@ funcs-more price w h f l =
 -- taken in one after the other
 pub taken-more : (ranks r r′ : List ℕ) {l m q : List ℕ} → l ≡ best ranks r → m ≡ best l r′ → r ++ r′ ≡ q → m ≡ best ranks q
 taken-more ranks r r′ a b e = b ∙ ap (λ k. best k r′) a ∙ best-append ranks r r′ ∙ ap (best ranks) e
-
--- where none is, each place has 0
-pub zeros-fall : (n : ℕ) → Falling (replicate n 0)
-zeros-fall zero = tt
-zeros-fall (suc n) = (λ y m. all-zero n y m, zeros-fall n)
-  where
-    all-zero : (n y : ℕ) → List·Memᴰ y (replicate n 0) → y ≤ 0
-    all-zero zero y m = absurd (List·Memᴰ·not-nil m)
-    all-zero (suc n) y m = ⊎-elim (λ (e : y ≡ 0). omega arith) (λ k. all-zero n y k) (List·Memᴰ·cases-cons m)
 
 -- they are those of the records of the report
 ranks-are : (price : Price) (t : Task) → map rankOf (recordsOf t (sheetAt price t)) ≡ funcRanks price t (count t)

@@ -78,7 +78,7 @@ lowestFrom t i (suc n) = if t i then i else lowestFrom t (suc i) n
 abbrev pub lowest : (ℕ → Bool) → ℕ → ℕ
 lowest t n = lowestFrom t 0 n
 
--- lexicographic comparison: the smaller number goes first, the larger number goes first; where both are the same, the rest decides
+-- lexicographic comparison: the smaller number goes first, or the larger one; where both are the same, the rest decides
 abbrev pub smallerFirst : ℕ → ℕ → Bool → Bool
 smallerFirst a b rest = ltb a b || eqb a b && rest
 

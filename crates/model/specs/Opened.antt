@@ -21,8 +21,8 @@ unfolding Basic.firstOf Basic.any Basic.select Basic.joined Basic.sumOf Basic.la
     Figures.need Figures.callees Figures.callFree Figures.longestTo Figures.shortestTo Figures.longest Figures.shortest Figures.fill
     Figures.after Figures.highFrom Figures.callPoints Figures.overCalls Figures.entryTo Figures.entry Figures.high Figures.spill Figures.chainTo
     Figures.chain Figures.firstEnsure Figures.keptNext Sheet.movePrice Sheet.costed Sheet.recordsIn Sheet.recordsOf Sheet.decimalTo Sheet.decimal Sheet.row
-    Sheet.funcRow Sheet.pointRow Sheet.funcRows Sheet.reportWith Dearest.dearer Dearest.dearest Dearest.dearRow Dearest.dearestWith Refusal.linkRow Refusal.reachRow Refusal.loadRow Refusal.callRow
-    Refusal.firstPoint Refusal.taskRows Refusal.judged Refusal.workRow Refusal.priceRow Refusal.judge Refusal.outputRows Refusal.runRows Refusal.eventRows
+    Sheet.funcRow Sheet.pointRow Sheet.funcRows Sheet.reportWith Dearest.dearer Dearest.dearest Dearest.dearRow Dearest.dearestWith
+    Refusal.linkRow Refusal.reachRow Refusal.loadRow Refusal.callRow Refusal.firstPoint Refusal.taskRows Refusal.judged Refusal.workRow Refusal.priceRow Refusal.judge Refusal.outputRows Refusal.runRows Refusal.eventRows
     Plain.act Plain.eventsOf Plain.afterEvent Plain.answerOf Plain.plainFrom Run.turn Run.ranFrom Run.eventBound Run.allowedFrom
     Services.cleared Services.over Services.verdictOf Services.checkOf Services.checkNumber Services.writtenOf
     Services.writeNumbers Services.runJudged Services.runWith Services.runNumbers

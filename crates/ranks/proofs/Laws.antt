@@ -1,7 +1,7 @@
 -- Laws of the ten highest ranks: their order and their number, ranks that are met later, what one more rank does, and what ten zeros become.
 use Prim.Native.Nat.{ℕ, zero, suc, _+_, _≤_, _<_, min, max}
 use mathlib.Core.Bool.{Bool, true, false}
-use mathlib.Core.List.{List, [], _∷_, _++_, append-nil, List·Memᴰ·head, List·Memᴰ·not-nil, List·Memᴰ·cases-cons}
+use mathlib.Core.List.{List, [], _∷_, _++_, append-nil, List·Memᴰ, List·Memᴰ·head, List·Memᴰ·not-nil, List·Memᴰ·cases-cons}
 use mathlib.Core.Logic.{⊎-elim}
 use mathlib.Core.Path.{_≡_, refl, sym, ap, _∙_}
 use native.Mathlib.Decide.{decLe}
@@ -129,6 +129,14 @@ sinking-end {i = i} {l′ = l′} s h =
     sym (s .so-far ∙ rw (drop-of-length-le l′ k, append-nil) (take-all i l′ k))
 
 -- ---- from ten zeros on
+
+pub zeros-fall : (n : ℕ) → Falling (replicate n 0)
+zeros-fall zero = tt
+zeros-fall (suc n) = (λ y m. all-zero n y m, zeros-fall n)
+  where
+    all-zero : (n y : ℕ) → List·Memᴰ y (replicate n 0) → y ≤ 0
+    all-zero zero y m = absurd (List·Memᴰ·not-nil m)
+    all-zero (suc n) y m = ⊎-elim (λ (e : y ≡ 0). omega arith) (λ k. all-zero n y k) (List·Memᴰ·cases-cons m)
 
 zeros-inserted : (y k : ℕ) (m : List ℕ) → inserted higher y (m ++ replicate k 0) ≡ inserted higher y m ++ replicate k 0
 unfolding inserted

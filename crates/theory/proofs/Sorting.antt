@@ -242,7 +242,7 @@ module _ {A : Type 0} {Apart : A → A → Type 0} {before : A → A → Bool} (
             (λ x y m k h. pairs-members Apart s l a x y (i x m) (i y k) (λ e. o .irreflexive x (rw (← e) at h))) q;
         rising = q;
         behind = b;
-        ahead = λ x y m k n h. ⊎-elim n (λ g. o .irreflexive x (o .transitive x y x g h)) (b x y m k);
+        none-before = λ x y m k n h. ⊎-elim n (λ g. o .irreflexive x (o .transitive x y x g h)) (b x y m k);
       }
 
 -- ---- from one sorted list to another

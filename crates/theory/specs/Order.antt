@@ -28,7 +28,7 @@ pub record Firsts {A : Type 0} (Apart : A → A → Type 0) (before : A → A �
   pub rising : Pairs (λ x y. T (before x y)) k
   -- an element of l that is left out comes after each of k, so before none
   pub behind : (x y : A) → List·Memᴰ x k → List·Memᴰ y l → List·Memᴰ y k ⊎ T (before x y)
-  pub ahead : (x y : A) → List·Memᴰ x k → List·Memᴰ y l → (List·Memᴰ y k → ⊥) → T (before y x) → ⊥
+  pub none-before : (x y : A) → List·Memᴰ x k → List·Memᴰ y l → (List·Memᴰ y k → ⊥) → T (before y x) → ⊥
 
 -- records of different points
 abbrev pub Apart : Record → Record → Type 0

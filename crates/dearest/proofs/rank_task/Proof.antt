@@ -4,8 +4,9 @@ use lib.ListN.{length}
 use Rattle.model.specs.Limits.{mostDearest}
 use Rattle.tables.specs.Tables.{taskOf}
 use Rattle.ranks.specs.Ranks.{best}
+use Rattle.ranks.proofs.Laws.{zeros-fall}
 use Rattle.dearest.specs.Ranking.{funcRanks}
-use Rattle.dearest.proofs.Laws.{zeros-fall, listing}
+use Rattle.dearest.proofs.Laws.{listing}
 use borrow.Author.Needs.{needs}
 use Rattle.dearest.proofs.rank_task.Statement.{statement}
 use Rattle.dearest.proofs.rank_task.Tie as tie
