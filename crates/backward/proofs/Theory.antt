@@ -13,10 +13,9 @@ use Rattle.bits.specs.Bits.{setBits, bit, cleared}
 use Rattle.bits.proofs.Laws.{bit-le, bit-zero, bit-union, bit-transfer, le-bits, item-cleared}
 use Rattle.model.specs.Walk.{Walk, Met}
 use Rattle.tables.specs.Tables.{item}
-use Rattle.tables.proofs.Laws.{sum-but, here, elsewhere}
-use Rattle.tables.proofs.Valid.{kept-same, kept-on}
+use Rattle.tables.proofs.Laws.{sum-but, here, elsewhere, set-each}
+use Rattle.tables.proofs.Valid.{kept-same, kept-on, kept-set}
 use Rattle.flow.specs.Flow.{LeadsWithin}
-use Rattle.flow.proofs.Laws.{set-each, kept-set}
 use Rattle.backward.specs.Backward.{has, Solved}
 use Rattle.backward.specs.Rounds.{joined, setAt, cost, Right, Round}
 

@@ -1,21 +1,20 @@
--- Where the points of a function lead, and what a write below entry n keeps.
+-- Where the points of a function lead, and what cleared entries keep.
 use Prim.Native.Nat.{ℕ, _+_, _≤_, _<_}
-use native.Mathlib.Decide.{ℕ-discrete}
 use native.Mathlib.Numerals.{add-one}
 use mathlib.Core.Path.{_≡_, refl, ap, sym, _∙_}
 use mathlib.Core.Bool.{true, true≢false}
 use mathlib.Core.List.{List, [], _∷_, List·Memᴰ, List·Memᴰ·head, List·Memᴰ·tail}
-use lib.ListN.{length, set, drop, replicate, length-set, length-replicate}
-use lib.Seq.{drop-set-lt, drop-at}
+use lib.ListN.{length, drop, replicate, length-replicate}
+use lib.Seq.{drop-at}
 use Rattle.bits.specs.Bits.{cleared}
 use Rattle.bits.proofs.Laws.{length-cleared}
 use Rattle.model.specs.declared.Point.{Point}
 use Rattle.model.specs.declared.Point.the-variants.{Load, Store, Call, Ensure, Goto, Either, Return}
 use Rattle.model.specs.Walk.{leadsFrom, leads}
 use Rattle.tables.specs.declared.Span.{Span}
-use Rattle.tables.specs.Tables.{isAccess, item, pointAt, funcIn}
+use Rattle.tables.specs.Tables.{isAccess, pointAt, funcIn}
 use Rattle.tables.specs.Valid.{Kept}
-use Rattle.tables.proofs.Laws.{leads-there, here, elsewhere}
+use Rattle.tables.proofs.Laws.{leads-there}
 use Rattle.flow.specs.declared.Next.{Next}
 use Rattle.flow.specs.declared.Next.the-variants.{To, Fork}
 use Rattle.flow.specs.Flow.{targets}
@@ -46,19 +45,7 @@ module _ {next : Next} {n : ℕ} (all : (p : ℕ) → List·Memᴰ p (targets ne
   pub next-both : {q r : ℕ} → next ≡ Fork q r → (q < n) × (r < n)
   next-both {q} {r} e = (all q (rw e (List·Memᴰ·head refl)), all r (rw e (List·Memᴰ·tail (List·Memᴰ·head refl))))
 
--- what is so of the entry that is written and of every other entry is so of all
-pub set-each : (P : ℕ → ℕ → Type 0) (l : List ℕ) {q v : ℕ} → q < length l → P q v → ((p : ℕ) → (p ≡ q → ⊥) → P p (item l p))
-    → (p : ℕ) → P p (item (set l q v) p)
-set-each P l {q} {v} h a b p =
-    elim (ℕ-discrete p q) [
-      | yes d ↦ rw (d, here l q v h) a
-      | no d ↦ rw (elsewhere l q p v d) (b p d)
-    ]
-
--- a write below entry n keeps what comes from there on, and so do n cleared entries
-pub kept-set : {n : ℕ} (l : List ℕ) (q v : ℕ) → q < n → Kept n l (set l q v)
-kept-set {n} l q v h = record { size = length-set l q v; past = drop-set-lt n l q v h }
-
+-- n cleared entries keep what comes from entry n on
 pub kept-cleared : {n : ℕ} {l l′ : List ℕ} → l′ ≡ cleared n l → n ≤ length l → Kept n l l′
 unfolding cleared
 kept-cleared {n} {l} e h =

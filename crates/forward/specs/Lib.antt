@@ -1,3 +1,3 @@
--- The problem that the kernel solves, and the worklist that solves it.
+-- The problem that the kernel solves, and the visits that solve it.
 pub mod Forward
-pub mod Worklist
+pub mod Visits

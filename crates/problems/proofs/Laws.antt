@@ -15,9 +15,9 @@ use Rattle.bits.proofs.Laws.{bit-le, bit-union, marked, marks-none, marks-all, 
 use Rattle.tables.specs.declared.Span.{Span}
 use Rattle.tables.specs.Tables.{item}
 use Rattle.tables.specs.Valid.{Kept}
-use Rattle.tables.proofs.Valid.{kept-same, kept-later, kept-on}
+use Rattle.tables.proofs.Laws.{set-each}
+use Rattle.tables.proofs.Valid.{kept-same, kept-later, kept-on, kept-set}
 use Rattle.flow.specs.Flow.{Given}
-use Rattle.flow.proofs.Laws.{set-each, kept-set}
 use Rattle.problems.specs.Problems.{effectWith, HasEffect, Filled}
 
 -- k blocks kept

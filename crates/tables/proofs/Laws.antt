@@ -215,3 +215,12 @@ here l q v h = getD-set-same l q v 0 h
 
 pub elsewhere : (l : List ℕ) (q p v : ℕ) → (p ≡ q → ⊥) → item (set l q v) p ≡ item l p
 elsewhere l q p v h = getD-set-other l q p v 0 h
+
+-- what is so of the entry that is written and of every other entry is so of all
+pub set-each : (P : ℕ → ℕ → Type 0) (l : List ℕ) {q v : ℕ} → q < length l → P q v → ((p : ℕ) → (p ≡ q → ⊥) → P p (item l p))
+    → (p : ℕ) → P p (item (set l q v) p)
+set-each P l {q} {v} h a b p =
+    elim (ℕ-discrete p q) [
+      | yes d ↦ rw (d, here l q v h) a
+      | no d ↦ rw (elsewhere l q p v d) (b p d)
+    ]

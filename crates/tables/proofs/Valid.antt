@@ -1,11 +1,11 @@
 -- From each fact about the tables to the next, and what stays so while the tables do.
-use Prim.Native.Nat.{ℕ, _+_, _≤_, _<_}
+use Prim.Native.Nat.{ℕ, _+_, _<_}
 use native.Mathlib.Omega.{arith}
 use mathlib.Core.Path.{_≡_, refl, sym, ap, _∙_}
 use mathlib.Core.List.{List}
 use lib.Dec.{T}
-use lib.ListN.{length, drop}
-use lib.Seq.{drop-drop}
+use lib.ListN.{length, drop, set, length-set}
+use lib.Seq.{drop-drop, drop-set-lt}
 use Rattle.model.specs.Limits.{mostStack, mostInAll}
 use Rattle.model.specs.Task.{count, offsetFits}
 use Rattle.model.specs.WellFormed.{Shaped, Linked}
@@ -54,6 +54,10 @@ kept-same n l = record { size = refl; past = refl }
 
 pub kept-on : {n : ℕ} {k l m : List ℕ} → Kept n k l → Kept n l m → Kept n k m
 kept-on a b = record { size = b .size ∙ a .size; past = b .past ∙ a .past }
+
+-- a write below entry n keeps what comes from there on
+pub kept-set : {n : ℕ} (l : List ℕ) (q v : ℕ) → q < n → Kept n l (set l q v)
+kept-set {n} l q v h = record { size = length-set l q v; past = drop-set-lt n l q v h }
 
 -- tables with the functions and points of others hold the same task
 module _ {w w′ : List ℕ} {h : Header} (k : Holds w h) (a : Agree (h .funcs) mostInAll w w′) where

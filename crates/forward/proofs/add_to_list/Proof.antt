@@ -1,6 +1,7 @@
--- Three stores, one of them in the worklist.
+-- The set of the point is stored, and the point is put into the worklist.
+use native.Mathlib.Omega.{arith}
 use borrow.Author.Needs.{needs}
-use Rattle.forward.proofs.List.{progress-same}
+use Rattle.forward.proofs.Steps.{progress-same, merge-room, merge-absent}
 use Rattle.forward.proofs.add_to_list.Statement.{statement}
 use Rattle.forward.proofs.add_to_list.Tie as tie
 
@@ -8,7 +9,8 @@ pub add-to-list-spec : {M : Type 1} → statement M
 add-to-list-spec =
     tie.close
     (tie.spec
+    (λ c. let p = c .before .before .before .pre .0 in omega (arith, p .below, p .list .pending .small))
+    (λ c. merge-room (c .before .before .before .pre .0) .0)
+    (λ c κs. let p = c .before .before .before .before .before .pre in merge-absent (p .0) (p .1))
     (λ c. search needs) (λ c. search needs) (λ c. search needs)
-    (λ c κs. search needs)
-    (λ c. search needs) (λ c. search needs) (λ c. search needs)
-    (λ c. progress-same (c .before .before .put .ensures .1) (c .before .before .put .ensures .0)))
+    (λ c. progress-same (c .before .before .before .before .put .ensures .0)))

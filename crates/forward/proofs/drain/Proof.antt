@@ -1,22 +1,22 @@
 -- Every visit costs, and leaves the worklist right.
 use native.Mathlib.Omega.{arith}
-use mathlib.Core.Path.{_≡_}
+use mathlib.Core.Path.{_≡_, sym, _∙_}
 use Rattle.model.specs.Walk.{leads}
 use Rattle.tables.specs.Tables.{funcIn}
-use Rattle.forward.specs.Worklist.{worklistOf, LastIs, Visits}
-use Rattle.forward.proofs.List.{cost, Preserved, preserved-none, preserved-on, listed-last, preserved-visited}
+use Rattle.forward.specs.Visits.{progressOf, LastIs, Visits}
+use Rattle.forward.proofs.Steps.{cost, Preserved, preserved-none, preserved-on, listed-last, preserved-visited}
 use Rattle.forward.proofs.drain.Statement.{statement}
 use Rattle.forward.proofs.drain.Tie as tie
 
 abbrev Inv-loop : tie.InvT-loop
-Inv-loop work s gens kills sets₀ state₀ worklist₀ first count₀ at₀ sets state worklist count at =
-    Visits (leads (funcIn work s)) gens kills (worklistOf sets₀ state₀ worklist₀ first) (worklistOf sets state worklist count)
-    × Preserved (s .size) (worklistOf sets₀ state₀ worklist₀ first) (worklistOf sets state worklist count)
-    × LastIs sets worklist count at
+Inv-loop work s gens kills sets₀ state₀ points₀ first count₀ at₀ sets state points count at =
+    Visits (leads (funcIn work s)) gens kills (progressOf sets₀ state₀ points₀ first) (progressOf sets state points count)
+    × Preserved (s .size) (progressOf sets₀ state₀ points₀ first) (progressOf sets state points count)
+    × LastIs sets points count at
 
 abbrev μ-loop : tie.MeasureT-loop
-μ-loop work s gens kills sets₀ state₀ worklist₀ first count₀ at₀ sets state worklist count at =
-    cost (s .size) (worklistOf sets state worklist count)
+μ-loop work s gens kills sets₀ state₀ points₀ first count₀ at₀ sets state points count at =
+    cost (s .size) (progressOf sets state points count)
 
 pub drain-spec : {M : Type 1} → statement M
 drain-spec =
@@ -46,5 +46,7 @@ drain-spec =
     ))
     (λ c. c .before .loop .inv .1 .sets-kept .size)
     (λ c. c .before .loop .inv .1 .state-kept .size)
-    (λ c. c .before .loop .inv .1 .list-same)
+    (λ c.
+    let p = c .before .before .before .before .before .before .before .before .before .before .before .pre in
+    c .before .loop .inv .1 .list .pending .room ∙ sym (p .1 .pending .room))
     (λ c. let e : c .before .loop .count ≡ 0 = omega arith in rw e at (c .before .loop .inv .0)))

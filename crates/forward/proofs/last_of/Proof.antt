@@ -9,8 +9,7 @@ last-of-spec =
     tie.close
     (tie.spec
     (λ c. search needs)
-    (λ c. search needs)
     (λ c κs. search needs)
-    (λ c. let h = c .before .before .before .before .pre .1 (omega arith) in omega arith)
-    (λ c. let h = c .before .before .before .before .before .pre .1 (omega arith) in omega (arith, c .before .take-at .ensures))
+    (λ c. let h = c .before .before .before .before .pre .1 (omega arith) in omega (arith, c .last .ensures))
+    (λ c. let h = c .before .before .before .before .before .pre .1 (omega arith) in omega (arith, c .before .last .ensures))
     (λ c. search needs))

@@ -1,6 +1,6 @@
 -- A merge, and the end of the worklist after it.
 use borrow.Author.Needs.{needs}
-use Rattle.forward.proofs.List.{merged-last}
+use Rattle.forward.proofs.Steps.{merged-last}
 use Rattle.forward.proofs.merge_last.Statement.{statement}
 use Rattle.forward.proofs.merge_last.Tie as tie
 

@@ -1,6 +1,6 @@
 -- Each arm merges the set into those of the points that it names.
 use borrow.Author.Needs.{needs}
-use Rattle.forward.proofs.List.{listed-last, ready-one, ready-first, ready-second, propagated-none, propagated-one, propagated-two}
+use Rattle.forward.proofs.Steps.{listed-last, ready-one, ready-first, ready-second, propagated-none, propagated-one, propagated-two}
 use Rattle.forward.proofs.propagate.Statement.{statement}
 use Rattle.forward.proofs.propagate.Tie as tie
 

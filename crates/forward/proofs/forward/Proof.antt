@@ -1,0 +1,13 @@
+-- The worklist has a byte for each point that a function may have.
+use mathlib.Core.Path.{refl}
+use borrow.Author.Needs.{needs}
+use Rattle.forward.proofs.forward.Statement.{statement}
+use Rattle.forward.proofs.forward.Tie as tie
+
+pub forward-spec : {M : Type 1} → statement M
+forward-spec =
+    tie.close
+    (tie.spec
+    (λ c. refl)
+    (λ c κs. let p = c .before .before .before .before .before .before .before .before .pre in (p .0, p .1, p .2, refl))
+    (λ c. search needs) (λ c. search needs) (λ c. search needs))
