@@ -29,7 +29,7 @@ listed-last {n} {x} l = (
   λ h. omega (arith, l .pending .within (x .list .count - 1) (omega arith), l .sets-long),
 )
 
--- a point that does not wait is put at its end
+-- a point that does not wait is put at the end of the worklist
 pub listed-added : {n q : ℕ} {x : Progress} (m : ℕ) → Listed n x → q < n → (item (x .list .state) q ≡ waiting → ⊥) → Listed n (addedWith q m x)
 listed-added {q = q} m l h k = record { sets-long = simp length-set (l .sets-long); pending = pending-added q (l .pending) h k }
 
