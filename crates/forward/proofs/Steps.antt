@@ -17,7 +17,7 @@ use Rattle.flow.specs.Flow.{LeadsWithin, Given, targets}
 use Rattle.flow.proofs.Laws.{next-one, next-both}
 use Rattle.flow.specs.declared.Next.{Next}
 use Rattle.flow.specs.declared.Next.the-variants.{Nowhere, To, Fork}
-use Rattle.worklist.specs.Worklist.{unseen, seen, waiting, tally, Worklist, Absent}
+use Rattle.worklist.specs.Worklist.{unseen, seen, waiting, tally, Worklist, worklistOf, taken, Absent, Ends}
 use Rattle.worklist.proofs.Laws.{tally-yes, tally-no, last-added, pending-added, last-within, last-waits, pending-taken}
 use Rattle.forward.specs.Visits.{Progress, progressOf, withSet, addedWith, lastOf, lastTaken, LastThere, LastIs}
 use Rattle.forward.specs.Visits.{Merged, Propagated, Visited, Visits, Listed, Mergeable, MergeableAll}
@@ -193,17 +193,13 @@ module _ {next : ℕ → List ℕ} {n : ℕ} (inside : LeadsWithin next n) {gens
 
 -- ---- what the functions ask of one another
 
--- the steps have come as far where sets and worklist are the same
+-- progress with the same sets and equal worklists is equal
 pub progress-same : {s : List ℕ} {x y : Worklist} → x ≡ y → _≡_ {A = Progress} (record { sets = s; list = x }) (record { sets = s; list = y })
 progress-same {s} d = λ i. record { sets = s; list = d i }
 
--- a point that a merge finds has its set, and its state
-pub merge-room : {q : ℕ} {x : Progress} → Mergeable q x → (q < length (x .sets)) × (q < length (x .list .state))
-merge-room {q} r = omega (arith, r .below, r .list .sets-long, r .list .pending .state-long)
-
--- and can go into the worklist where it does not wait
-pub merge-absent : {q : ℕ} {x : Progress} → Mergeable q x → (item (x .list .state) q ≡ waiting → ⊥) → Absent q (x .list)
-merge-absent r k = record { n = r .n; below = r .below; pending = r .list .pending; absent = k }
+-- a point that does not wait can go into the worklist
+pub ready-added : {q : ℕ} {x : Progress} → Mergeable q x → (item (x .list .state) q ≡ waiting → ⊥) → Absent q (x .list) × (q < length (x .sets))
+ready-added r k = (record { n = r .n; below = r .below; pending = r .list .pending; absent = k }, omega (arith, r .below, r .list .sets-long))
 
 -- the ways in which the set m is merged into that of q, where u is the union
 module _ {q m u : ℕ} {x : Progress} (e : u ≡ union (item (x .sets) q) m) where
@@ -249,22 +245,26 @@ module _ {next : Next} {m : ℕ} {x : Progress} where
   pub propagated-two : {q p : ℕ} {y z : Progress} → next ≡ Fork q p → Merged p m x y → Merged q m y z → Propagated m (targets next) x z
   propagated-two e a b = rw e (Propagated.two a b)
 
--- p, the last point of the worklist, is taken: c entries are left, and t are the states
-took : (x : Progress) {p c : ℕ} {t : List ℕ} → p ≡ lastOf x → c ≡ x .list .count - 1 → t ≡ set (x .list .state) p seen
-    → progressOf (x .sets) t (x .list .points) c ≡ lastTaken x
-took x e i j = rw (i, j, e)
+-- the visit of p, the last point of the worklist
+pub ready-take : {n p : ℕ} {x : Progress} → Listed n x → 0 < x .list .count → p ≡ lastOf x → Ends p (x .list)
+ready-take {n} l h e = record { n = n; pending = l .pending; some = h; ends = e }
 
--- and visited
-module _ {x : Progress} {p c : ℕ} {t : List ℕ} (e : p ≡ lastOf x) (i : c ≡ x .list .count - 1) (j : t ≡ set (x .list .state) p seen) where
+-- once it is taken: c entries are left, and t are the states
+module _
+    {x : Progress}
+    {p c : ℕ}
+    {t : List ℕ}
+    (e : p ≡ lastOf x)
+    (k : worklistOf t (x .list .points) c ≡ taken (x .list)) where
   pub ready-visit : {w : List ℕ} {s : Span} {gens kills l : List ℕ} → Given w s gens kills → Listed (s .size) x → 0 < x .list .count
       → l ≡ leads (funcIn w s) p → MergeableAll l (progressOf (x .sets) t (x .list .points) c)
   ready-visit {s = s} g l h d = record {
     n = s .size;
     inside = λ q m. g .fits .inside p q (rw e (last-within (l .pending) h)) (rw d at m);
-    list = rw (took x e i j) (preserved-taken l h .list);
+    list = rw k (preserved-taken l h .list);
   }
 
   pub visited : {next : ℕ → List ℕ} {gens kills l : List ℕ} {v m : ℕ} {y : Progress} → v ≡ item (x .sets) p
       → m ≡ transfer v (item kills p) (item gens p) → l ≡ next p
       → Propagated m l (progressOf (x .sets) t (x .list .points) c) y → Visited next gens kills x y
-  visited g f d a = record { merges = rw (took x e i j, f, g, d, e) at a }
+  visited g f d a = record { merges = rw (k, f, g, d, e) at a }

@@ -16,10 +16,10 @@ use Rattle.tables.proofs.Laws.{here, elsewhere, set-each}
 use Rattle.tables.proofs.Valid.{kept-on, kept-set}
 use Rattle.flow.specs.Flow.{LeadsWithin}
 use Rattle.flow.proofs.Laws.{kept-cleared}
-use Rattle.worklist.specs.Worklist.{unseen, seen, waiting}
+use Rattle.worklist.specs.Worklist.{unseen, seen, waiting, worklistOf, Absent}
 use Rattle.worklist.proofs.Laws.{pending-none, pending-empty, last-within, last-waits}
 use Rattle.forward.specs.Forward.{Carried, Solved}
-use Rattle.forward.specs.Visits.{Progress, progressOf, addedWith, lastOf, lastTaken, leaving, Propagated, Visited, Visits, Listed, Mergeable}
+use Rattle.forward.specs.Visits.{Progress, progressOf, addedWith, lastOf, lastTaken, leaving, Propagated, Visited, Visits, Listed}
 use Rattle.forward.proofs.Steps.{listed-added, Effect, effect, preserved-visits, preserved-taken}
 
 -- ---- what comes to a point
@@ -242,8 +242,8 @@ module _
   zero-waits : item t′ 0 ≡ waiting → ⊥
   zero-waits d = omega (arith, zero-state 0 some)
 
-  pub start-mergeable : Mergeable 0 (progressOf s′ t′ l 0) × (item t′ 0 ≡ waiting → ⊥)
-  start-mergeable = (record { n = n; below = some; list = start-none }, zero-waits)
+  pub start-absent : Absent 0 (worklistOf t′ l 0) × (0 < length s′)
+  start-absent = (record { n = n; below = some; pending = start-none .pending; absent = zero-waits }, omega (arith, some, sets-long))
 
   pub start-listed : {x : Progress} → x ≡ addedWith 0 entry (progressOf s′ t′ l 0) → Listed n x
   start-listed g = rw g (listed-added entry start-none some zero-waits)

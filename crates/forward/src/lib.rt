@@ -4,10 +4,10 @@ ghost use Prim.Native.Nat.{_<_, _≤_};
 ghost use lib.ListN.{length};
 ghost use Rattle.model.specs.Limits.{mostPoints};
 ghost use Rattle.model.specs.Walk.{leads};
-ghost use Rattle.tables.specs.Tables.{item, funcIn};
+ghost use Rattle.tables.specs.Tables.{funcIn};
 ghost use Rattle.tables.specs.Valid.{Kept};
 ghost use Rattle.flow.specs.Flow.{targets};
-ghost use Rattle.worklist.specs.Worklist.{waiting};
+ghost use Rattle.worklist.specs.Worklist.{worklistOf, Absent};
 ghost use Rattle.forward.specs.Forward.{Given, Solved};
 ghost use Rattle.forward.specs.Visits.{progressOf, addedWith, LastThere, LastIs, Merged, Propagated, Visited, Visits, Listed, Mergeable, MergeableAll};
 use flow::Next;
@@ -62,7 +62,7 @@ fn add_to_list(
     q: usize,
     m: u64,
 ) -> usize
-    requires { ⌜ Mergeable q (progressOf (now sets) (now state) (now points) count) × (item (now state) q ≡ waiting → ⊥) ⌝ }
+    requires { ⌜ Absent q (worklistOf (now state) (now points) count) × (q < length (now sets)) ⌝ }
     ensures { λ r. ⌜ progressOf (now (sets .exit)) (now (state .exit)) (now (points .exit)) r
         ≡ addedWith q m (progressOf (now (sets .entry)) (now (state .entry)) (now (points .entry)) count) ⌝ }
 {
@@ -169,7 +169,7 @@ fn visit(
         × LastIs (now (sets .exit)) (now (points .exit)) (r .count) (r .last) ⌝ }
 {
     let p = at.point;
-    let left = worklist::take(state, count, p);
+    let left = worklist::take(state, points, count, p);
     let m = bits::transfer_of(at.set, kills[p], gens[p]);
     propagate(flow::next_at(work, s, p), m, sets, state, points, left)
 }

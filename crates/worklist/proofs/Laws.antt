@@ -9,7 +9,7 @@ use lib.ListN.{length, set, length-set}
 use Rattle.model.specs.Limits.{mostPoints}
 use Rattle.tables.specs.Tables.{item, sum}
 use Rattle.tables.proofs.Laws.{sum-but, here, elsewhere, set-each}
-use Rattle.worklist.specs.Worklist.{unseen, seen, waiting, Worklist, worklistOf, added, last, taken, Distinct, tally, Pending, Absent}
+use Rattle.worklist.specs.Worklist.{unseen, seen, waiting, Worklist, worklistOf, added, last, taken, Distinct, tally, Pending, Absent, Ends}
 
 -- ---- sums
 
@@ -173,3 +173,14 @@ absent-room {q} a =
 
 pub absent-added : {q : ℕ} {x : Worklist} → Absent q x → Distinct (added q x)
 absent-added {q} a = distinct-added q (a .pending) (a .below) (a .absent)
+
+-- ---- what take asks
+
+-- the last point has its state
+pub ends-room : {p : ℕ} {x : Worklist} → Ends p x → p < length (x .state)
+ends-room e = omega (arith, e .ends, last-within (e .pending) (e .some), e .pending .state-long)
+
+-- and is taken
+pub ends-taken : {p : ℕ} {x : Worklist} → Ends p x → (worklistOf (set (x .state) p seen) (x .points) (x .count - 1) ≡ taken x)
+    × Distinct (worklistOf (set (x .state) p seen) (x .points) (x .count - 1))
+ends-taken e = (rw (e .ends), rw (e .ends) (pending-taken (e .pending) (e .some) .distinct))

@@ -64,3 +64,10 @@ pub record Absent (q : ℕ) (x : Worklist) : Type 0 where
   pub below : q < n
   pub pending : Pending n x
   pub absent : item (x .state) q ≡ waiting → ⊥
+
+-- what take requires of point p: it is the last of the worklist
+pub record Ends (p : ℕ) (x : Worklist) : Type 0 where
+  pub n : ℕ
+  pub pending : Pending n x
+  pub some : 0 < x .count
+  pub ends : p ≡ last x

@@ -1,9 +1,9 @@
 // The points of one function that are still to visit: a worklist of bytes, at most Limits::POINTS of them and none twice.
 ghost use mathlib.Core.Path.{_≡_};
 ghost use Prim.Native.Nat.{_-_, _<_, _≤_};
-ghost use lib.ListN.{length, set};
+ghost use lib.ListN.{length};
 ghost use Rattle.tables.specs.Tables.{item};
-ghost use Rattle.worklist.specs.Worklist.{seen, worklistOf, added, Distinct, Absent};
+ghost use Rattle.worklist.specs.Worklist.{worklistOf, added, taken, Distinct, Absent, Ends};
 
 // The state of a point: no walk has come to it; one has; one has, and the point is in the worklist.
 pub struct State;
@@ -41,10 +41,11 @@ pub fn last(points: &[u8], count: usize) -> usize
     wide(points[count - 1])
 }
 
-// Its last point p is taken, and waits no longer.
-pub fn take(state: &mut [u8], count: usize, p: usize) -> usize
-    requires { ⌜ (0 < count) × (p < length (now state)) ⌝ }
-    ensures { λ r. ⌜ (r ≡ count - 1) × (now (state .exit) ≡ set (now (state .entry)) p seen) ⌝ }
+// Its last point p is taken, and waits no longer. A caller has p at hand, with no load; points is lent for the contract alone.
+pub fn take(state: &mut [u8], points: &[u8], count: usize, p: usize) -> usize
+    requires { ⌜ Ends p (worklistOf (now state) (now points) count) ⌝ }
+    ensures { λ r. ⌜ (worklistOf (now (state .exit)) (now (points .entry)) r ≡ taken (worklistOf (now (state .entry)) (now (points .entry)) count))
+        × Distinct (worklistOf (now (state .exit)) (now (points .entry)) r) ⌝ }
 {
     state[p] = State::SEEN;
     count - 1

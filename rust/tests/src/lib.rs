@@ -11,4 +11,6 @@ pub use guarded::{is_noise_from, noise, Guarded, Noise};
 pub use services::{check, run, run_at, verdict, Lent, Ran};
 pub use sheets::{rows, whole_report};
 pub use texts::{called, deep, prices, steps, text, TWO};
-pub use written::{assert_short_results, dearest_points_at, report, report_at, Wanted, Written};
+pub use written::{
+    assert_binding, assert_short_results, dearest_points_at, report, report_at, Wanted, Written,
+};

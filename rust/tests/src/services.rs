@@ -105,11 +105,13 @@ pub(crate) fn assert_cleared(work: &Guarded<u32>) {
     assert!(is_noise_from(cleared, rest), "past the working space");
 }
 
-/// The numbers of a result, and noise behind them.
-pub(crate) fn with_noise(numbers: &[u64], length: usize) -> Vec<u64> {
-    let mut whole = noise(length);
-    whole[..numbers.len()].copy_from_slice(numbers);
-    whole
+/// Requires that a service of the archive answered 1 and wrote these numbers over the first of a result of noise.
+pub(crate) fn assert_answered(name: &str, answer: u32, result: &Guarded<u64>, numbers: &[u64]) {
+    assert_eq!(answer, 1);
+    let held = result.held("the result");
+    let (first, rest) = held.split_at(numbers.len());
+    assert_eq!(first, numbers, "the archive's {name} (left) and the second");
+    assert!(is_noise_from(numbers.len(), rest), "past the result");
 }
 
 fn run_in_archive(
@@ -125,7 +127,6 @@ fn run_in_archive(
     let mut memory = Guarded::holding(&lent.memory);
     let mut space = Guarded::noisy(work);
     let mut result = Guarded::noisy(5 + text.len() % 3);
-    let length = result.lent().len();
     let answer = raw::run(
         text,
         price.start,
@@ -137,12 +138,7 @@ fn run_in_archive(
         space.lent(),
         result.lent(),
     );
-    assert_eq!(answer, 1);
-    assert_eq!(
-        result.held("the result"),
-        with_noise(&wanted.result.numbers(), length),
-        "the archive's run (left) and the second"
-    );
+    assert_answered("run", answer, &result, &wanted.result.numbers());
     assert_eq!(answers.held("the answers"), wanted.lent.answers);
     assert_eq!(cache.held("the cache"), wanted.lent.cache);
     assert_eq!(memory.held("the memory"), wanted.lent.memory);

@@ -2,14 +2,14 @@
 
 use std::fmt::Display;
 
-use felknost::raw;
+use felknost::{raw, Refusal, Row};
 use generate::Price;
 use second::figures::{figures, Figures};
 use second::text::Task;
 use second::{admit_at, code_and_place, dearest, sheet, WriteResult, WORK_MIN};
 
 use crate::guarded::{is_noise_from, noise, Guarded};
-use crate::services::{assert_checked, assert_cleared, with_noise};
+use crate::services::{assert_answered, assert_checked, assert_cleared};
 use crate::texts::TWO;
 
 /// What a service gives: its result and the output, which held noise before.
@@ -82,7 +82,6 @@ impl Service {
         let mut output = Guarded::noisy(wanted.output.len());
         let mut space = Guarded::noisy(work);
         let mut result = Guarded::noisy(3 + text.len() % 3);
-        let length = result.lent().len();
         let answer = (self.proved)(
             text,
             price.start,
@@ -91,13 +90,7 @@ impl Service {
             space.lent(),
             result.lent(),
         );
-        assert_eq!(answer, 1);
-        assert_eq!(
-            result.held("the result"),
-            with_noise(&wanted.result.numbers(), length),
-            "the archive's {} (left) and the second",
-            self.name
-        );
+        assert_answered(self.name, answer, &result, &wanted.result.numbers());
         assert!(output.held("the output") == wanted.output, "the output");
         assert_cleared(&space);
     }
@@ -131,6 +124,34 @@ pub fn assert_short_results(function: raw::Writer) {
         assert_eq!(work.held("the working space"), noise::<u32>(WORK_MIN));
         assert_eq!(result.held("the result"), noise::<u64>(length));
     }
+}
+
+/// A function of the binding that writes.
+type Binding = fn(&[u8], u32, u32, &mut [u8], &mut [u32]) -> Result<usize, Refusal>;
+
+/// Requires of a function of the binding what is wanted of [`TWO`], in blocks, where it has this length, and at a start of 10; and the refusals 14, 15, 23 and 2.
+pub fn assert_binding(function: Binding, length: u32, wanted: impl Fn(&[u8], Price) -> Vec<u8>) {
+    let mut output = [7; 300];
+    let mut work = vec![7; felknost::WORK];
+    let text = TWO.as_bytes();
+    for (start, each) in [(0, 1), (10, 1)] {
+        let wanted = wanted(text, Price { start, each });
+        let written = function(text, start, each, &mut output, &mut work);
+        assert_eq!(written, Ok(wanted.len()));
+        assert_eq!(output[..wanted.len()], wanted);
+    }
+    let refused = |row, place| Err(Refusal { row, place });
+    let short = &mut output[..length as usize - 1];
+    let no_room = function(text, 0, 1, short, &mut work);
+    assert_eq!(no_room, refused(Row::OutputTooSmall, length));
+    let no_space = function(text, 0, 1, &mut output, &mut work[1..]);
+    assert_eq!(no_space, refused(Row::WorkTooSmall, 16_384));
+    for (start, each) in [(256, 1), (0, 0)] {
+        let no_price = function(text, start, each, &mut output, &mut work);
+        assert_eq!(no_price, refused(Row::PriceRange, 0));
+    }
+    let no_text = function(b"", 0, 1, &mut [], &mut work);
+    assert_eq!(no_text, refused(Row::Form, 1));
 }
 
 /// An accepted text, a price that fits, and the bytes that a service has to write of them.

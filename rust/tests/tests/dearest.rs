@@ -7,9 +7,7 @@ use std::fmt::Display;
 
 use generate::Price;
 use second::WORK_MIN;
-use tests::{
-    called, dearest_points_at, deep, prices, report_at, rows, text, whole_report, Wanted, TWO,
-};
+use tests::{called, dearest_points_at, deep, prices, report_at, rows, text, whole_report, Wanted};
 use vectors::{read, tasks};
 
 /// How many texts of each kind are listed, and how many lists are held against the report.
@@ -394,8 +392,8 @@ fn a_list_of_200_bytes() {
 /// What only the archive can show.
 mod in_archive {
     use super::*;
-    use felknost::{raw, Refusal, Row};
-    use tests::assert_short_results;
+    use felknost::raw;
+    use tests::{assert_binding, assert_short_results};
 
     #[test]
     fn a_result_that_is_too_short_leaves_all_as_it_was() {
@@ -404,23 +402,7 @@ mod in_archive {
 
     #[test]
     fn binding() {
-        let mut output = [7; felknost::DEAREST_OUTPUT];
-        let mut work = vec![7; felknost::WORK];
-        let text = TWO.as_bytes();
-        for (start, each) in [(0, 1), (10, 1)] {
-            let wanted = list_of(&whole_report(text, Price { start, each }));
-            let written = felknost::dearest_points(text, start, each, &mut output, &mut work);
-            assert_eq!(written, Ok(wanted.len()));
-            assert_eq!(output[..wanted.len()], wanted);
-        }
-        let refused = |row, place| Err(Refusal { row, place });
-        let short = felknost::dearest_points(text, 0, 1, &mut output[..103], &mut work);
-        assert_eq!(short, refused(Row::OutputTooSmall, 104));
-        let no_space = felknost::dearest_points(text, 0, 1, &mut output, &mut work[1..]);
-        assert_eq!(no_space, refused(Row::WorkTooSmall, 16_384));
-        let no_price = felknost::dearest_points(text, 0, 0, &mut output, &mut work);
-        assert_eq!(no_price, refused(Row::PriceRange, 0));
-        let no_text = felknost::dearest_points(b"", 0, 1, &mut [], &mut work);
-        assert_eq!(no_text, refused(Row::Form, 1));
+        let wanted = |text: &[u8], price| list_of(&whole_report(text, price));
+        assert_binding(felknost::dearest_points, 104, wanted);
     }
 }

@@ -106,8 +106,8 @@ fn blocks_are_kept_and_moves_are_priced() {
 /// What only the archive can show.
 mod in_archive {
     use super::*;
-    use felknost::{raw, Refusal, Row};
-    use tests::{assert_short_results, TWO};
+    use felknost::raw;
+    use tests::{assert_binding, assert_short_results};
 
     #[test]
     fn a_result_that_is_too_short_leaves_all_as_it_was() {
@@ -116,23 +116,7 @@ mod in_archive {
 
     #[test]
     fn binding() {
-        let mut output = [7; 300];
-        let mut work = vec![7; felknost::WORK];
-        let text = TWO.as_bytes();
-        for (start, each) in [(0, 1), (10, 1)] {
-            let wanted = Wanted::report(text, Price { start, each }).bytes;
-            let written = felknost::report(text, start, each, &mut output, &mut work);
-            assert_eq!(written, Ok(wanted.len()));
-            assert_eq!(output[..wanted.len()], wanted);
-        }
-        let refused = |row, place| Err(Refusal { row, place });
-        let short = felknost::report(text, 0, 1, &mut output[..9], &mut work);
-        assert_eq!(short, refused(Row::OutputTooSmall, 268));
-        let no_space = felknost::report(text, 0, 1, &mut output, &mut work[1..]);
-        assert_eq!(no_space, refused(Row::WorkTooSmall, 16_384));
-        let no_price = felknost::report(text, 256, 1, &mut output, &mut work);
-        assert_eq!(no_price, refused(Row::PriceRange, 0));
-        let no_text = felknost::report(b"", 0, 1, &mut [], &mut work);
-        assert_eq!(no_text, refused(Row::Form, 1));
+        let wanted = |text: &[u8], price| Wanted::report(text, price).bytes;
+        assert_binding(felknost::report, 268, wanted);
     }
 }

@@ -1,7 +1,7 @@
 -- Each way out of the function is one way in which the set is merged.
 use native.Mathlib.Omega.{arith}
 use borrow.Author.Needs.{needs}
-use Rattle.forward.proofs.Steps.{merged-rests, merged-grows, merged-adds}
+use Rattle.forward.proofs.Steps.{ready-added, merged-rests, merged-grows, merged-adds}
 use Rattle.forward.proofs.merge.Statement.{statement}
 use Rattle.forward.proofs.merge.Tie as tie
 
@@ -13,7 +13,7 @@ merge-spec =
     (λ c κs. search needs)
     (λ c κs.
     let i = c .before .before .before in
-    (i .before .before .before .before .before .before .before .pre, λ e. omega (arith, i .if1 .taken)))
+    ready-added (i .before .before .before .before .before .before .before .pre) (λ e. omega (arith, i .if1 .taken)))
     (λ c. search needs) (λ c. search needs) (λ c. search needs)
     (λ c.
     let a = c .before .before .before .before .before .before in
@@ -23,7 +23,7 @@ merge-spec =
     (λ c. search (merged-rests, c .before .if1 .left))
     (λ c. search needs) (λ c. search needs) (λ c. search needs)
     (λ c. search merged-grows)
-    (λ c κs. let i = c .before .before .before in (i .before .before .before .before .before .before .before .before .before .pre, i .if3 .left))
+    (λ c κs. let i = c .before .before .before in ready-added (i .before .before .before .before .before .before .before .before .before .pre) (i .if3 .left))
     (λ c. search needs) (λ c. search needs) (λ c. search needs)
     (λ c.
     let a = c .before .before .before .before .before .before in

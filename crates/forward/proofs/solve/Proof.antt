@@ -1,7 +1,7 @@
 -- Cleared tables with point 0 in the worklist, and visits until the worklist is empty.
 use mathlib.Core.Path.{refl}
 use borrow.Author.Needs.{needs}
-use Rattle.forward.proofs.Theory.{start-mergeable, start-listed, start-solved}
+use Rattle.forward.proofs.Theory.{start-absent, start-listed, start-solved}
 use Rattle.forward.proofs.solve.Statement.{statement}
 use Rattle.forward.proofs.solve.Tie as tie
 
@@ -15,7 +15,7 @@ solve-spec =
     let s = m .before .before .before .before in
     let b = s .before .before .before .before .before .before .before .before in
     let p = b .pre in
-    start-mergeable _ (b .args .entry) _ _ _ (p .0 .fits .some) (p .0 .fits .small) (p .1) (p .2) (p .3) (s .clear-sets .ensures) (m .clear-marks .ensures))
+    start-absent _ (b .args .entry) _ _ _ (p .0 .fits .some) (p .0 .fits .small) (p .1) (p .2) (p .3) (s .clear-sets .ensures) (m .clear-marks .ensures))
     (λ c κs.
     let a = c .before .before .before .before .before .before .before .before .before in
     let m = a .before .before .before .before .before .before in
