@@ -1,5 +1,6 @@
 -- Outside cases and cases of refusal order, by computation: the definitions are tried on them before any code rests on them.
 use Prim.Native.Nat.{ℕ}
+use Prim.Native.String.{String}
 use mathlib.Core.Path.{_≡_, refl}
 use mathlib.Core.List.{List, [], _∷_, _++_}
 use lib.ListN.{replicate}
@@ -10,6 +11,7 @@ use Rattle.model.specs.declared.Verdict.the-variants as verdict
 use Rattle.model.specs.declared.Ending.the-variants.{AllDone, Refused}
 use Rattle.model.specs.Text.{bytes}
 use Rattle.model.specs.Task.{Task, Judged, refused, task}
+use Rattle.model.specs.Figures.{shortest}
 use Rattle.model.specs.Sheet.{movePrice, inBlocks, reportText}
 use Rattle.model.specs.Dearest.{dearestText}
 use Rattle.model.specs.Rows.{refuse}
@@ -87,7 +89,7 @@ pub reports :
     ∷ "  (ensure 1)" ∷ "  (call 1)" ∷ "  (ensure 1)" ∷ "  (goto 7)" ∷ "  (call 1)" ∷ "  (ensure 1)" ∷ "  (either 10 10)"
     ∷ "  (store 0)" ∷ "  (return)" ∷ ")" ∷ "(func 1" ∷ "  (either 1 4)" ∷ "  (either 2 4)" ∷ "  (call 2)" ∷ "  (ensure 1)"
     ∷ "  (call 2)" ∷ "  (ensure 1)" ∷ "  (return)" ∷ ")" ∷ "(func 0" ∷ "  (either 1 1)" ∷ "  (return)" ∷ ")" ∷ []))))
-    ≡ lines ("(report" ∷ "  (func 0 1 1 2 0 0)" ∷ "  (at 0 1 1 0 0 0 1 0 1 0)" ∷ "  (at 1 1 1 0 0 0 1 0 1 0)"
+    ≡ lines ("(report" ∷ "  (func 0 1 2 2 0 0)" ∷ "  (at 0 1 1 0 0 0 1 0 1 0)" ∷ "  (at 1 1 1 0 0 0 1 0 1 0)"
     ∷ "  (at 2 1 1 0 0 0 1 0 1 0)" ∷ "  (at 3 1 1 0 0 0 1 0 1 0)" ∷ "  (at 4 1 1 0 0 0 1 0 1 0)" ∷ "  (at 5 1 1 0 0 0 1 0 1 0)"
     ∷ "  (at 6 1 1 0 0 0 1 0 1 0)" ∷ "  (at 7 1 1 0 0 0 1 0 1 0)" ∷ "  (at 8 1 1 0 0 0 1 0 1 0)" ∷ "  (at 9 1 1 1 0 0 0 0 0 0)"
     ∷ "  (at 10 1 1 1 0 0 0 0 0 0)" ∷ "  (at 11 1 1 0 0 0 0 0 0 0)" ∷ "  (func 1 1 1 1 0 1)" ∷ "  (at 0 2 1 0 1 0 1 1 3 0)"
@@ -201,7 +203,7 @@ orders = (refl, refl, refl, refl, refl, refl, refl, refl, refl)
 pub turns :
     (reportText inBlocks (the (judged (lines ("(stack 4)" ∷ "(func 2" ∷ "  (store 1)" ∷ "  (call 1)" ∷ "  (ensure 2)"
     ∷ "  (call 2)" ∷ "  (ensure 2)" ∷ "  (load 1)" ∷ "  (return)" ∷ ")" ∷ "(func 4" ∷ "  (return)" ∷ ")" ∷ "(func 0"
-    ∷ "  (return)" ∷ ")" ∷ [])))) ≡ lines ("(report" ∷ "  (func 0 2 2 6 0 0)" ∷ "  (at 0 2 2 2 0 0 0 0 0 0)"
+    ∷ "  (return)" ∷ ")" ∷ [])))) ≡ lines ("(report" ∷ "  (func 0 2 6 6 0 0)" ∷ "  (at 0 2 2 2 0 0 0 0 0 0)"
     ∷ "  (at 1 2 1 0 1 0 0 0 1 0)" ∷ "  (at 2 0 1 0 0 0 0 0 0 2)" ∷ "  (at 3 2 1 0 1 0 2 0 3 0)" ∷ "  (at 4 2 1 0 1 0 2 0 3 0)"
     ∷ "  (at 5 2 1 2 1 1 0 0 2 0)" ∷ "  (at 6 2 2 0 0 0 0 0 0 0)" ∷ "  (func 1 4 4 4 2 0)" ∷ "  (at 0 4 4 0 0 0 0 0 0 0)"
     ∷ "  (func 2 0 0 0 0 2)" ∷ "  (at 0 2 0 0 2 0 0 2 4 0)" ∷ ")" ∷ []))
@@ -227,6 +229,24 @@ pub turns :
     × (runOf (sample) 0 1 space (0 ∷ 0 ∷ []) (replicate 1 0) (replicate 5 0) (replicate 5 0) .result .ending ≡ Refused (refuse MemoryTooSmall 6))
 unfolding opened lines sample
 turns = (refl, refl, refl, refl, refl, refl, refl, refl)
+
+-- d of function 0, which has two blocks and these points, before two functions of one block and of five
+abbrev d0 : List String → ℕ
+d0 points =
+    shortest
+    (the (judged (lines ("(stack 8)" ∷ "(func 2" ∷ points ++ ")" ∷ "(func 1" ∷ "  (return)" ∷ ")" ∷ "(func 5" ∷ "  (return)" ∷ ")" ∷ []))))
+    0
+
+-- document 02, request 4. A small call and then a large one on every walk;
+-- one of the two on each side; a small call on a side that goes round for ever; no return at all; and a call in a loop that a walk may pass by
+pub displacements :
+    (d0 ("  (call 1)" ∷ "  (ensure 2)" ∷ "  (call 2)" ∷ "  (ensure 2)" ∷ "  (return)" ∷ []) ≡ 7)
+    × (d0 ("  (either 1 4)" ∷ "  (call 1)" ∷ "  (ensure 2)" ∷ "  (return)" ∷ "  (call 2)" ∷ "  (ensure 2)" ∷ "  (return)" ∷ []) ≡ 3)
+    × (d0 ("  (either 1 4)" ∷ "  (call 1)" ∷ "  (ensure 2)" ∷ "  (goto 1)" ∷ "  (call 2)" ∷ "  (ensure 2)" ∷ "  (return)" ∷ []) ≡ 7)
+    × (d0 ("  (call 2)" ∷ "  (ensure 2)" ∷ "  (call 1)" ∷ "  (ensure 2)" ∷ "  (goto 0)" ∷ []) ≡ 3)
+    × (d0 ("  (either 1 7)" ∷ "  (call 1)" ∷ "  (ensure 2)" ∷ "  (call 2)" ∷ "  (ensure 2)" ∷ "  (goto 0)" ∷ "  (return)" ∷ "  (goto 6)" ∷ []) ≡ 2)
+unfolding opened lines
+displacements = (refl, refl, refl, refl, refl)
 
 -- document 02, request 1, on the example of document 01: a move of n blocks costs 10 + n. A preemption makes two moves, each with a start
 pub prices :

@@ -5,10 +5,10 @@ use Prim.Native.Nat.{ℕ, zero, suc, pred, _+_, _-_, _*_, min, max}
 use mathlib.Core.Bool.{Bool, _&&_}
 use mathlib.Core.List.{List, [], _∷_}
 use mathlib.Core.Option.{Option, none, some}
-use lib.Dec.{eqb}
+use lib.Dec.{ltb, eqb}
 use Rattle.model.specs.Basic.{if_then_else_, joined, select, largest, smallest, upTo, aboveAll, lowest}
 use Rattle.model.specs.Task.{Func, Task, size, count, func, point}
-use Rattle.model.specs.Walk.{leads, called, loads, stores, touches, calls, isCall, isEnsure, returns, never, someWalk, arrival}
+use Rattle.model.specs.Walk.{leads, called, loads, stores, touches, calls, isEnsure, returns, never, someWalk, arrival}
 
 -- some walk from point 0 reaches p; it reaches p with no store of o before
 unfoldable pub reached : Func → ℕ → Bool
@@ -37,9 +37,27 @@ theCalled (some f) = f ∷ []
 unfoldable pub callees : Func → List ℕ
 callees x = joined (λ p. theCalled (called p)) (x .points)
 
--- some walk from point 0 to a return makes no call
-unfoldable pub callFree : Func → Bool
-callFree x = someWalk x (isCall x) (returns x) 0
+-- the displacement of the call at point p: d of its callee, 0 where p calls nothing
+abbrev pub displacementOf : (ℕ → ℕ) → Option ℕ → ℕ
+displacementOf d none = 0
+displacementOf d (some g) = d g
+
+abbrev pub displacementAt : (ℕ → ℕ) → Func → ℕ → ℕ
+displacementAt d x p = displacementOf d (called (point x p))
+
+abbrev pub callsAbove : (ℕ → ℕ) → Func → ℕ → ℕ → Bool
+callsAbove d x v p = ltb v (displacementAt d x p)
+
+-- the smallest, over walks from point 0 to a point of the kind goal, of the largest d called on the walk: the smallest v for which some such walk
+-- calls nothing above v
+unfoldable pub minimax : (ℕ → ℕ) → Func → (ℕ → Bool) → ℕ
+minimax d x goal = lowest (λ v. someWalk x (callsAbove d x v) goal 0) (largest d (callees x))
+
+-- d of a function, where d gives those of its callees: its frame and the smallest over walks to a return; where no walk comes to a return, its frame
+-- and the smallest d called
+unfoldable pub shortestBy : (ℕ → ℕ) → Func → ℕ
+shortestBy d x =
+    x .frame + (if someWalk x never (returns x) 0 then minimax d x (returns x) else smallest d (callees x))
 
 -- D and d: the longest and the shortest displacement, how far calling f pushes the cached blocks of its callers; to a depth of n calls
 unfoldable pub longestTo : Task → ℕ → ℕ → ℕ
@@ -48,10 +66,7 @@ longestTo t (suc n) f = func t f .frame + largest (longestTo t n) (callees (func
 
 unfoldable pub shortestTo : Task → ℕ → ℕ → ℕ
 shortestTo t zero f = 0
-shortestTo t (suc n) f =
-    if callFree (func t f)
-    then func t f .frame
-    else func t f .frame + smallest (shortestTo t n) (callees (func t f))
+shortestTo t (suc n) f = shortestBy (shortestTo t n) (func t f)
 
 unfoldable pub longest : Task → ℕ → ℕ
 longest t f = longestTo t (count t) f
@@ -68,22 +83,22 @@ unfoldable pub fill : Task → ℕ → ℕ → ℕ
 fill t f p =
     if isEnsure (func t f) p then fillAfter t (func t f .frame) (called (point (func t f) (p - 1))) else 0
 
--- the occupancy after point p, at most, where it is at most h before
-abbrev pub cutBy : Task → ℕ → Option ℕ → ℕ
-cutBy t h none = h
-cutBy t h (some g) = min h (t .stack - shortest t g)
+-- the figures that d is a part of, with d from anywhere: two rules for d can be compared. The occupancy after point p, at most, where it is at most h before
+abbrev pub cutBy : (ℕ → ℕ) → Task → ℕ → Option ℕ → ℕ
+cutBy d t h none = h
+cutBy d t h (some g) = min h (t .stack - d g)
 
-unfoldable pub after : Task → ℕ → ℕ → ℕ → ℕ
-after t f p h =
-    if isEnsure (func t f) p then max h (func t f .frame) else cutBy t h (called (point (func t f) p))
+unfoldable pub afterWith : (ℕ → ℕ) → Task → ℕ → ℕ → ℕ → ℕ
+afterWith d t f p h =
+    if isEnsure (func t f) p then max h (func t f .frame) else cutBy d t h (called (point (func t f) p))
 
 -- high: the maximum occupancy at p over all walks from point 0, e being the maximum occupancy where f is called
-unfoldable pub highFrom : Task → ℕ → ℕ → ℕ → ℕ
-highFrom t f e p =
+unfoldable pub highFromWith : (ℕ → ℕ) → Task → ℕ → ℕ → ℕ → ℕ
+highFromWith d t f e p =
     pred
     (arrival
     (leads (func t f))
-    (after t f)
+    (afterWith d t f)
     (min (t .stack) (e + func t f .frame))
     (size (func t f))
     (2 * size (func t f))
@@ -98,19 +113,35 @@ unfoldable pub overCalls : Task → ℕ → (ℕ → ℕ → ℕ) → ℕ
 overCalls t f figure = largest (λ h. largest (figure h) (callPoints (func t h) f)) (upTo (count t))
 
 -- E: the maximum occupancy where f is called; 0 for function 0. To a depth of n callers, and whole
-unfoldable pub entryTo : Task → ℕ → ℕ → ℕ
-entryTo t zero f = 0
-entryTo t (suc n) f = overCalls t f (λ h p. highFrom t h (entryTo t n h) p)
+unfoldable pub entryTo : (ℕ → ℕ) → Task → ℕ → ℕ → ℕ
+entryTo d t zero f = 0
+entryTo d t (suc n) f = overCalls t f (λ h p. highFromWith d t h (entryTo d t n h) p)
 
-unfoldable pub entry : Task → ℕ → ℕ
-entry t f = entryTo t f f
+unfoldable pub entryWith : (ℕ → ℕ) → Task → ℕ → ℕ
+entryWith d t f = entryTo d t f f
 
-unfoldable pub high : Task → ℕ → ℕ → ℕ
-high t f p = highFrom t f (entry t f) p
+unfoldable pub highWith : (ℕ → ℕ) → Task → ℕ → ℕ → ℕ
+highWith d t f p = highFromWith d t f (entryWith d t f) p
 
 -- spill: the worst-case spill of entering f
-unfoldable pub spill : Task → ℕ → ℕ
-spill t f = entry t f + func t f .frame - t .stack
+unfoldable pub spillWith : (ℕ → ℕ) → Task → ℕ → ℕ
+spillWith d t f = entryWith d t f + func t f .frame - t .stack
+
+-- the same with the task's own d
+abbrev pub after : Task → ℕ → ℕ → ℕ → ℕ
+after t = afterWith (shortest t) t
+
+abbrev pub highFrom : Task → ℕ → ℕ → ℕ → ℕ
+highFrom t = highFromWith (shortest t) t
+
+abbrev pub entry : Task → ℕ → ℕ
+entry t = entryWith (shortest t) t
+
+abbrev pub high : Task → ℕ → ℕ → ℕ
+high t = highWith (shortest t) t
+
+abbrev pub spill : Task → ℕ → ℕ
+spill t = spillWith (shortest t) t
 
 -- kept: of a caller's frame, what is certainly still cached at the ensure p after its call
 abbrev pub kept : Task → ℕ → ℕ → ℕ

@@ -18,8 +18,9 @@ unfolding Basic.firstOf Basic.any Basic.select Basic.joined Basic.sumOf Basic.la
     Text.starts Text.digits Text.value Text.numberThen Text.oneNumber Text.numbersThen Text.twoNumbers Text.pointForm Text.lineOf Text.linesFrom
     Task.funcLine Task.readLine Task.readEnd Task.readFrom Walk.leads Walk.meets Walk.sources Walk.arrival Core.spilled Core.filled Core.reserve
     Core.free Core.ensure Core.load Core.store Core.save Core.resume Figures.reached Figures.uninitialised Figures.live Figures.dead
-    Figures.need Figures.callees Figures.callFree Figures.longestTo Figures.shortestTo Figures.longest Figures.shortest Figures.fill
-    Figures.after Figures.highFrom Figures.callPoints Figures.overCalls Figures.entryTo Figures.entry Figures.high Figures.spill Figures.chainTo
+    Figures.need Figures.callees Figures.minimax Figures.shortestBy Figures.longestTo Figures.shortestTo Figures.longest Figures.shortest Figures.fill
+    Figures.afterWith Figures.highFromWith Figures.callPoints Figures.overCalls Figures.entryTo Figures.entryWith Figures.highWith Figures.spillWith
+    Figures.chainTo
     Figures.chain Figures.firstEnsure Figures.keptNext Sheet.movePrice Sheet.costed Sheet.recordsIn Sheet.recordsOf Sheet.decimalTo Sheet.decimal Sheet.row
     Sheet.funcRow Sheet.pointRow Sheet.funcRows Sheet.reportWith Dearest.dearer Dearest.dearest Dearest.dearRow Dearest.dearestWith
     Refusal.linkRow Refusal.reachRow Refusal.loadRow Refusal.callRow Refusal.firstPoint Refusal.taskRows Refusal.judged Refusal.workRow Refusal.priceRow Refusal.judge Refusal.outputRows Refusal.runRows Refusal.eventRows

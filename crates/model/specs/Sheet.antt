@@ -50,17 +50,17 @@ costed price high dead need next chain fill =
       fill = price fill;
     }
 
--- the sheet of a task, for dead and need of each point
-abbrev pub sheetWith : (ℕ → ℕ) → Task → (ℕ → ℕ → ℕ) → (ℕ → ℕ → ℕ) → Sheet
-sheetWith price t dead need =
+-- the sheet of a task, for d of each function, and dead and need of each point
+abbrev pub sheetWith : (ℕ → ℕ) → Task → (ℕ → ℕ) → (ℕ → ℕ → ℕ) → (ℕ → ℕ → ℕ) → Sheet
+sheetWith price t d dead need =
     record {
       price = price;
-      spill = λ f. price (Figures.spill t f);
+      spill = λ f. price (Figures.spillWith d t f);
       chain = Figures.chain price t;
       at = λ f p.
           costed
           price
-          (Figures.high t f p)
+          (Figures.highWith d t f p)
           (dead f p)
           (need f p)
           (Figures.keptNext t f p)
@@ -70,7 +70,7 @@ sheetWith price t dead need =
 
 -- with those of its own walks
 abbrev pub pricedSheet : (ℕ → ℕ) → Task → Sheet
-pricedSheet price t = sheetWith price t (λ f. Figures.dead (func t f)) (λ f. Figures.need (func t f))
+pricedSheet price t = sheetWith price t (Figures.shortest t) (λ f. Figures.dead (func t f)) (λ f. Figures.need (func t f))
 
 -- document 01: in blocks
 abbrev pub sheetOf : Task → Sheet

@@ -150,3 +150,8 @@ pub record Smallest (P : ℕ → Type 0) (n m : ℕ) : Type 0 where
   pub within : m ≤ n
   pub bounds : (i : ℕ) → i < n → P i → m ≤ i
   pub attained : m < n → P m
+
+-- m is the smallest number of the kind P
+pub record Least (P : ℕ → Type 0) (m : ℕ) : Type 0 where
+  pub bounds : (n : ℕ) → P n → m ≤ n
+  pub attained : P m

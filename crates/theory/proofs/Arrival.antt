@@ -74,6 +74,12 @@ carried-cases : (g : ℕ → ℕ) (v h : ℕ) → carried g v ≡ suc h → (k :
 carried-cases g zero h e = absurd (omega arith)
 carried-cases g (suc k) h e = (k, refl, omega arith)
 
+-- a point that brings no more
+carried-less : {g g′ : ℕ → ℕ} → ((h k : ℕ) → h ≤ k → g h ≤ g′ k) → {v w : ℕ} → v ≤ w → carried g v ≤ carried g′ w
+carried-less f {v = zero} l = omega arith
+carried-less f {v = suc h} {w = zero} l = omega arith
+carried-less f {v = suc h} {w = suc k} l = omega (arith, f h k (omega arith))
+
 -- the points below N that lead to p
 pub mem-sources : (next : ℕ → List ℕ) (N : ℕ) {p q : ℕ}
     → List·Memᴰ q (sources next N p) ↔ ((q < N) × List·Memᴰ p (next q))
@@ -123,9 +129,7 @@ module _ (next : ℕ → List ℕ) (after : ℕ → ℕ → ℕ) (first N : ℕ)
 
   module _ (steady : (q : ℕ) → Steady (after q)) where
     carried-mono : (q : ℕ) {v w : ℕ} → v ≤ w → carried (after q) v ≤ carried (after q) w
-    carried-mono q {v = zero} l = omega arith
-    carried-mono q {v = suc h} {w = zero} l = omega arith
-    carried-mono q {v = suc h} {w = suc k} l = omega (arith, steady-mono (steady q) {h = h} {h′ = k} (omega arith))
+    carried-mono q = carried-less (λ h k. steady-mono (steady q))
 
     carried-level : (t q v w : ℕ) → level t v ≤ level t w → level t (carried (after q) v) ≤ level t (carried (after q) w)
     carried-level t q zero w l = level-mono t (omega arith)
@@ -179,3 +183,13 @@ module _ (next : ℕ → List ℕ) (after : ℕ → ℕ → ℕ) (first N : ℕ)
           → ((k : ℕ) → Carries next after first p k → k ≤ pred (arrival next after first N (2 * N) p))
           × Carries next after first p (pred (arrival next after first N (2 * N) p))
       arrival-reached {p} c = (λ k d. omega (arith, arrival-complete d), arrival-sound (2 * N) p _ (omega (arith, arrival-complete c)))
+
+-- where the walk starts with no more and every point brings no more, no more arrives
+pub arrival-less : (next : ℕ → List ℕ) {after after′ : ℕ → ℕ → ℕ} {first first′ : ℕ} (N : ℕ) → first ≤ first′
+    → ((q h k : ℕ) → h ≤ k → after q h ≤ after′ q k) → (n p : ℕ) → arrival next after first N n p ≤ arrival next after′ first′ N n p
+unfolding arrival
+arrival-less next N i less zero p = zero-le
+arrival-less next {after} {after′} {first} {first′} N i less (suc n) p =
+    by-arrival next after first N (λ v. v ≤ arrival next after′ first′ N (suc n) p) n p (omega arith)
+    (λ z. rw z (le-trans (omega arith) (enter-below next after′ first′ N n)))
+    (λ q l m. le-trans (carried-less (less q) (arrival-less next N i less n q)) (step-below next after′ first′ N n l m))

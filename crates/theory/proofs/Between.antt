@@ -7,16 +7,15 @@ use mathlib.Core.Option.{Option, none, some}
 use mathlib.Core.Path.{_≡_, refl, ap, sym, _∙_}
 use native.Mathlib.Decide.{ℕ-discrete}
 use native.Mathlib.Omega.{arith}
-use lib.Dec.{T, T-not, eqb→eq, eqb-refl}
+use lib.Dec.{T, eqb→eq, eqb-refl}
 use lib.ListN.{length, getD}
-use Rattle.model.specs.Basic.{if_then_else_, largest, smallest, upTo}
+use Rattle.model.specs.Basic.{largest, smallest, upTo}
 use Rattle.model.specs.declared.Point.the-variants.{Return}
 use Rattle.model.specs.Task.{Func, Task, size, count, func, point}
-use Rattle.model.specs.Walk.{Met, Largest, leads, called, is, calls, isCall, returns}
-use Rattle.model.specs.Figures.{theCalled, callees, callFree, longestTo, longest, shortestTo, shortest, highFrom, callPoints, overCalls, entryTo}
+use Rattle.model.specs.Walk.{Largest, called, is, calls}
+use Rattle.model.specs.Figures.{theCalled, callees, longestTo, longest, shortest, highFrom, callPoints, overCalls, entryTo, entryWith, highWith}
 use Rattle.model.specs.Figures.{entry, high, kept, chainTo, chain}
-use Rattle.theory.proofs.Lists.{by-test, mem-select, mem-joined, mem-upTo, by-largest, largest-bounds, largest-largest}
-use Rattle.theory.proofs.Figures.{Closed, callFree-met}
+use Rattle.theory.proofs.Lists.{mem-select, mem-joined, mem-upTo, by-largest, largest-bounds, largest-largest}
 
 module _ {A : Type 0} where
   -- an element of a list is a member of it
@@ -126,41 +125,6 @@ module _ (t : Task) (later : CallsLater t) where
   unfolding longest longestTo
   longest-is f l = sym (longest-more (count t) f l (omega arith))
 
-  shortest-more : (n f : ℕ) → f < count t → count t ≤ n + f → shortestTo t (suc n) f ≡ shortestTo t n f
-  unfolding shortestTo
-  shortest-more zero f l k = absurd (omega arith)
-  shortest-more (suc n) f l k =
-      ap (λ m. if callFree (func t f) then func t f .frame else func t f .frame + m) (smallest-cong (callees (func t f))
-      (λ g m. let r = later f g l m in shortest-more n g (r .1) (omega arith)))
-
-  -- d: the frame where some walk makes no call, else the frame and the smallest d of the functions called
-  pub shortest-is : (f : ℕ) → f < count t
-      → shortest t f
-      ≡ (if callFree (func t f) then func t f .frame else func t f .frame + smallest (shortest t) (callees (func t f)))
-  unfolding shortest shortestTo
-  shortest-is f l = sym (shortest-more (count t) f l (omega arith))
-
-  -- d of a function with no call
-  pub shortest-leaf : (f : ℕ) → f < count t → callees (func t f) ≡ [] → shortest t f ≡ func t f .frame
-  unfolding smallest
-  shortest-leaf f l e =
-      rw (shortest-is f l) (by-test (λ m. m ≡ func t f .frame) (callFree (func t f)) (λ h. refl) (λ h. rw e (omega arith)))
-
-  -- d of a function with a walk to a return that makes no call
-  pub shortest-free : (f : ℕ) → f < count t → Closed (func t f) → 0 < size (func t f)
-      → Met (leads (func t f)) (isCall (func t f)) (returns (func t f)) 0 → shortest t f ≡ func t f .frame
-  shortest-free f l inside z m =
-      rw (shortest-is f l) (by-test (λ m. m ≡ func t f .frame) (callFree (func t f)) (λ h. refl)
-      (λ h. absurd (T-not (callFree (func t f)) h (callFree-met (func t f) inside z .1 m))))
-
-  -- d of a function with no such walk
-  pub shortest-calls : (f : ℕ) → f < count t → Closed (func t f) → 0 < size (func t f)
-      → (Met (leads (func t f)) (isCall (func t f)) (returns (func t f)) 0 → ⊥)
-      → shortest t f ≡ func t f .frame + smallest (shortest t) (callees (func t f))
-  shortest-calls f l inside z m =
-      rw (shortest-is f l) (by-test (λ m. m ≡ func t f .frame + smallest (shortest t) (callees (func t f))) (callFree (func t f))
-      (λ h. absurd (m (callFree-met (func t f) inside z .0 h))) (λ h. refl))
-
   -- a figure from callers to the functions they call, to a depth of n callers: as many as the function's number are enough
   module _
       (step : ℕ → ℕ → ℕ → ℕ)
@@ -188,8 +152,8 @@ module _ (t : Task) (later : CallsLater t) where
 
   -- E: the largest occupancy over the points that call f
   pub entry-is : (f : ℕ) → entry t f ≡ overCalls t f (high t)
-  unfolding entry entryTo high
-  entry-is f = callers-is (λ h p e. highFrom t h e p) (entryTo t) (λ f. refl) (λ n f. refl) f
+  unfolding entryWith entryTo highWith
+  entry-is f = callers-is (λ h p e. highFrom t h e p) (entryTo (shortest t) t) (λ f. refl) (λ n f. refl) f
 
   -- chain: the largest sum over the points that call f of the caller's chain and the part kept after the call
   pub chain-is : (price : ℕ → ℕ) (f : ℕ) → chain price t f ≡ overCalls t f (λ h p. chain price t h + price (kept t h (suc p)))
@@ -198,7 +162,7 @@ module _ (t : Task) (later : CallsLater t) where
 
 -- E of function 0
 pub entry-zero : (t : Task) → entry t 0 ≡ 0
-unfolding entry entryTo
+unfolding entryWith entryTo
 entry-zero t = refl
 
 -- the chain of function 0

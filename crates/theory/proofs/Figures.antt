@@ -7,10 +7,10 @@ use mathlib.Core.Logic.{_↔_, Iff·trans, Iff·symm}
 use mathlib.Core.Option.{Option, none, some}
 use mathlib.Core.Path.{_≡_}
 use lib.Dec.{T, eqb, eqb→eq, eqb-refl}
-use Rattle.model.specs.Basic.{select, upTo}
+use Rattle.model.specs.Basic.{select, upTo, lowest}
 use Rattle.model.specs.Task.{Func, Task, size, func, point}
-use Rattle.model.specs.Walk.{Walk, Met, Carries, Largest, Smallest, leads, called, loads, stores, touches, isCall, isEnsure, returns, never, someWalk}
-use Rattle.model.specs.Figures.{reached, uninitialised, live, dead, need, callFree, cutBy, after, highFrom, entry, high, kept, firstEnsure, keptNext}
+use Rattle.model.specs.Walk.{Walk, Met, Carries, Largest, Smallest, leads, called, loads, stores, touches, isEnsure, never, someWalk}
+use Rattle.model.specs.Figures.{reached, uninitialised, live, dead, need, shortest, cutBy, afterWith, after, highFromWith, highFrom, entry, highWith, high, kept, firstEnsure, keptNext}
 use Rattle.theory.proofs.Lists.{and-holds, mem-select, mem-upTo, above-largest, lowest-smallest, largest-largest}
 use Rattle.theory.proofs.Walks.{meets-sound, meets-complete, walk-met}
 use Rattle.theory.proofs.Arrival.{Steady, steady-same, steady-min, steady-max, steady-if, arrival-reached}
@@ -34,7 +34,18 @@ module _ (x : Func) (inside : Closed x) where
   someWalk-met stop goal p l =
       (meets-sound (leads x) stop goal (size x) p, meets-complete (leads x) stop goal (size x) inside l)
 
-  -- the same, for a walk to one point
+  -- the lowest number below n for which there is one
+  pub lowest-met : (stop goal : ℕ → ℕ → Bool) (p : ℕ) → p < size x → (n : ℕ)
+      → Smallest (λ v. Met (leads x) (stop v) (goal v) p) n (lowest (λ v. someWalk x (stop v) (goal v) p) n)
+  lowest-met stop goal p l n =
+      let r = lowest-smallest (λ v. someWalk x (stop v) (goal v) p) n in
+      record {
+        within = r .within;
+        bounds = λ v h m. r .bounds v h (someWalk-met (stop v) (goal v) p l .1 m);
+        attained = λ h. someWalk-met (stop _) (goal _) p l .0 (r .attained h);
+      }
+
+  -- the test for a walk to one point
   pub someWalk-walk : (stop : ℕ → Bool) (p q : ℕ) → p < size x → T (someWalk x stop (eqb q) p) ↔ Walk (leads x) stop p q
   someWalk-walk stop p q l = Iff·trans (someWalk-met stop (eqb q) p l) (Iff·symm walk-met)
 
@@ -56,14 +67,8 @@ module _ (x : Func) (inside : Closed x) where
   -- dead: the lowest live offset, or the frame where none is live
   pub dead-is : (p : ℕ) → p < size x
       → Smallest (λ o. Met (leads x) (stores x o) (loads x o) p) (x .frame) (dead x p)
-  unfolding dead
-  dead-is p l =
-      let r = lowest-smallest (λ o. live x o p) (x .frame) in
-      record {
-        within = r .within;
-        bounds = λ o h m. r .bounds o h (live-met o p l .1 m);
-        attained = λ h. live-met _ p l .0 (r .attained h);
-      }
+  unfolding dead live
+  dead-is p l = lowest-met (stores x) (loads x) p l (x .frame)
 
   -- need: one more than the highest offset that some walk from p touches before any ensure
   pub need-is : InFrame x → (p : ℕ) → p < size x
@@ -79,11 +84,6 @@ module _ (x : Func) (inside : Closed x) where
         attained = λ h. let k = r .attained h in (k .0, k .1, met (k .0) .0 (k .3));
       }
 
-  -- callFree: some walk from point 0 to a return makes no call
-  pub callFree-met : 0 < size x → T (callFree x) ↔ Met (leads x) (isCall x) (returns x) 0
-  unfolding callFree
-  callFree-met l = someWalk-met (isCall x) (returns x) 0 l
-
   -- e is a first ensure on a walk from p
   pub firstEnsure-walk : (e p : ℕ) → p < size x → T (firstEnsure x e p) ↔ (Walk (leads x) (isEnsure x) p e × T (isEnsure x e))
   unfolding firstEnsure
@@ -96,13 +96,13 @@ module _ (x : Func) (inside : Closed x) where
       )
 
 module _ (t : Task) (f : ℕ) where
-  steady-cut : (c : Option ℕ) → Steady (λ h. cutBy t h c)
+  steady-cut : (c : Option ℕ) → Steady (λ h. cutBy (shortest t) t h c)
   steady-cut none = steady-same
   steady-cut (some g) = steady-min _
 
   -- a threshold of the occupancy after a point depends on the same threshold of the occupancy before it only
   pub steady-after : (p : ℕ) → Steady (after t f p)
-  unfolding after
+  unfolding afterWith
   steady-after p = steady-if (isEnsure (func t f) p) (steady-max (func t f .frame)) (steady-cut (called (point (func t f) p)))
 
   module _ (inside : Closed (func t f)) where
@@ -139,7 +139,7 @@ walk-carries (Walk.step s m w) c = walk-carries w (Carries.step c m)
 pub high-is : (t : Task) (f e : ℕ) → Closed (func t f) → 0 < size (func t f) → {p : ℕ} → Walk (leads (func t f)) never 0 p
     → ((h : ℕ) → Carries (leads (func t f)) (after t f) (min (t .stack) (e + func t f .frame)) p h → h ≤ highFrom t f e p)
     × Carries (leads (func t f)) (after t f) (min (t .stack) (e + func t f .frame)) p (highFrom t f e p)
-unfolding highFrom
+unfolding highFromWith
 high-is t f e inside l w =
     arrival-reached (leads (func t f)) (after t f) (min (t .stack) (e + func t f .frame)) (size (func t f)) (steady-after t f)
     inside l (walk-carries w Carries.enter .1)
@@ -148,5 +148,5 @@ high-is t f e inside l w =
 pub high-entry-is : (t : Task) (f : ℕ) → Closed (func t f) → 0 < size (func t f) → {p : ℕ} → Walk (leads (func t f)) never 0 p
     → ((h : ℕ) → Carries (leads (func t f)) (after t f) (min (t .stack) (entry t f + func t f .frame)) p h → h ≤ high t f p)
     × Carries (leads (func t f)) (after t f) (min (t .stack) (entry t f + func t f .frame)) p (high t f p)
-unfolding high
+unfolding highWith
 high-entry-is t f = high-is t f (entry t f)

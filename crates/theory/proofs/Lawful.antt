@@ -2,23 +2,25 @@
 use Prim.Native.Nat.{ℕ, suc, _+_, _-_, _≤_, _<_, min, max}
 use mathlib.Core.Bool.{not}
 use mathlib.Core.List.{List·Memᴰ, List·Memᴰ·head}
-use mathlib.Core.Path.{_≡_, refl, ap}
+use mathlib.Core.Option.{Option, none, some}
+use mathlib.Core.Path.{_≡_, refl, ap, _∙_}
 use native.Mathlib.Omega.{arith}
 use native.Mathlib.Nat.{le-refl, le-trans}
-use lib.Dec.{T, eqb, T-not}
+use lib.Dec.{T, eqb, not-T, ltb→lt, lt→ltb}
 use Rattle.model.specs.declared.Point.{Point}
 use Rattle.model.specs.declared.Point.the-variants.{Load, Store, Call, Ensure, Goto, Either, Return}
-use Rattle.model.specs.Basic.{if_then_else_, smallest}
 use Rattle.model.specs.Task.{Task, size, count, func, point}
-use Rattle.model.specs.Walk.{Walk, leads, present, called, calls, isCall, returns, someWalk}
-use Rattle.model.specs.Figures.{dead, need, callees, callFree, longest, shortest, fill, after, entry, high, spill, kept, keptNext, chain}
+use Rattle.model.specs.Walk.{Walk, leads, present, called, calls, isCall, returns}
+use Rattle.model.specs.Figures.{dead, need, displacementOf, displacementAt, callsAbove, minimax, longest, shortest, fill, afterWith, after, entry, high}
+use Rattle.model.specs.Figures.{spillWith, kept, keptNext, chain}
 use Rattle.model.specs.Sheet.{costed, sheetWith, pricedSheet}
-use Rattle.theory.proofs.Lists.{by-test, by-largest, smallest-bounds}
-use Rattle.theory.proofs.Walks.{walk-trans}
+use Rattle.theory.proofs.Lists.{by-largest}
+use Rattle.theory.proofs.Walks.{walk-trans, walk-wider, walk-met}
 use Rattle.model.specs.WellFormed.{WellFormed}
 use Rattle.theory.proofs.Links.{is-holds, ensure-after-call, callee-later}
-use Rattle.theory.proofs.Figures.{someWalk-walk}
-use Rattle.theory.proofs.Between.{mem-callees, shortest-is, shortest-free, entry-is, entry-zero, chain-is, overCalls-is}
+use Rattle.theory.proofs.Figures.{reached-walk}
+use Rattle.theory.proofs.Between.{entry-is, entry-zero, chain-is, overCalls-is}
+use Rattle.theory.proofs.Displacement.{minimax-low, minimax-met, shortest-is, shortest-met}
 use Rattle.theory.proofs.Rules.{dead-frame, dead-live, need-frame, need-touch, need-ensure, need-along, keptNext-ensure, keptNext-along}
 use Rattle.theory.proofs.Rules.{high-along, high-enter}
 use Rattle.theory.proofs.Sheet.{closed-in, in-frame, calls-later}
@@ -35,10 +37,9 @@ kept-after : (t : Task) (f c g : ℕ) → point (func t f) c ≡ Call g → poin
 unfolding fill
 kept-after t f c g e k = let z : suc c - 1 ≡ c = omega arith in rw (k, z, e) (omega arith)
 
--- how far the calls on the way to p have pushed at least: nothing where some walk makes no call, else the smallest d called
-unfoldable pub past : Task → ℕ → ℕ → ℕ
-past t f p =
-    if someWalk (func t f) (isCall (func t f)) (eqb p) 0 then 0 else smallest (shortest t) (callees (func t f))
+-- how far the calls on the way to p have pushed at least: the smallest, over walks to p, of the largest d called
+abbrev past : Task → ℕ → ℕ → ℕ
+past t f p = minimax (shortest t) (func t f) (eqb p)
 
 -- dead and need of a task's own walks
 pub marked : (t : Task) → WellFormed t → (f p : ℕ) → f < count t → p < size (func t f)
@@ -55,35 +56,50 @@ marked t w f p h k =
     }
 
 module _ (t : Task) (w : WellFormed t) where
-  -- what is so of 0 where some walk makes no call, and of the smallest d where none does, is so of past
-  by-past : (f p : ℕ) → f < count t → (P : ℕ → Type 0) → (Walk (leads (func t f)) (isCall (func t f)) 0 p → P 0)
-      → ((Walk (leads (func t f)) (isCall (func t f)) 0 p → ⊥) → P (smallest (shortest t) (callees (func t f)))) → P (past t f p)
-  unfolding past
-  by-past f p h P a b =
+  -- some walk comes to p and calls nothing above past
+  past-walk : (f p : ℕ) → f < count t → p < size (func t f) → Walk (leads (func t f)) (callsAbove (shortest t) (func t f) (past t f p)) 0 p
+  past-walk f p h k =
       let x = func t f in
-      let walk = someWalk-walk x (closed-in w f h) (isCall x) 0 p (w .shaped .nonempty f h) in
-      by-test P (someWalk x (isCall x) (eqb p) 0) (λ i. a (walk .0 i)) (λ i. b (λ v. T-not (someWalk x (isCall x) (eqb p) 0) i (walk .1 v)))
+      let c = closed-in w f h in
+      let z = w .shaped .nonempty f h in
+      walk-met .1 (minimax-met (shortest t) x c z (eqb p) (walk-met .0 (reached-walk x c z p .0 (w .reach f p h k))))
 
-  past-free : (f p : ℕ) → f < count t → Walk (leads (func t f)) (isCall (func t f)) 0 p → past t f p ≡ 0
-  past-free f p h v = by-past f p h (λ m. m ≡ 0) (λ i. refl) (λ i. absurd (i v))
+  -- no walk to p calls less than past at most
+  past-low : (f p v : ℕ) → f < count t → Walk (leads (func t f)) (callsAbove (shortest t) (func t f) v) 0 p → past t f p ≤ v
+  past-low f p v h i = minimax-low (shortest t) (func t f) (closed-in w f h) (w .shaped .nonempty f h) (eqb p) v (walk-met .0 i)
 
-  past-most : (f p : ℕ) → f < count t → past t f p ≤ smallest (shortest t) (callees (func t f))
-  past-most f p h = by-past f p h (λ m. m ≤ smallest (shortest t) (callees (func t f))) (λ i. omega arith) (λ i. omega arith)
+  -- from p to q, where p calls u at most
+  past-step : (f p q u : ℕ) → f < count t → p < size (func t f) → List·Memᴰ q (leads (func t f) p)
+      → displacementAt (shortest t) (func t f) p ≤ u → past t f q ≤ max (past t f p) u
+  past-step f p q u h k m c =
+      let x = func t f in
+      let n = max (past t f p) u in
+      let more : (r : ℕ) → T (callsAbove (shortest t) x n r) → T (callsAbove (shortest t) x (past t f p) r) =
+      λ r b. lt→ltb (past t f p) (displacementAt (shortest t) x r) (omega (arith, ltb→lt n (displacementAt (shortest t) x r) b)) in
+      let free : T (not (callsAbove (shortest t) x n p)) =
+      not-T (callsAbove (shortest t) x n p) (λ b. omega (arith, c, ltb→lt n (displacementAt (shortest t) x p) b)) in
+      past-low f q n h (walk-trans (walk-wider more (past-walk f p h k)) (Walk.step free m Walk.here))
 
-  past-along : (f p q : ℕ) → f < count t → T (not (isCall (func t f) p)) → List·Memᴰ q (leads (func t f) p) → past t f q ≤ past t f p
-  past-along f p q h i m =
-      by-past f p h (λ n. past t f q ≤ n)
-      (λ v. omega (arith, past-free f q h (walk-trans v (Walk.step i m Walk.here))))
-      (λ v. past-most f q h)
+  past-along : (f p q : ℕ) → f < count t → p < size (func t f) → T (not (isCall (func t f) p)) → List·Memᴰ q (leads (func t f) p)
+      → past t f q ≤ past t f p
+  past-along f p q h k i m = omega (arith, past-step f p q 0 h k m (quiet (called (point (func t f) p)) i))
+    where
+      quiet : (c : Option ℕ) → T (not (present c)) → displacementOf (shortest t) c ≤ 0
+      quiet none i = omega arith
+      quiet (some g) i = absurd i
 
   -- d is at most the frame and past at each return
-  past-return : (f p : ℕ) → f < count t → point (func t f) p ≡ Return → shortest t f ≤ func t f .frame + past t f p
-  past-return f p h e =
-      let r : T (returns (func t f) p) = rw e tt in
-      by-past f p h (λ n. shortest t f ≤ func t f .frame + n)
-      (λ v. omega (arith, shortest-free t (calls-later w) f h (closed-in w f h) (w .shaped .nonempty f h) (p, v, r)))
-      (λ v. rw (shortest-is t (calls-later w) f h)
-      (by-test (λ d. d ≤ func t f .frame + smallest (shortest t) (callees (func t f))) (callFree (func t f)) (λ c. omega arith) (λ c. omega arith)))
+  past-return : (f p : ℕ) → f < count t → p < size (func t f) → point (func t f) p ≡ Return → shortest t f ≤ func t f .frame + past t f p
+  past-return f p h k e =
+      let x = func t f in
+      let c = closed-in w f h in
+      let z = w .shaped .nonempty f h in
+      let r : T (returns x p) = rw e tt in
+      omega (
+        arith,
+        shortest-is t (calls-later w) f h ∙ shortest-met (shortest t) x c z (p, reached-walk x c z p .0 (w .reach f p h k), r),
+        minimax-low (shortest t) x c z (returns x) (past t f p) (p, past-walk f p h k, r),
+      )
 
   -- after a point
   high-step : (f p q : ℕ) → f < count t → p < size (func t f) → List·Memᴰ q (leads (func t f) p) → after t f p (high t f p) ≤ high t f q
@@ -94,17 +110,17 @@ module _ (t : Task) (w : WellFormed t) where
   high-same f p q h k i m = le-trans (after-same (point (func t f) p) refl i) (high-step f p q h k m)
     where
       after-same : (y : Point) → point (func t f) p ≡ y → T (not (present (called y))) → high t f p ≤ after t f p (high t f p)
-      after-same (Load o) e i = unfold after in rw e (omega arith)
-      after-same (Store o) e i = unfold after in rw e (omega arith)
+      after-same (Load o) e i = unfold afterWith in rw e (omega arith)
+      after-same (Store o) e i = unfold afterWith in rw e (omega arith)
       after-same (Call g) e i = absurd i
-      after-same (Ensure k) e i = unfold after in rw e (omega arith)
-      after-same (Goto q) e i = unfold after in rw e (omega arith)
-      after-same (Either q r) e i = unfold after in rw e (omega arith)
-      after-same Return e i = unfold after in rw e (omega arith)
+      after-same (Ensure k) e i = unfold afterWith in rw e (omega arith)
+      after-same (Goto q) e i = unfold afterWith in rw e (omega arith)
+      after-same (Either q r) e i = unfold afterWith in rw e (omega arith)
+      after-same Return e i = unfold afterWith in rw e (omega arith)
 
   high-filled : (f p : ℕ) → f < count t → p < size (func t f) → point (func t f) p ≡ Ensure (func t f .frame)
       → func t f .frame ≤ high t f (suc p)
-  unfolding after leads
+  unfolding afterWith leads
   high-filled f p h k e =
       let j : max (high t f p) (func t f .frame) ≤ high t f (suc p) = rw e at (high-step f p (suc p) h k (rw e (List·Memᴰ·head refl))) in
       omega (arith, j)
@@ -118,11 +134,12 @@ module _ (t : Task) (w : WellFormed t) where
     entry-at = rw (entry-is t (calls-later w) g) (overCalls-is t g (high t) .bounds (high t f p) (f, p, h, k, calls-it, refl))
 
     high-cut : min (high t f p) (t .stack - shortest t g) ≤ high t f (suc p)
-    unfolding after leads
+    unfolding afterWith leads
     high-cut = rw e at (high-step f p (suc p) h k (rw e (List·Memᴰ·head refl)))
 
-    past-cut : past t f (suc p) ≤ shortest t g
-    past-cut = le-trans (past-most f (suc p) h) (smallest-bounds (shortest t) (mem-callees (func t f) .1 (p, k, calls-it)))
+    past-cut : past t f (suc p) ≤ max (past t f p) (shortest t g)
+    unfolding leads
+    past-cut = past-step f p (suc p) (shortest t g) h k (rw e (List·Memᴰ·head refl)) (rw e (omega arith))
 
     next-kept : keptNext t f (suc p) ≡ kept t f (suc p)
     next-kept =
@@ -136,8 +153,8 @@ module _ (t : Task) (w : WellFormed t) where
 
   module _ (price : ℕ → ℕ) (c : Price price) (dead need : ℕ → ℕ → ℕ) where
     sound-call : (f p g : ℕ) → f < count t → p < size (func t f) → point (func t f) p ≡ Call g
-        → SoundCall t (sheetWith price t dead need) (record { next = keptNext t; past = past t; shortest = shortest t }) f p g
-    unfolding costed spill
+        → SoundCall t (sheetWith price t (shortest t) dead need) (record { next = keptNext t; past = past t; shortest = shortest t }) f p g
+    unfolding costed spillWith
     sound-call f p g h k e =
         let l = callee-later (w .linked) f p g h k (ap called e) .1 in
         let a = entry-at f p g h k e in
@@ -145,20 +162,20 @@ module _ (t : Task) (w : WellFormed t) where
           enter = omega (arith, a, high-enter t g (closed-in w g l) (w .shaped .nonempty g l));
           spill = c .more _ _ (omega (arith, a));
           high = high-cut f p g h k e;
-          past = omega (arith, past-cut f p g h k e);
+          past = past-cut f p g h k e;
           next = rw (next-kept f p g h k e) (kept-after t f p g e (n .1));
           chain = rw (next-kept f p g h k e) (chain-call f p g h k e price);
         }
 
     -- a sheet by the formulas that stand, with dead and need from anywhere
-    pub sound-with : ((f p : ℕ) → f < count t → p < size (func t f) → Marked t dead need f p) → Sound t (sheetWith price t dead need)
+    pub sound-with : ((f p : ℕ) → f < count t → p < size (func t f) → Marked t dead need f p) → Sound t (sheetWith price t (shortest t) dead need)
     unfolding costed
     sound-with m = record {
       ground = record { next = keptNext t; past = past t; shortest = shortest t };
       price = c;
       start = λ l.
           omega (arith, entry-zero t, w .shaped .frames 0 l, high-enter t 0 (closed-in w 0 l) (w .shaped .nonempty 0 l));
-      first = λ f h. past-free f 0 h Walk.here;
+      first = λ f h. omega (arith, past-low f 0 0 h Walk.here);
       at = λ f p h k. record {
         marked = m f p h k;
         next-frame = keptNext-frame t f p;
@@ -166,8 +183,8 @@ module _ (t : Task) (w : WellFormed t) where
         fill = λ i. c .more _ _ (omega (arith, keptNext-ensure t f (closed-in w f h) p k i));
         high-along = λ i q n. high-same f p q h k i n;
         high-ensure = high-filled f p h k;
-        past-along = λ i q n. past-along f p q h i n;
-        past-return = past-return f p h;
+        past-along = λ i q n. past-along f p q h k i n;
+        past-return = past-return f p h k;
         call = λ g e. sound-call f p g h k e;
         cost = le-refl _;
       };

@@ -4,6 +4,7 @@
 --   Reading, Accepted, Links what acceptance says of a task
 --   Places, Decimal          the place of a refusal fits 16 bits; numbers in decimal
 --   Figures, Between, Rules  each figure, within a function, between functions, and along a lead
+--   Displacement             d over whole walks
 --   Rows                     what rows 11 and 13 say of walks, for refused texts too
 --   Frames, Window           the frames of a run are those of the plain stack, and where the stack stands; from here to Fair nothing is known of a
 --                            sheet but the rules of specs/Sound
@@ -13,6 +14,7 @@
 --   Potential                a step, and a preemption, moves at most what it is allowed and what the potential falls by
 --   Fair                     the state of a task that runs and of one that waits; every event is fair, and so is every list of events
 --   Lawful                   the figures of document 01 obey the rules
+--   Before                   against the rule for d before request 4 no figure rises
 --   Prices                   the price of a move with a start is a price; with start 0 and each 1 report and run are those of document 01
 --   Sorting, Dearest         laws of the sorted list; the list of the dearest points is the first ten of the report's records in a strict order
 --   Faithful                 demand 3, of every sheet that obeys the rules and of the sheet of every text that run accepts
@@ -28,6 +30,7 @@ pub mod Places
 pub mod Decimal
 pub mod Figures
 pub mod Between
+pub mod Displacement
 pub mod Rules
 pub mod Rows
 pub mod Sheet
@@ -40,6 +43,7 @@ pub mod Occupancy
 pub mod Potential
 pub mod Fair
 pub mod Lawful
+pub mod Before
 pub mod Prices
 pub mod Sorting
 pub mod Dearest

@@ -74,6 +74,47 @@ module _ {A : Type 0} where
         λ m. ⊎-elim (λ e. absurd (T-not (t b) h (rw e at (m .1)))) (λ k. mem-select t l .1 (k, m .1)) (List·Memᴰ·cases-cons (m .0)),
       ))
 
+  -- tests that agree on the members select the same
+  pub select-cong : {t u : A → Bool} (l : List A) → ((a : A) → List·Memᴰ a l → t a ≡ u a) → select t l ≡ select u l
+  unfolding select
+  select-cong [] e = refl
+  select-cong (a ∷ l) e = rw (e a (List·Memᴰ·head refl), select-cong l (λ b m. e b (List·Memᴰ·tail m)))
+
+  -- no more than there are; a test that passes less selects no more, and less where some element passes only the other
+  pub select-most : (t : A → Bool) (l : List A) → length (select t l) ≤ length l
+  unfolding select
+  select-most t [] = omega arith
+  select-most t (a ∷ l) =
+      by-test (λ k. length k ≤ suc (length l)) (t a) {x = a ∷ select t l} {y = select t l} (λ h. omega (arith, select-most t l))
+      (λ h. omega (arith, select-most t l))
+
+  module _ (t u : A → Bool) (less : (a : A) → T (t a) → T (u a)) where
+    pub select-fewer : (l : List A) → length (select t l) ≤ length (select u l)
+    unfolding select
+    select-fewer [] = omega arith
+    select-fewer (a ∷ l) =
+        by-test (λ k. length k ≤ length (select u (a ∷ l))) (t a) {x = a ∷ select t l} {y = select t l}
+        (λ h. by-test (λ k. length (a ∷ select t l) ≤ length k) (u a) {x = a ∷ select u l} {y = select u l}
+        (λ i. omega (arith, select-fewer l)) (λ i. absurd (T-not (u a) i (less a h))))
+        (λ h. by-test (λ k. length (select t l) ≤ length k) (u a) {x = a ∷ select u l} {y = select u l}
+        (λ i. omega (arith, select-fewer l)) (λ i. select-fewer l))
+
+    pub select-less : {a : A} (l : List A) → List·Memᴰ a l → T (u a) → T (not (t a)) → length (select t l) < length (select u l)
+    unfolding select
+    select-less [] m y n = absurd (List·Memᴰ·not-nil m)
+    select-less {a} (b ∷ l) m y n =
+        by-test (λ k. length k < length (select u (b ∷ l))) (t b) {x = b ∷ select t l} {y = select t l}
+        (λ h. by-test (λ k. length (b ∷ select t l) < length k) (u b) {x = b ∷ select u l} {y = select u l}
+        (λ i. omega (arith, select-less l (behind h (List·Memᴰ·cases-cons m)) y n)) (λ i. absurd (T-not (u b) i (less b h))))
+        (λ h. by-test (λ k. length (select t l) < length k) (u b) {x = b ∷ select u l} {y = select u l}
+        (λ i. omega (arith, select-fewer l)) (λ i. select-less l (later i (List·Memᴰ·cases-cons m)) y n))
+      where
+        behind : T (t b) → (a ≡ b) ⊎ List·Memᴰ a l → List·Memᴰ a l
+        behind h = ⊎-elim (λ e. absurd (T-not (t a) n (rw e h))) (λ k. k)
+
+        later : T (not (u b)) → (a ≡ b) ⊎ List·Memᴰ a l → List·Memᴰ a l
+        later i = ⊎-elim (λ e. absurd (T-not (u b) i (rw e at y))) (λ k. k)
+
   -- the members of the joined lists
   pub mem-joined : {B : Type 0} (f : A → List B) (l : List A) {b : B}
       → List·Memᴰ b (joined f l) ↔ ((a : A) × List·Memᴰ a l × List·Memᴰ b (f a))
@@ -141,6 +182,17 @@ module _ {A : Type 0} (f : A → ℕ) where
   pub smallest-attained : {a : A} {l : List A} → List·Memᴰ a l → (b : A) × List·Memᴰ b l × (smallest f l ≡ f b)
   smallest-attained {l = []} m = absurd (List·Memᴰ·not-nil m)
   smallest-attained {l = c ∷ l} m = smallest-among c l
+
+-- numbers that are no smaller have no smaller largest one, and no smaller smallest one
+module _ {A : Type 0} {f g : A → ℕ} where
+  pub largest-mono : (l : List A) → ((a : A) → List·Memᴰ a l → f a ≤ g a) → largest f l ≤ largest g l
+  largest-mono l e = by-largest f (λ m. m ≤ largest g l) l (omega arith) (λ a m. omega (arith, e a m, largest-bounds g m))
+
+  pub smallest-mono : (l : List A) → ((a : A) → List·Memᴰ a l → f a ≤ g a) → smallest f l ≤ smallest g l
+  unfolding smallest
+  smallest-mono [] e = omega arith
+  smallest-mono (a ∷ []) e = e a (List·Memᴰ·head refl)
+  smallest-mono (a ∷ b ∷ l) e = omega (arith, e a (List·Memᴰ·head refl), smallest-mono (b ∷ l) (λ c m. e c (List·Memᴰ·tail m)))
 
 module _ (t : ℕ → Bool) where
   -- one more than the largest number below n that passes the test
@@ -244,7 +296,7 @@ countFrom-last i (suc n) =
 pub upTo-next : (n : ℕ) → upTo (n + 1) ≡ upTo n ++ (n ∷ [])
 upTo-next n = rw (add-one n) (countFrom-last 0 n ∙ ap (λ (k : ℕ). upTo n ++ (k ∷ [])) (zero-add n))
 
-length-countFrom : (i n : ℕ) → length (countFrom i n) ≡ n
+pub length-countFrom : (i n : ℕ) → length (countFrom i n) ≡ n
 unfolding countFrom
 length-countFrom i zero = refl
 length-countFrom i (suc n) = ap suc (length-countFrom (suc i) n)

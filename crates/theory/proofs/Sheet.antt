@@ -1,9 +1,9 @@
 -- Each figure of an accepted text is what document 01 says of all walks: no walk of any length passes it, and some walk attains it.
 -- The record OverWalks names every such theorem; `over-walks` proves them all from acceptance.
 use Prim.Native.Nat.{ℕ, suc, _+_, _≤_, _<_, min}
-use mathlib.Core.Path.{_≡_}
+use mathlib.Core.Path.{_≡_, _∙_}
 use mathlib.Core.Bool.{false, _||_}
-use mathlib.Core.List.{List, []}
+use mathlib.Core.List.{List}
 use mathlib.Core.Logic.{_↔_, ⊎-elim}
 use native.Mathlib.Omega.{arith}
 use lib.Dec.{T, ltb, eqb, ltb→lt, eqb→eq}
@@ -11,7 +11,7 @@ use Rattle.model.specs.declared.Point.{Point}
 use Rattle.model.specs.declared.Point.the-variants.{Load, Store, Call, Ensure, Goto, Either, Return}
 use Rattle.model.specs.Basic.{largest, smallest}
 use Rattle.model.specs.Task.{Task, task, size, count, func, point, offsetFits}
-use Rattle.model.specs.Walk.{Walk, Met, Carries, Largest, Smallest, leads, never, loads, stores, touches, calls, called, is, isCall, isEnsure}
+use Rattle.model.specs.Walk.{Walk, Met, Carries, Largest, Smallest, Least, leads, never, loads, stores, touches, calls, called, is, isEnsure}
 use Rattle.model.specs.Walk.{returns, loaded, stored}
 use Rattle.model.specs.Figures as model
 use Rattle.model.specs.Figures.{callees, after, kept}
@@ -21,8 +21,10 @@ use Rattle.model.specs.WellFormed.{WellFormed}
 use Rattle.theory.proofs.Accepted.{judged-as}
 use Rattle.theory.proofs.Links.{is-holds, closed, callee-later}
 use Rattle.theory.proofs.Figures.{Closed, InFrame, reached-walk, uninitialised-walk, dead-is, need-is, keptNext-is, high-entry-is}
-use Rattle.theory.proofs.Between.{CallsLater, mem-callees, longest-is, shortest-leaf, shortest-free, shortest-calls, entry-is, entry-zero}
+use Rattle.theory.proofs.Between.{CallsLater, mem-callees, longest-is, entry-is, entry-zero}
 use Rattle.theory.proofs.Between.{chain-is, chain-zero, overCalls-is}
+use Rattle.theory.specs.Displacement.{CalledToReturn}
+use Rattle.theory.proofs.Displacement.{minimax-least, shortest-is, shortest-met, shortest-none}
 
 -- of function f, x = func t f
 pub record OverWalksOf (t : Task) (f : ℕ) : Type 0 where
@@ -44,11 +46,11 @@ pub record OverWalksOf (t : Task) (f : ℕ) : Type 0 where
   pub high : (p : ℕ) → p < size (func t f)
       → ((h : ℕ) → Carries (leads (func t f)) (after t f) (min (t .stack) (model.entry t f + func t f .frame)) p h → h ≤ model.high t f p)
       × Carries (leads (func t f)) (after t f) (min (t .stack) (model.entry t f + func t f .frame)) p (model.high t f p)
-  -- D and d
+  -- D; d: the frame and the smallest, over walks to a return, of the largest d called, or the smallest d called where no walk comes to a return
   pub longest : model.longest t f ≡ func t f .frame + largest (model.longest t) (callees (func t f))
-  pub shortest-leaf : callees (func t f) ≡ [] → model.shortest t f ≡ func t f .frame
-  pub shortest-free : Met (leads (func t f)) (isCall (func t f)) (returns (func t f)) 0 → model.shortest t f ≡ func t f .frame
-  pub shortest-calls : (Met (leads (func t f)) (isCall (func t f)) (returns (func t f)) 0 → ⊥)
+  pub shortest : Met (leads (func t f)) never (returns (func t f)) 0
+      → (m : ℕ) × (model.shortest t f ≡ func t f .frame + m) × Least (CalledToReturn (model.shortest t) (func t f)) m
+  pub shortest-endless : (Met (leads (func t f)) never (returns (func t f)) 0 → ⊥)
       → model.shortest t f ≡ func t f .frame + smallest (model.shortest t) (callees (func t f))
   -- E and chain: the largest over the points that call f
   pub entry : Largest
@@ -102,9 +104,12 @@ module _ {t : Task} (w : WellFormed t) where
         keptNext = keptNext-is t f c;
         high = λ p k. high-entry-is t f c n (reached-walk (func t f) c n p .0 (w .reach f p h k));
         longest = longest-is t calls-later f h;
-        shortest-leaf = shortest-leaf t calls-later f h;
-        shortest-free = shortest-free t calls-later f h c n;
-        shortest-calls = shortest-calls t calls-later f h c n;
+        shortest = λ m. (
+          model.minimax (model.shortest t) (func t f) (returns (func t f)),
+          shortest-is t calls-later f h ∙ shortest-met (model.shortest t) (func t f) c n m,
+          minimax-least (model.shortest t) (func t f) c n m,
+        );
+        shortest-endless = λ m. shortest-is t calls-later f h ∙ shortest-none (model.shortest t) (func t f) c n m;
         entry = rw (entry-is t calls-later f) (overCalls-is t f (model.high t));
         chain = λ price. rw (chain-is t calls-later price f) (overCalls-is t f (λ h p. model.chain price t h + price (kept t h (suc p))));
       }

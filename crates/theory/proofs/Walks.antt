@@ -6,7 +6,7 @@ use mathlib.Core.List.{List, List·Memᴰ}
 use mathlib.Core.Logic.{_↔_, _⊎_, inl, inr, ⊎-elim}
 use native.Mathlib.Decide.{decLt, ℕ-discrete}
 use native.Mathlib.Omega.{arith}
-use lib.Dec.{T, eqb, eqb→eq, eqb-refl}
+use lib.Dec.{T, T-not, not-T, eqb, eqb→eq, eqb-refl}
 use Rattle.model.specs.Basic.{any}
 use Rattle.model.specs.Walk.{Walk, Met, meets}
 use Rattle.theory.proofs.Lists.{or-holds, and-holds, any-holds}
@@ -158,6 +158,11 @@ module _ {next : ℕ → List ℕ} {stop : ℕ → Bool} where
   pub walk-trans : {p q r : ℕ} → Walk next stop p q → Walk next stop q r → Walk next stop p r
   walk-trans Walk.here v = v
   walk-trans (Walk.step s m w) v = Walk.step s m (walk-trans w v)
+
+  -- a walk that passes no point of one kind passes no point of a narrower kind
+  pub walk-wider : {halt : ℕ → Bool} {p q : ℕ} → ((r : ℕ) → T (halt r) → T (stop r)) → Walk next stop p q → Walk next halt p q
+  walk-wider h Walk.here = Walk.here
+  walk-wider {halt} h (Walk.step {p = p} s m v) = Walk.step (not-T (halt p) (λ k. T-not (stop p) s (h p k))) m (walk-wider h v)
 
   -- a walk to q meets q
   pub walk-met : {p q : ℕ} → Walk next stop p q ↔ Met next stop (λ r. eqb q r) p
