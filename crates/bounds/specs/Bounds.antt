@@ -12,15 +12,15 @@ abbrev pub costBounds : ℕ
 costBounds = columnsEnd
 
 abbrev pub fillBounds : ℕ
-fillBounds = 9664
+fillBounds = 9728
 
 -- of each function: the spill of a call
 abbrev pub spillBounds : ℕ
-spillBounds = 10688
+spillBounds = 10752
 
 -- the numbers that the tables and all columns take, these too
 abbrev pub boundsEnd : ℕ
-boundsEnd = 10752
+boundsEnd = 10816
 
 -- the figures stand, and the columns behind them have what the sheet allows in the functions below n
 pub record BoundedTo (price : Price) (w : List ℕ) (h : Header) (n : ℕ) : Type 0 where

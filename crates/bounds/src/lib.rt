@@ -20,11 +20,11 @@ pub struct Bounds;
 impl Bounds {
     pub const COST: usize = Columns::END;
 
-    pub const FILL: usize = 9664;
+    pub const FILL: usize = 9728;
 
-    pub const SPILL: usize = 10688;
+    pub const SPILL: usize = 10752;
     // The numbers that the tables and all columns take, these too.
-    pub const END: usize = 10752;
+    pub const END: usize = 10816;
 }
 
 // The cost and the fill of each point of function f, which is s.

@@ -8,9 +8,11 @@ use lib.ListN.{List·getD-eq-default}
 use Rattle.model.specs.Basic.{smallest}
 use Rattle.model.specs.Limits.{mostStack, mostFuncs}
 use Rattle.model.specs.Task.{Func, Task, count, func, empty}
-use Rattle.model.specs.Figures.{callees, callFree, longestTo, longest, shortestTo, shortest}
+use Rattle.model.specs.Walk.{returns, never, someWalk}
+use Rattle.model.specs.Figures.{callees, longestTo, longest, shortestBy, shortestTo, shortest}
 use Rattle.model.specs.WellFormed.{Shaped}
 use Rattle.theory.proofs.Lists.{by-test, by-largest}
+use Rattle.theory.proofs.Displacement.{minimax-within}
 
 pub smallest-low : {A : Type 0} (f : A → ℕ) (l : List A) (n : ℕ) → ((a : A) → f a ≤ n) → smallest f l ≤ n
 unfolding smallest
@@ -40,12 +42,15 @@ module _ {t : Task} (s : Shaped t) where
   longest-low f = omega (arith, longest-to (count t) f, s .few)
 
   shortest-to : (n f : ℕ) → shortestTo t n f ≤ mostStack * n
-  unfolding shortestTo
+  unfolding shortestTo shortestBy
   shortest-to zero f = omega arith
   shortest-to (suc n) f =
-      let l = smallest-low (shortestTo t n) (callees (func t f)) (mostStack * n) (λ g. shortest-to n g) in
-      by-test (λ m. m ≤ mostStack * suc n) (callFree (func t f))
-      (λ h. omega (arith, frame-low f, s .stack-high)) (λ h. omega (arith, frame-low f, s .stack-high, l))
+      let x = func t f in
+      let d = shortestTo t n in
+      let l = by-largest d (λ m. m ≤ mostStack * n) (callees x) (omega arith) (λ g _. shortest-to n g) in
+      by-test (λ m. x .frame + m ≤ mostStack * suc n) (someWalk x never (returns x) 0)
+      (λ h. omega (arith, frame-low f, s .stack-high, minimax-within d x (returns x), l))
+      (λ h. omega (arith, frame-low f, s .stack-high, smallest-low d (callees x) (mostStack * n) (shortest-to n)))
 
   pub shortest-low : (f : ℕ) → shortest t f ≤ mostStack * mostFuncs
   unfolding shortest

@@ -17,10 +17,10 @@ use Rattle.theory.proofs.Lists.{by-test}
 use Rattle.tables.specs.declared.Header.{Header}
 use Rattle.tables.specs.declared.Span.{Span}
 use Rattle.tables.specs.Tables.{item}
-use Rattle.columns.specs.Columns.{longestColumn, shortestColumn, fillColumn}
+use Rattle.columns.specs.Columns.{longestColumn, shortestColumn, fillColumn, levelColumn}
 use Rattle.prices.specs.declared.Price.{Price}
 use Rattle.prices.specs.Prices.{priceOf}
-use Rattle.columns.specs.Values.{numbered, calleeAt, ensureAt, filledAt, keptAt, cutAt, chainedAt}
+use Rattle.columns.specs.Values.{numbered, calleeAt, ensureAt, filledAt, keptAt, cutAt, levelAt, chainedAt}
 
 -- a point that is no call, and one that is no ensure
 pub none-called : (x : Point) → OneOf (0 ∷ 1 ∷ 3 ∷ 4 ∷ 5 ∷ 6 ∷ []) (tagOf P.the-type x) → mostFuncs ≡ numbered (called x)
@@ -75,6 +75,15 @@ module _ (w : List ℕ) (h : Header) (s : Span) (p : ℕ) where
 pub kept-low : (w : List ℕ) (s : Span) (p : ℕ) {r : ℕ} → r ≡ keptAt w s p → r ≤ s .frame
 unfolding keptAt
 kept-low w s p e = omega arith
+
+module _ (w : List ℕ) (s : Span) (p : ℕ) where
+  pub level-call : {g : ℕ} → g ≡ calleeAt w s p → g < mostFuncs → item w (levelColumn + g) ≡ levelAt w s p
+  unfolding levelAt
+  level-call {g} i k = rw (← i, lt-ltb g mostFuncs k)
+
+  pub level-past : {g : ℕ} → g ≡ calleeAt w s p → mostFuncs ≤ g → 0 ≡ levelAt w s p
+  unfolding levelAt
+  level-past {g} i k = rw (← i, le-ltb g mostFuncs k)
 
 module _ (w : List ℕ) (s : Span) (own : ℕ) (price : Price) (p : ℕ) where
   pub chained-more : {a b : ℕ} → p + 1 < s .size → a ≡ keptAt w s (p + 1) → b ≡ priceOf price a → own + b ≡ chainedAt w s own price p

@@ -35,9 +35,13 @@ entryColumn = 8512
 abbrev pub chainColumn : ℕ
 chainColumn = 8576
 
+-- the level of a function: its place by d among the functions from it on
+abbrev pub levelColumn : ℕ
+levelColumn = 8640
+
 -- the numbers that the tables and all columns take
 abbrev pub columnsEnd : ℕ
-columnsEnd = 8640
+columnsEnd = 8704
 
 -- the column at a has a figure for each point of the functions below n
 pub record Points (figure : ℕ → ℕ → ℕ) (a n : ℕ) (w : List ℕ) : Type 0 where

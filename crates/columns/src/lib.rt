@@ -1,19 +1,17 @@
 // The columns of figures behind the tables: where each begins, the numbers that the points of a function are given from the tables and the columns,
-// the writes into one column, and D and d of every function.
+// and the writes into one column.
 ghost use mathlib.Core.Path.{_≡_};
-ghost use Prim.Native.Nat.{ℕ, _+_, _-_, _<_, _≤_, min, max};
+ghost use Prim.Native.Nat.{_+_, _-_, _<_, _≤_, min, max};
 ghost use lib.ListN.{length};
 ghost use Rattle.model.specs.Limits.{mostStack, mostFuncs, mostInAll};
-ghost use Rattle.model.specs.Basic.{if_then_else_};
 ghost use Rattle.model.specs.Walk.{called, ensured, present};
 ghost use Rattle.tables.specs.Tables.{item};
 ghost use Rattle.tables.specs.Valid.{Lies};
 ghost use Rattle.prices.specs.Prices.{Small};
 ghost use Rattle.problems.specs.Problems.{Filled};
-ghost use Rattle.columns.specs.Columns.{columnsEnd, entryColumn, chainColumn, Funcs, Changed, OnlyColumns};
-ghost use Rattle.columns.specs.Values.{mostChain, numbered, calleeAt, ensureAt, filledAt, keptAt, cutAt, chainedAt, valueAt, Adds, CallFits};
-ghost use Rattle.columns.specs.Values.{Put, Raised, BoundedBy};
-ghost use Rattle.columns.specs.Displaced.{Ready, Displacing};
+ghost use Rattle.columns.specs.Columns.{columnsEnd, entryColumn, chainColumn, Funcs, Changed};
+ghost use Rattle.columns.specs.Values.{mostChain, numbered, calleeAt, ensureAt, filledAt, keptAt, cutAt, levelAt, chainedAt, valueAt, Adds};
+ghost use Rattle.columns.specs.Values.{Put, Raised};
 use model::Limits;
 use model::Point;
 use prices::Price;
@@ -41,29 +39,26 @@ impl Columns {
     pub const ENTRY: usize = 8512;
 
     pub const CHAIN: usize = 8576;
+
+    pub const LEVEL: usize = 8640;
     // The numbers that the tables and all columns take.
-    pub const END: usize = 8640;
+    pub const END: usize = 8704;
     // How many columns are of the points: the first ones.
     pub const OF_POINTS: usize = 5;
 }
 
-// A number for each point: its fill; what is kept at it; what its callee leaves of the cache; its high; the chain of its callee, where that of the
-// caller and the price of a move are given. specs/Values.antt says each.
+// A number for each point: its fill; what is kept at it; what its callee leaves of the cache; its high; the level of its callee; the chain of its callee,
+// where that of the caller and the price of a move are given. specs/Values.antt says each.
 pub enum Value {
     Fill,
     Kept,
     Cut,
     High,
+    Level,
     Chained(u32, Price),
 }
 
-// The largest D and the smallest d of the functions that a function calls.
-pub struct CalleeBounds {
-    pub most: u32,
-    pub least: u32,
-}
-
-fn larger(a: u32, b: u32) -> u32
+pub fn larger(a: u32, b: u32) -> u32
     ensures { λ r. ⌜ r ≡ max a b ⌝ }
 {
     if a < b {
@@ -79,16 +74,6 @@ pub fn smaller(a: u32, b: u32) -> u32
         return a;
     }
     b
-}
-
-// The smaller one, where there is a second.
-fn least_with(some: bool, a: u32, b: u32) -> u32
-    ensures { λ r. ⌜ r ≡ (if some then min a b else a) ⌝ }
-{
-    if some {
-        return smaller(a, b);
-    }
-    a
 }
 
 // What a has above b.
@@ -137,7 +122,7 @@ fn earlier(p: usize) -> usize
 }
 
 // The function that point p of s calls, FUNCS where it calls none.
-fn callee_at(work: &[u32], s: Span, p: usize) -> usize
+pub fn callee_at(work: &[u32], s: Span, p: usize) -> usize
     requires { ⌜ Lies (now work) s × (p < s .size) ⌝ }
     ensures { λ r. ⌜ r ≡ calleeAt (now (work .entry)) s p ⌝ }
 {
@@ -197,6 +182,18 @@ fn cut_at(work: &[u32], h: Header, s: Span, p: usize) -> u32
     0
 }
 
+// The level of the callee at point p of s.
+fn level_at(work: &[u32], s: Span, p: usize) -> u32
+    requires { ⌜ Lies (now work) s × (p < s .size) × (columnsEnd ≤ length (now work)) ⌝ }
+    ensures { λ r. ⌜ r ≡ levelAt (now (work .entry)) s p ⌝ }
+{
+    let g = callee_at(work, s, p);
+    if g < Limits::FUNCS {
+        return work[Columns::LEVEL + g];
+    }
+    0
+}
+
 // The chain of the callee at point p of s along this call.
 fn chained_at(work: &[u32], s: Span, own: u32, price: Price, p: usize) -> u32
     requires { ⌜ Lies (now work) s × (p < s .size) × (columnsEnd ≤ length (now work)) × (s .frame ≤ mostStack) × (own ≤ mostChain) × Small price ⌝ }
@@ -217,6 +214,7 @@ fn value_at(which: Value, work: &[u32], h: Header, s: Span, p: usize) -> u32
         Value::Kept => kept_at(work, s, p),
         Value::Cut => cut_at(work, h, s, p),
         Value::High => figure_at(work, Columns::HIGH, s, p),
+        Value::Level => level_at(work, s, p),
         Value::Chained(own, price) => chained_at(work, s, own, price, p),
     }
 }
@@ -273,73 +271,5 @@ pub fn raise(work: &mut [u32], s: Span, at: usize, values: &[u32])
             let old = work[at + g];
             work[at + g] = larger(old, v);
         }
-    }
-}
-
-// The largest D and the smallest d of the functions that s calls, from its last point to its first.
-pub fn callee_bounds(work: &[u32], s: Span) -> CalleeBounds
-    requires { ⌜ Lies (now work) s × (columnsEnd ≤ length (now work)) × ((p : ℕ) → p < s .size → CallFits (now work) s p) ⌝ }
-    ensures { λ r. ⌜ BoundedBy (now (work .entry)) s r ⌝ }
-{
-    let mut most: u32 = 0;
-    let mut least: u32 = 0;
-    let mut some = false;
-    let mut p = s.size;
-    while 0 < p {
-        p -= 1;
-        let g = callee_at(work, s, p);
-        if g < Limits::FUNCS {
-            most = larger(work[Columns::LONGEST + g], most);
-            least = least_with(some, work[Columns::SHORTEST + g], least);
-            some = true;
-        }
-    }
-    CalleeBounds { most, least }
-}
-
-// 0 where the test holds, and else n.
-fn unless(test: bool, n: u32) -> u32
-    ensures { λ r. ⌜ (r ≡ (if test then 0 else n)) × (r ≤ n) ⌝ }
-{
-    if test {
-        return 0;
-    }
-    n
-}
-
-// D and d of function f, whose callees have theirs.
-fn displace(
-    work: &mut [u32],
-    h: Header,
-    f: usize,
-    gens: &mut [u64; Limits::POINTS],
-    kills: &mut [u64; Limits::POINTS],
-    sets: &mut [u64; Limits::POINTS],
-)
-    requires { ⌜ Displacing (now work) h (f + 1) × (f < h .funcs) ⌝ }
-    ensures { λ r. ⌜ Displacing (now (work .exit)) h f × OnlyColumns (now (work .entry)) (now (work .exit)) ⌝ }
-{
-    let s = tables::span_at(work, f);
-    let b = callee_bounds(work, s);
-    let free = problems::call_free(work, s, gens, kills, sets);
-    work[Columns::LONGEST + f] = s.frame + b.most;
-    work[Columns::SHORTEST + f] = s.frame + unless(free, b.least);
-}
-
-// D and d of every function, from the last to the first: calls lead to later functions.
-pub fn displacements(
-    work: &mut [u32],
-    h: Header,
-    gens: &mut [u64; Limits::POINTS],
-    kills: &mut [u64; Limits::POINTS],
-    sets: &mut [u64; Limits::POINTS],
-)
-    requires { ⌜ Ready (now work) h ⌝ }
-    ensures { λ r. ⌜ Displacing (now (work .exit)) h 0 × OnlyColumns (now (work .entry)) (now (work .exit)) ⌝ }
-{
-    let mut f = h.funcs;
-    while 0 < f {
-        f -= 1;
-        displace(work, h, f, gens, kills, sets);
     }
 }

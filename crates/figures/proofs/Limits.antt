@@ -7,7 +7,7 @@ use Rattle.model.specs.Basic.{upTo}
 use Rattle.model.specs.Limits.{mostStack, mostFuncs}
 use Rattle.model.specs.Task.{Task, size, count, func, point}
 use Rattle.model.specs.Walk.{carried, arrival, sources, leads, called, isEnsure}
-use Rattle.model.specs.Figures.{dead, need, fillAfter, fill, cutBy, after, highFrom, callPoints, overCalls, entryTo, entry, high, kept, chainTo, chain}
+use Rattle.model.specs.Figures.{dead, need, fillAfter, fill, shortest, cutBy, afterWith, after, highFromWith, highFrom, callPoints, overCalls, entryTo, entryWith, entry, highWith, high, kept, chainTo, chain}
 use Rattle.model.specs.Figures.{keptNext}
 use Rattle.model.specs.Sheet.{costed, pricedSheet}
 use Rattle.model.specs.WellFormed.{Shaped}
@@ -62,12 +62,12 @@ module _ {t : Task} (s : Shaped t) where
   next-low f p = by-largest _ (λ m. m ≤ mostStack) _ (omega arith) (λ q k. kept-low f q)
 
   -- high and E
-  cut-low : (h : ℕ) (o : Option ℕ) → h ≤ t .stack → cutBy t h o ≤ t .stack
+  cut-low : (h : ℕ) (o : Option ℕ) → h ≤ t .stack → cutBy (shortest t) t h o ≤ t .stack
   cut-low h none k = k
   cut-low h (some g) k = omega arith
 
   after-low : (f p h : ℕ) → h ≤ t .stack → after t f p h ≤ t .stack
-  unfolding after
+  unfolding afterWith
   after-low f p h k =
       by-test (λ m. m ≤ t .stack) (isEnsure (func t f) p) (λ i. omega (arith, frame-low s f)) (λ i. cut-low h (called (point (func t f) p)) k)
 
@@ -85,22 +85,22 @@ module _ {t : Task} (s : Shaped t) where
       (λ q l. carried-low f q _ (arrival-low f e n m q k)))
 
   pub high-from-low : (f e p : ℕ) → highFrom t f e p ≤ mostStack
-  unfolding highFrom
+  unfolding highFromWith
   high-from-low f e p =
       pred-low _ (t .stack) mostStack
       (arrival-low f (min (t .stack) (e + func t f .frame)) (size (func t f)) (2 * size (func t f)) p (omega arith)) (s .stack-high)
 
   pub high-low : (f p : ℕ) → high t f p ≤ mostStack
-  unfolding high
+  unfolding highWith
   high-low f p = high-from-low f (entry t f) p
 
-  entry-to : (n f : ℕ) → entryTo t n f ≤ mostStack
+  entry-to : (n f : ℕ) → entryTo (shortest t) t n f ≤ mostStack
   unfolding entryTo
   entry-to zero f = omega arith
-  entry-to (suc n) f = over-low t f (λ h p. highFrom t h (entryTo t n h) p) mostStack (λ h p. high-from-low h (entryTo t n h) p)
+  entry-to (suc n) f = over-low t f (λ h p. highFrom t h (entryTo (shortest t) t n h) p) mostStack (λ h p. high-from-low h (entryTo (shortest t) t n h) p)
 
   pub entry-low : (f : ℕ) → entry t f ≤ mostStack
-  unfolding entry
+  unfolding entryWith
   entry-low f = entry-to f f
 
   -- the cost: three moves, and a chain of at most 63 callers

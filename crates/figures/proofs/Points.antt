@@ -30,7 +30,7 @@ use Rattle.columns.specs.Columns.{columnsEnd, longestColumn, shortestColumn, fi
 use Rattle.columns.specs.Values.{numbered, ensureAt, filledAt, keptAt, cutAt, chainedAt}
 use Rattle.columns.specs.Displaced.{Ready}
 use Rattle.columns.proofs.Values.{kept-low, cut-stack}
-use Rattle.columns.proofs.Displaces.{callee-in}
+use Rattle.columns.proofs.Within.{callee-in}
 use Rattle.figures.specs.declared.Figure.{Figure}
 use Rattle.figures.specs.declared.Figure.the-variants.{High, Dead, Need, Next, Fill}
 use Rattle.figures.specs.Steps.{Figures, WorkingOn, Due}
@@ -162,7 +162,7 @@ module _ {w : List ℕ} {h : Header} {f k : ℕ} {s : Span} (x : WorkingOn w h f
     pub of-high : {start : ℕ} {l l′ : List ℕ} → Filled (λ p v. v ≡ cutAt w h s p) (s .size) c c′ → start ≡ min (h .stack) (item w (entryColumn + f) + s .frame)
         → Filled (λ p v. (t : Task) (g e : ℕ) → CutIn w s start c′ t g e → v ≡ model.highFrom t g e p) (s .size) l l′
         → Figures High (taskOf w h) f (s .size) l l′
-    unfolding model.high
+    unfolding model.highWith
     of-high y i z =
         record {
           filled = filled-as

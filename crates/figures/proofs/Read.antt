@@ -134,7 +134,7 @@ module _ {price : Price} {w : List ℕ} {h : Header} {f : ℕ} {s : Span} (k : F
             (chainColumn + f);
       }
       ≡ funcFigures price (taskOf w h) f
-  unfolding funcFigures model.spill
+  unfolding funcFigures model.spillWith
   func-figures-are x =
       let entry-is = k .entry .each f (omega arith) l in
       let spill-is = x ∙ (λ j. priceOf price (entry-is j + frame-there j - h .stack)) in

@@ -266,7 +266,7 @@ fn figure_with(
     ensures { λ r. ⌜ Figured price (now (work .exit)) h × (taskOf (now (work .exit)) h ≡ taskOf (now (work .entry)) h)
         × Kept columnsEnd (now (work .entry)) (now (work .exit)) ⌝ }
 {
-    columns::displacements(work, h, gens, kills, sets);
+    displace::displacements(work, h, values, gens, kills, sets);
     columns::clear_column(work, Columns::CHAIN);
     columns::clear_column(work, Columns::ENTRY);
     figure_funcs(work, h, price, values, gens, kills, sets, state, out);

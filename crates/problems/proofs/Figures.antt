@@ -13,12 +13,12 @@ use Rattle.model.specs.declared.Point.{Point}
 use Rattle.model.specs.declared.Point.the-variants.{Load, Store, Call, Ensure, Goto, Either, Return}
 use Rattle.model.specs.Basic.{if_then_else_}
 use Rattle.model.specs.Task.{Func, Task, size, point, offsetFits}
-use Rattle.model.specs.Walk.{Walk, Met, Carries, Largest, Smallest, leads, called, ensured, present, touches, isEnsure, never}
-use Rattle.model.specs.Figures.{shortest, cutBy, after, dead, need, callFree, kept, keptNext, highFrom}
+use Rattle.model.specs.Walk.{Walk, Met, Carries, Largest, Smallest, leads, called, ensured, present, touches, isEnsure, returns, never}
+use Rattle.model.specs.Figures.{shortest, cutBy, afterWith, after, dead, need, kept, keptNext, highFrom}
 use Rattle.theory.proofs.Lists.{and-holds, or-holds, smallest-unique, largest-unique}
 use Rattle.theory.proofs.Links.{ensure-inside, lead-inside}
 use Rattle.theory.proofs.Walks.{walk-trans}
-use Rattle.theory.proofs.Figures.{Closed, InFrame, walk-inside, walk-carries, reached-walk, dead-is, need-is, callFree-met, keptNext-is, high-is}
+use Rattle.theory.proofs.Figures.{Closed, InFrame, walk-inside, walk-carries, reached-walk, dead-is, need-is, lowest-met, keptNext-is, high-is}
 use Rattle.bits.specs.Bits.{setBits, bit, Low, Lowest, Top}
 use Rattle.bits.proofs.Laws.{marked, marks-low}
 use Rattle.tables.specs.declared.Span.{Span}
@@ -29,8 +29,8 @@ use Rattle.backward.specs.Backward.{Solved, has}
 use Rattle.forward.specs.Forward.{Carried}
 use Rattle.forward.specs.Forward as forward
 use Rattle.problems.specs.declared.Problem.{Problem}
-use Rattle.problems.specs.declared.Problem.the-variants.{Live, Touched, CallFree, FirstEnsure, Occupied}
-use Rattle.problems.specs.Problems.{gives, takes, Filled, Gives, Takes, Blocks, Answered, KeptIn, CutIn, EachReached}
+use Rattle.problems.specs.declared.Problem.the-variants.{Live, Touched, CallLevels, FirstEnsure, Occupied}
+use Rattle.problems.specs.Problems.{gives, takes, Filled, Gives, Takes, Blocks, Answered, callsOver, lowestLevel, KeptIn, CutIn, EachReached}
 use Rattle.problems.proofs.Laws.{unmarked}
 
 -- one more than the highest bit, where bit j tells of a number j + 1 of the kind P; the lowest bit, where bit j tells of j
@@ -89,7 +89,7 @@ not-not true h = tt
 not-not false h = absurd h
 
 above-after : (t : Task) (x : Point) (h k a j : ℕ) → ((g : ℕ) → called x ≡ some g → a ≡ t .stack - shortest t g)
-    → (j < (if present (ensured x) then max h k else cutBy t h (called x))) ↔ (T (gives Occupied k a x j) ⊎ ((j < h) × T (not (takes Occupied k a x j))))
+    → (j < (if present (ensured x) then max h k else cutBy (shortest t) t h (called x))) ↔ (T (gives Occupied k a x j) ⊎ ((j < h) × T (not (takes Occupied k a x j))))
 above-after t (Load o) h k a j e = passed
 above-after t (Store o) h k a j e = passed
 above-after t (Call g) h k a j e = (
@@ -167,20 +167,12 @@ module _ (w : List ℕ) (s : Span) (fits : Fits w s) where
       (λ j m. omega (arith, m .1, fits .frame, frame-of (m .0) (m .2 .0) (walk-inside x closed-of (m .2 .1) i) (m .2 .2))))
       (need-is x closed-of frame-of p i)
 
-  -- callFree: by bit 0 of point 0
-  pub call-free-read : {column sets : List ℕ} {b : ℕ} → Answered CallFree x column sets → b ≡ bit (item sets 0) 0
-      → eqb b 1 ≡ callFree x
-  call-free-read {sets = sets} {b} a e =
+  -- the lowest level: by the lowest bit of point 0
+  pub level-read : {column sets : List ℕ} {r : ℕ} → Answered CallLevels x column sets → Lowest (item sets 0) setBits r → r ≡ lowestLevel x column
+  unfolding lowestLevel
+  level-read {column} a l =
       let i : 0 < size x = omega (arith, size-of, fits .some) in
-      let met = a .met 0 0 i (lit≤ tt) in
-      let free = callFree-met x closed-of i in
-      same (eqb b 1) (callFree x) (λ t. free .1 (met .0 (sym e ∙ eqb→eq b 1 t))) (λ t. rw (e ∙ met .1 (free .0 t)) tt)
-    where
-      same : (a b : Bool) → (T a → T b) → (T b → T a) → a ≡ b
-      same true true g h = refl
-      same true false g h = absurd (g tt)
-      same false true g h = absurd (h tt)
-      same false false g h = refl
+      smallest-unique (smallest-by-lowest _ l (λ j h. a .met 0 j i h)) (lowest-met x closed-of (callsOver x column) (λ v. returns x) 0 i setBits)
 
   -- keptNext: by the highest bit
   pub next-read : {column sets : List ℕ} → Blocks (s .size) column → Answered FirstEnsure x column sets → (p v : ℕ) → p < s .size
@@ -231,7 +223,7 @@ module _ (w : List ℕ) (s : Span) (fits : Fits w s) where
 
     above : (p h j : ℕ) → p < s .size → (j < after t f p h)
         ↔ (T (gives Occupied (s .frame) (item column p) (y p) j) ⊎ ((j < h) × T (not (takes Occupied (s .frame) (item column p) (y p) j))))
-    unfolding after
+    unfolding afterWith
     above p h j i =
         rw (r .same, point-of p i)
         (above-after t (y p) h (s .frame) (item column p) j (λ c d. r .at-calls p c i (ap called (point-of p i) ∙ d)))

@@ -7,23 +7,24 @@ use mathlib.Core.Option.{some}
 use mathlib.Core.Path.{_≡_}
 use lib.Dec.{T, eqb, ltb}
 use Rattle.model.specs.declared.Point.{Point}
+use Rattle.model.specs.Basic.{lowest}
 use Rattle.model.specs.Limits.{mostStack}
 use Rattle.model.specs.Task.{Func, Task, size, func, point}
-use Rattle.model.specs.Walk.{Met, leads, loaded, stored, called, ensured, isReturn, is, present, isEnsure}
+use Rattle.model.specs.Walk.{Met, leads, loaded, stored, called, ensured, isReturn, is, present, isCall, isEnsure, returns, someWalk}
 use Rattle.model.specs.Figures as figure
 use Rattle.bits.specs.Bits.{setBits, bit, Marks}
 use Rattle.tables.specs.declared.Span.{Span}
 use Rattle.tables.specs.Tables.{item, pointAt, funcIn}
 use Rattle.tables.specs.Valid.{Kept}
 use Rattle.problems.specs.declared.Problem.{Problem}
-use Rattle.problems.specs.declared.Problem.the-variants.{Live, Touched, CallFree, FirstEnsure, Occupied, Unstored}
+use Rattle.problems.specs.declared.Problem.the-variants.{Live, Touched, CallLevels, FirstEnsure, Occupied, Unstored}
 use Rattle.problems.specs.declared.Effect.{Effect}
 
 -- bit j is given, and bit j is taken, at point x of a function with frame k, where the column of the problem has the number a for the point
 abbrev pub gives : Problem → ℕ → ℕ → Point → ℕ → Bool
 gives Live k a x j = is j (loaded x)
 gives Touched k a x j = is j (loaded x) || is j (stored x)
-gives CallFree k a x j = isReturn x
+gives CallLevels k a x j = isReturn x
 gives FirstEnsure k a x j = present (ensured x) && eqb (suc j) a
 gives Occupied k a x j = present (ensured x) && ltb j k
 gives Unstored k a x j = false
@@ -31,7 +32,7 @@ gives Unstored k a x j = false
 abbrev pub takes : Problem → ℕ → ℕ → Point → ℕ → Bool
 takes Live k a x j = is j (stored x)
 takes Touched k a x j = present (ensured x)
-takes CallFree k a x j = present (called x)
+takes CallLevels k a x j = present (called x) && ltb j a
 takes FirstEnsure k a x j = present (ensured x)
 takes Occupied k a x j = present (called x) && not (ltb j a)
 takes Unstored k a x j = is j (stored x)
@@ -71,6 +72,14 @@ pub record Answered (problem : Problem) (x : Func) (column sets : List ℕ) : Ty
       → j < setBits
       → (bit (item sets p) j ≡ 1)
       ↔ Met (leads x) (λ q. takes problem (x .frame) (item column q) (point x q) j) (λ q. gives problem (x .frame) (item column q) (point x q) j) p
+
+-- the lowest level that no call passes on some walk of x from point 0 to a return, where the column has the level of each callee; setBits where no walk
+-- comes to a return
+abbrev pub callsOver : Func → List ℕ → ℕ → ℕ → Bool
+callsOver x column v p = isCall x p && ltb v (item column p)
+
+unfoldable pub lowestLevel : Func → List ℕ → ℕ
+lowestLevel x column = lowest (λ v. someWalk x (callsOver x column v) (returns x) 0) setBits
 
 -- of the scratch that a figure is lent, only the first n entries have changed
 pub record Scratch (n : ℕ) (gens gens′ kills kills′ sets sets′ : List ℕ) : Type 0 where

@@ -14,19 +14,21 @@ ghost use Rattle.tables.specs.Tables.{item, funcIn};
 ghost use Rattle.tables.specs.Valid.{Kept};
 ghost use Rattle.flow.specs.Flow.{Given};
 ghost use Rattle.problems.specs.Problems.{gives, takes, effectWith, HasEffect, Filled, Gives};
-ghost use Rattle.problems.specs.Problems.{Takes, Blocks, Answered, Scratch, KeptIn, CutIn, EachReached};
+ghost use Rattle.problems.specs.Problems.{Takes, Blocks, Answered, lowestLevel, Scratch, KeptIn, CutIn, EachReached};
+use bits::Set;
 use model::Point;
 use tables::Span;
 
 // A problem over sets of 64 bits. specs/Problems.antt says what a point gives and takes. The first four go backward from each point, the others
-// forward from point 0. Two have a column, a number for each point.
+// forward from point 0. Three have a column, a number for each point.
 pub enum Problem {
     // Offsets that a walk loads with no store of them before.
     Live,
     // Offsets that a walk loads or stores before any ensure.
     Touched,
-    // A walk comes to a return with no call before: every bit, or none.
-    CallFree,
+    // Levels that no call passes on some walk to a return: level k is bit k. A return gives every level, a call takes those below the level of its callee,
+    // which the column has. The callees have levels from 1 on, so bit 0 stands for no call.
+    CallLevels,
     // What is kept at the first ensures of walks: k blocks are bit k - 1. The column has what is kept at each ensure.
     FirstEnsure,
     // Occupancy that walks bring: k blocks are the bits below k. The column has what the callee of each call leaves of the cache.
@@ -97,7 +99,7 @@ fn gens_of(problem: Problem, e: Effect, frame: u32, a: u32) -> u64
     match problem {
         Problem::Live => e.loaded,
         Problem::Touched => bits::union_of(e.loaded, e.stored),
-        Problem::CallFree => only_if(e.returned, u64::MAX),
+        Problem::CallLevels => only_if(e.returned, u64::MAX),
         Problem::FirstEnsure => only_if(e.ensured, kept_bit(a)),
         Problem::Occupied => only_if(e.ensured, bits::low_bits(frame)),
         Problem::Unstored => 0,
@@ -112,7 +114,7 @@ fn kills_of(problem: Problem, e: Effect, a: u32) -> u64
     match problem {
         Problem::Live => e.stored,
         Problem::Touched => only_if(e.ensured, u64::MAX),
-        Problem::CallFree => only_if(e.called, u64::MAX),
+        Problem::CallLevels => only_if(e.called, bits::low_bits(a)),
         Problem::FirstEnsure => only_if(e.ensured, u64::MAX),
         Problem::Occupied => only_if(e.called, !bits::low_bits(a)),
         Problem::Unstored => e.stored,
@@ -231,20 +233,22 @@ pub fn need_points(
     highest_each(sets, s.size, need);
 }
 
-// Some walk from the entry of a function to a return makes no call.
-pub fn call_free(
+// The lowest level that no call passes on some walk from the entry of a function to a return, and BITS where no walk comes to a return; levels has the
+// level of the callee of each call.
+pub fn lowest_level(
     work: &[u32],
     s: Span,
+    levels: &[u32],
     gens: &mut [u64],
     kills: &mut [u64],
     sets: &mut [u64],
-) -> bool
-    requires { ⌜ Given (now work) s (now gens) (now kills) × (s .size ≤ length (now sets)) ⌝ }
-    ensures { λ r. ⌜ (r ≡ figure.callFree (funcIn (now (work .entry)) s))
+) -> u32
+    requires { ⌜ Given (now work) s (now gens) (now kills) × Blocks (s .size) (now levels) × (s .size ≤ length (now sets)) ⌝ }
+    ensures { λ r. ⌜ (r ≡ lowestLevel (funcIn (now (work .entry)) s) (now (levels .entry)))
         × Scratch (s .size) (now (gens .entry)) (now (gens .exit)) (now (kills .entry)) (now (kills .exit)) (now (sets .entry)) (now (sets .exit)) ⌝ }
 {
-    solve(Problem::CallFree, work, s, &work[0..0], gens, kills, sets);
-    bits::bit_of(sets[0], 0) == 1
+    solve(Problem::CallLevels, work, s, levels, gens, kills, sets);
+    bits::lowest_of(sets[0], Set::BITS)
 }
 
 // The largest part of the frame that is kept at a first ensure on walks from each point of a function; kept has what is kept at each ensure.

@@ -79,7 +79,7 @@ module _ {price : Price} {w : List ℕ} {h : Header} (k : Figured price w h) (f 
 
   -- the first line of a function
   head-digits : Within (headNumbers price (taskOf w h) f) headDigits
-  unfolding model.spill
+  unfolding model.spillWith
   head-digits =
       let t = taskOf w h in
       let spill = priced (model.spill t f) (omega (arith, entry-low shaped f, frame-low shaped f)) in

@@ -9,8 +9,8 @@ chained-at-requires c κs =
     let own = rw (c .before .which .given .1) at (s .4) in
     (s .0, s .1, s .2, s .3, own .0, own .1)
 
-returns-5 : tie.Need-returns-5
-returns-5 c =
+returns-6 : tie.Need-returns-6
+returns-6 c =
     rw (c .before .before .which .given .1) (c .chained-at .ensures)
 
 pub value-at-spec : {M : Type 1} → statement M
@@ -18,6 +18,7 @@ value-at-spec =
     tie.close
     (tie.spec
     (λ c. search needs) (λ c κs. search needs) (λ c. search needs) (λ c κs. search needs) (λ c. search needs) (λ c κs. search needs)
-    (λ c. search needs) (λ c κs. search needs) (λ c. search needs) chained-at-requires
+    (λ c. search needs) (λ c κs. search needs) (λ c. search needs) (λ c κs. search needs) (λ c. search needs) chained-at-requires
     (λ c. rw (c .before .enum-told .given .1) (c .fill-at .ensures)) (λ c. rw (c .before .enum-told2 .given .1) (c .kept-at .ensures))
-    (λ c. rw (c .before .enum-told3 .given .1) (c .cut-at .ensures)) (λ c. rw (c .before .enum-told4 .given .1) (c .figure-at .ensures)) returns-5)
+    (λ c. rw (c .before .enum-told3 .given .1) (c .cut-at .ensures)) (λ c. rw (c .before .enum-told4 .given .1) (c .figure-at .ensures))
+    (λ c. rw (c .before .enum-told5 .given .1) (c .level-at .ensures)) returns-6)

@@ -10,7 +10,7 @@ figure-funcs-requires c κs =
     let c10 = c .before .before .before .before .before .before .before .before .before .before in
     let chain = c10 .before .before .before .clear-column .ensures in
     let entry = c .before .before .before .before .before .before .before .before .before .clear-column2 .ensures in
-    let pre = c10 .before .before .before .before .before .before .before .before .before .before .before .before .before .pre in
+    let pre = c10 .before .before .before .before .before .before .before .before .before .before .before .before .before .before .pre in
     done-none (pre .1) (c10 .before .before .before .before .before .before .before .displacements .ensures .0) (chain .0) (chain .1) (entry .0) (entry .1) .0
 
 returns : tie.Need-returns
@@ -21,7 +21,7 @@ returns c =
     let chain = c10 .before .before .before .before .before .before .clear-column .ensures in
     let entry = c10 .before .before .clear-column2 .ensures in
     let all = c .before .before .figure-funcs .ensures in
-    let pre = c20 .before .before .before .before .before .before .pre in
+    let pre = c20 .before .before .before .before .before .before .before .pre in
     let d = changed-on (away .1) (done-none (pre .1) (away .0) (chain .0) (chain .1) (entry .0) (entry .1) .1) in
     all-figured _ (pre .0) (changed-on d (all .1)) (all .0)
 

@@ -1,8 +1,13 @@
 -- 16, 17 and 18 refuse, or the figures are worked out; then 19 refuses, or the events are run.
+use Prim.Native.Nat.{_-_}
 use mathlib.Core.Path.{_∙_}
 use native.Mathlib.Omega.{arith}
 use borrow.Author.Needs.{needs}
+use Rattle.model.specs.Limits.{workLength}
 use Rattle.tables.proofs.Valid.{kept-later}
+use Rattle.figures.specs.Columns.{columnsEnd}
+use Rattle.bounds.specs.Bounds.{boundsEnd}
+use Rattle.run.specs.Events.{framesEnd}
 use Rattle.serving.proofs.Laws.{cleared-same}
 use Rattle.running.proofs.Events.{unfit, too-little, all-run, some-func, fits}
 use Rattle.running.proofs.run_task.Statement.{statement}
@@ -18,7 +23,7 @@ returns-2 : tie.Need-returns-2
 returns-2 c =
     let f = c .before .before .before .before .before .before .figure-task .ensures in
     let s = cleared-same (c .before .before .before .before .before .before .before .before .before .before .before .before .before .before .before
-    .before .pre .1) (kept-later 7744 (f .2)) in
+    .before .pre .1) (kept-later (workLength - columnsEnd) (f .2)) in
     too-little _ _ _ _ _ (c .before .before .before .before .before .before .before .before .before .before .buffer-row .ensures)
     (c .before .before .before .before .before .before .before .before .enum-told .given .1) (f .1) (c .before .before .func-figures .ensures) s
     (omega (arith, c .before .if1 .taken)) (c .refused2 .ensures)
@@ -41,9 +46,9 @@ returns-3 c =
     let b = c10 .before .before .before .before .before .bound-task .ensures in
     let r = c .before .before .before .before .before .before .before .before .run-events .ensures in
     let p = c30 .before .before .pre .1 in
-    let s = cleared-same p (kept-later 7744 (f .2)) in
-    let u = cleared-same (omega (arith, p, f .2 .size)) (kept-later 5632 (b .2)) in
-    let d = cleared-same (omega (arith, p, f .2 .size, b .2 .size)) (kept-later 5504 (r .kept)) in
+    let s = cleared-same p (kept-later (workLength - columnsEnd) (f .2)) in
+    let u = cleared-same (omega (arith, p, f .2 .size)) (kept-later (workLength - boundsEnd) (b .2)) in
+    let d = cleared-same (omega (arith, p, f .2 .size, b .2 .size)) (kept-later (workLength - framesEnd) (r .kept)) in
     all-run _ _ _ _ _ (c20 .before .before .before .before .before .before .buffer-row .ensures)
     (c20 .before .before .before .before .enum-told .given .1) (f .1)
     (c10 .before .before .before .before .before .before .before .before .func-figures .ensures) (u ∙ s) (b .1)

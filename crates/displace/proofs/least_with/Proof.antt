@@ -1,7 +1,7 @@
 -- By the branches.
 use borrow.Author.Needs.{needs}
-use Rattle.columns.proofs.least_with.Statement.{statement}
-use Rattle.columns.proofs.least_with.Tie as tie
+use Rattle.displace.proofs.least_with.Statement.{statement}
+use Rattle.displace.proofs.least_with.Tie as tie
 
 pub least-with-spec : {M : Type 1} → statement M
 least-with-spec =

@@ -2,9 +2,9 @@
 use Prim.Native.Nat.{_-_, _≤_}
 use native.Mathlib.Omega.{arith}
 use borrow.Author.Needs.{needs}
-use Rattle.columns.proofs.Callees.{Seen, seen-none, seen-call, seen-other, seen-all}
-use Rattle.columns.proofs.callee_bounds.Statement.{statement}
-use Rattle.columns.proofs.callee_bounds.Tie as tie
+use Rattle.displace.proofs.Callees.{Seen, seen-none, seen-call, seen-other, seen-all}
+use Rattle.displace.proofs.callee_bounds.Statement.{statement}
+use Rattle.displace.proofs.callee_bounds.Tie as tie
 
 abbrev Inv-loop : tie.InvT-loop
 Inv-loop work s most₀ least₀ some₀ p₀ most least some p =

@@ -16,16 +16,13 @@ use Rattle.model.specs.Figures.{theCalled, callees}
 use Rattle.tables.specs.declared.Span.{Span}
 use Rattle.tables.specs.Tables.{item, pointAt, pointsOf}
 use Rattle.tables.proofs.Laws.{length-points, point-there}
 use Rattle.columns.specs.Columns.{longestColumn, shortestColumn}
-use Rattle.columns.specs.Values.{numbered, calleeAt, CallFits, BoundedBy}
+use Rattle.columns.specs.Values.{numbered, calleeAt, CallFits}
+use Rattle.displace.specs.Bounds.{nonempty, BoundedBy}
 
 -- the functions that the points of s from p on call
 unfoldable pub calledFrom : List ℕ → Span → ℕ → List ℕ
 calledFrom w s p = joined (λ x. theCalled (called x)) (drop p (pointsOf w (s .base) (s .size)))
-
-unfoldable pub nonempty : List ℕ → Bool
-nonempty [] = false
-nonempty (g ∷ l) = true
 
 -- most and least are the largest D and the smallest d of those, and some says that there are any
 pub record Seen (w : List ℕ) (s : Span) (p most least : ℕ) (some : Bool) : Type 0 where
@@ -87,6 +84,6 @@ module _ (w : List ℕ) (s : Span) where
         by-option none f e l = refl
         by-option (some n) f e l = absurd (omega (arith, f n refl))
 
-  pub seen-all : {p most least : ℕ} {any : Bool} → p ≡ 0 → Seen w s p most least any → BoundedBy w s record { most = most; least = least }
+  pub seen-all : {p most least : ℕ} {any : Bool} → p ≡ 0 → Seen w s p most least any → BoundedBy w s record { most = most; least = least; some = any }
   unfolding calledFrom callees
-  seen-all e j = let k = rw e at j in record { most = k .largest-is; least = k .smallest-is }
+  seen-all e j = let k = rw e at j in record { most = k .largest-is; least = k .smallest-is; some = k .some-is }

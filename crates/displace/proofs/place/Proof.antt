@@ -1,0 +1,32 @@
+-- The level is counted before the functions behind f are lifted: both are about d, which neither changes.
+use Prim.Native.Nat.{_+_}
+use native.Mathlib.Omega.{arith}
+use borrow.Author.Needs.{needs}
+use Rattle.displace.proofs.Levels.{placed}
+use Rattle.displace.proofs.place.Statement.{statement}
+use Rattle.displace.proofs.place.Tie as tie
+
+slice-read-d : tie.Need-slice-read-d
+slice-read-d c =
+    let r = c .before .before .pre .0 in
+    omega (arith, r .order, r .few, r .long)
+
+slice-write-work : tie.Need-slice-write-work
+slice-write-work c =
+    let r = c .before .before .before .before .before .before .before .before .pre .0 in
+    omega (arith, r .order, r .few, r .long, c .before .before .lift-levels .ensures .changed .size)
+
+returns : tie.Need-returns
+returns c =
+    let b = c .before .before .before .before .before .before .before .before in
+    let r = b .pre .0 in
+    let l = c .before .before .lift-levels .ensures in
+    placed (b .args .f) (b .args .n) (omega (arith, r .order, r .few)) (omega (arith, r .order, r .few, r .long, l .changed .size))
+    (c .before .before .before .before .level-among .ensures) l
+
+pub place-spec : {M : Type 1} → statement M
+place-spec =
+    tie.close
+    (tie.spec
+    (λ c. omega (arith, c .before .pre .0 .order, c .before .pre .0 .few)) (λ c. search needs) slice-read-d (λ c. search needs) (λ c κs. search needs) (λ c. search needs) (λ c κs. search needs) (λ c. search needs)
+    (λ c. search needs) slice-write-work (λ c. search needs) returns)
