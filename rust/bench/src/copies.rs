@@ -26,7 +26,7 @@ struct Room {
 /// A service that writes bytes about a text.
 type Writer = fn(&[u8], &mut Room) -> u64;
 
-/// The services of one copy. Each gives a number in which all copies have to agree: the answer, the bytes written, what is moved.
+/// The services of one copy. Each gives a number in which all copies of an archive have to agree: the answer, the bytes written, what is moved.
 struct Services {
     check: fn(&[u8]) -> u64,
     report: Writer,
@@ -178,10 +178,24 @@ fn tables() -> Vec<(&'static str, Rounds, Vec<Row>)> {
     tables.collect()
 }
 
+/// Whether both archives give the same number. The rules of a later archive may ask for another one.
+fn same_answer(row: &Row, room: &RefCell<Room>) -> bool {
+    let answers = COPIES.map(|copy| row.1(&copy, &mut room.borrow_mut()));
+    let (old, new) = answers.split_at(COPIES.len() / 2);
+    for copies in [old, new] {
+        assert!(
+            copies.iter().all(|answer| *answer == copies[0]),
+            "{}",
+            row.0
+        );
+    }
+    old[0] == new[0]
+}
+
 /// Seconds of the old and of the new archive. All copies are lent the same room.
 fn old_and_new(rounds: Rounds, row: &Row, room: &RefCell<Room>) -> (f64, f64) {
     let mut calls = COPIES.map(|copy| move || row.1(&copy, &mut room.borrow_mut()));
-    let times = rounds.times(calls.each_mut().map(|call| call as Call));
+    let times = rounds.timed(calls.each_mut().map(|call| call as Call));
     let best = |times: &[f64]| times.iter().copied().fold(f64::MAX, f64::min);
     (best(&times[..4]), best(&times[4..]))
 }
@@ -215,11 +229,15 @@ pub fn compare() -> ExitCode {
         println!("| {service} | Old, µs | New, µs | New / old |");
         println!("|---|---|---|---|");
         for row in &rows {
+            let other = match same_answer(row, &room) {
+                true => "",
+                false => " (another answer)",
+            };
             let (old, new) = twice_if_slower(rounds, row, &room);
             slower += u32::from(new / old > SLOWEST);
             let ratio = new / old;
             println!(
-                "| {} | {} | {} | {ratio:.2} |",
+                "| {}{other} | {} | {} | {ratio:.2} |",
                 row.0,
                 micros(old),
                 micros(new)

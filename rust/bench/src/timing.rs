@@ -3,7 +3,7 @@
 use std::hint::black_box;
 use std::time::{Duration, Instant};
 
-/// A call that is timed. It gives a number, in which all calls of a row have to agree.
+/// A call that is timed. It gives a number, in which the calls of a row have to agree.
 pub type Call<'a> = &'a mut dyn FnMut() -> u64;
 
 /// How calls are timed.
@@ -18,10 +18,15 @@ pub struct Rounds {
 }
 
 impl Rounds {
-    /// Seconds for one call of each, the smallest over the rounds.
+    /// Seconds for one call of each, the smallest over the rounds. All have to give the same number.
     pub fn times<const N: usize>(self, mut calls: [Call; N]) -> [f64; N] {
         let answers = calls.each_mut().map(|call| call());
         assert_eq!(answers, [answers[0]; N]);
+        self.timed(calls)
+    }
+
+    /// The same of calls whose numbers may differ.
+    pub fn timed<const N: usize>(self, mut calls: [Call; N]) -> [f64; N] {
         let mut best = [f64::MAX; N];
         for _ in 0..self.count {
             for (best, call) in best.iter_mut().zip(&mut calls) {

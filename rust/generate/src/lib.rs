@@ -11,6 +11,7 @@ mod near;
 mod prices;
 mod rng;
 mod valid;
+mod wrappers;
 
 use std::fmt;
 
@@ -25,6 +26,8 @@ use model::Task;
 pub enum Kind {
     /// It passes all checks.
     Valid,
+    /// It passes all checks, and its functions make several calls.
+    Wrappers,
     /// A valid task with one change of its structure.
     Near,
     /// The text of a valid task with damage of its bytes or lines.
@@ -53,6 +56,8 @@ impl fmt::Display for Case {
 /// A valid task with what a run of it is lent.
 #[derive(Clone, Debug)]
 pub struct RunCase {
+    /// What the program `generate` calls such a case.
+    pub name: &'static str,
     /// The seed that makes this case.
     pub seed: u64,
     /// Which of the lists of this seed it is, from 0.
@@ -66,18 +71,29 @@ pub struct RunCase {
 impl fmt::Display for RunCase {
     fn fmt(&self, out: &mut fmt::Formatter) -> fmt::Result {
         let events = self.lent.events.len() / 2;
-        let RunCase { seed, list, .. } = self;
-        write!(out, "run seed {seed} list {list} with {events} events")
+        let RunCase {
+            name, seed, list, ..
+        } = self;
+        write!(out, "{name} seed {seed} list {list} with {events} events")
     }
 }
 
 /// A text that passes all checks.
 pub fn valid(seed: u64) -> Case {
+    accepted(Kind::Valid, seed, valid::task)
+}
+
+/// A text that passes all checks. Its functions make several calls, on walks that differ in what they call.
+pub fn wrappers(seed: u64) -> Case {
+    accepted(Kind::Wrappers, seed, wrappers::task)
+}
+
+fn accepted(kind: Kind, seed: u64, task: fn(&mut Rng) -> Task) -> Case {
     Case {
         seed,
-        kind: Kind::Valid,
+        kind,
         changes: Vec::new(),
-        text: valid::task(&mut Rng::new(seed)).text(),
+        text: task(&mut Rng::new(seed)).text(),
     }
 }
 
@@ -117,6 +133,7 @@ pub fn unfit_run(seed: u64) -> RunCase {
     let mut lent = events::lent(&mut rng, &task);
     events::unfit(&mut rng, &task, &mut lent);
     RunCase {
+        name: "unfit",
         seed,
         list: 0,
         text: task.text(),
@@ -126,10 +143,25 @@ pub fn unfit_run(seed: u64) -> RunCase {
 
 /// A valid task with `count` event lists, some of which have bad events, and lengths that fit each.
 pub fn runs(seed: u64, count: usize) -> Vec<RunCase> {
+    runs_of("run", seed, count, valid::task)
+}
+
+/// The same with a task whose functions make several calls.
+pub fn wrapper_runs(seed: u64, count: usize) -> Vec<RunCase> {
+    runs_of("wrapper-run", seed, count, wrappers::task)
+}
+
+fn runs_of(
+    name: &'static str,
+    seed: u64,
+    count: usize,
+    task: fn(&mut Rng) -> Task,
+) -> Vec<RunCase> {
     let mut rng = Rng::new(seed);
-    let task = valid::task(&mut rng);
+    let task = task(&mut rng);
     let text = task.text();
     let case = |list| RunCase {
+        name,
         seed,
         list,
         text: text.clone(),
@@ -141,6 +173,8 @@ pub fn runs(seed: u64, count: usize) -> Vec<RunCase> {
 /// A valid task of few points.
 #[derive(Clone, Debug)]
 pub struct Small {
+    /// What the program `generate` calls such a task.
+    pub name: &'static str,
     /// The seed that makes this task.
     pub seed: u64,
     /// The text.
@@ -150,14 +184,23 @@ pub struct Small {
 
 impl fmt::Display for Small {
     fn fmt(&self, out: &mut fmt::Formatter) -> fmt::Result {
-        write!(out, "small seed {}", self.seed)
+        write!(out, "{} seed {}", self.name, self.seed)
     }
 }
 
 /// A valid task of at most `most` points.
 pub fn small(seed: u64, most: usize) -> Small {
-    let task = valid::small(&mut Rng::new(seed), most);
+    small_of("small", seed, valid::small(&mut Rng::new(seed), most))
+}
+
+/// A valid task of few points whose function 1 makes one or two calls.
+pub fn small_wrapper(seed: u64) -> Small {
+    small_of("small-wrapper", seed, wrappers::small(&mut Rng::new(seed)))
+}
+
+fn small_of(name: &'static str, seed: u64, task: Task) -> Small {
     Small {
+        name,
         seed,
         text: task.text(),
         task,

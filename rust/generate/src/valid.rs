@@ -74,7 +74,7 @@ fn frame(rng: &mut Rng, cap: usize) -> usize {
 }
 
 /// The callees of each function. Each function but the first has a caller before it.
-fn calls(rng: &mut Rng, count: usize) -> Vec<Vec<usize>> {
+pub fn calls(rng: &mut Rng, count: usize) -> Vec<Vec<usize>> {
     let mut calls = vec![Vec::new(); count];
     for callee in 1..count {
         let caller = if rng.chance(1, 2) {

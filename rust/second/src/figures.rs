@@ -52,15 +52,31 @@ pub struct Figures {
     pub points: Vec<PointFigures>,
 }
 
+/// The rule for the smallest displacement of a function that has calls.
+#[derive(Clone, Copy, Debug, PartialEq, Eq)]
+pub enum Displacement {
+    /// The frame where some walk to a return makes no call, else the frame and the smallest of all
+    /// calls.
+    Smallest,
+    /// The frame and, of all walks to a return, the smallest of the largest call of each. Where no
+    /// return can be reached, as the other rule says.
+    Walks,
+}
+
 /// Works out all figures at a price. The task must have passed the checks.
 pub fn figures(task: &Task, price: Price) -> Figures {
+    figures_by(Displacement::Walks, task, price)
+}
+
+/// Works out all figures at a price, with the smallest displacements by a rule.
+pub fn figures_by(rule: Displacement, task: &Task, price: Price) -> Figures {
     let mut figures = Figures {
         funcs: vec![FuncFigures::default(); task.funcs.len()],
         points: vec![PointFigures::default(); task.points.len()],
     };
     // Calls go to later functions: callees first for displacement, callers first for occupancy.
     for number in (0..task.funcs.len()).rev() {
-        displacement(task, number, &mut figures.funcs);
+        displacement(rule, task, number, &mut figures.funcs);
     }
     for number in 0..task.funcs.len() {
         fills(task, number, &mut figures);
@@ -79,16 +95,30 @@ fn callees<'a>(points: &'a [Point]) -> impl Iterator<Item = usize> + 'a {
     })
 }
 
-fn displacement(task: &Task, number: usize, funcs: &mut [FuncFigures]) {
+fn displacement(rule: Displacement, task: &Task, number: usize, funcs: &mut [FuncFigures]) {
     let func = &task.funcs[number];
     let points = task.points_of(func);
     let longest = callees(points).map(|callee| funcs[callee].longest).max();
-    let shortest = callees(points).map(|callee| funcs[callee].shortest).min();
     funcs[number].longest = func.frame + longest.unwrap_or(0);
-    funcs[number].shortest = match shortest {
-        Some(below) if !walks::returns_without_call(points) => func.frame + below,
-        _ => func.frame,
+    let on_walks = match rule {
+        Displacement::Smallest => walks::returns_without(points, |_| true).then_some(0),
+        Displacement::Walks => least_on_walks(points, funcs),
     };
+    let smallest = || callees(points).map(|callee| funcs[callee].shortest).min();
+    funcs[number].shortest = func.frame + on_walks.or_else(smallest).unwrap_or(0);
+}
+
+/// The smallest, over walks to a return, of the largest displacement called on the walk: the first
+/// bound such that a return is reached past no call above it. None where no return can be reached.
+fn least_on_walks(points: &[Point], funcs: &[FuncFigures]) -> Option<u32> {
+    let called = callees(points).map(|callee| funcs[callee].shortest);
+    let mut bounds: Vec<u32> = called.chain([0]).collect();
+    bounds.sort_unstable();
+    bounds.dedup();
+    bounds.into_iter().find(|&bound| {
+        let above = |callee: usize| funcs[callee].shortest > bound;
+        walks::returns_without(points, above)
+    })
 }
 
 /// Sets the fill of each ensure of a function, in blocks.

@@ -3,7 +3,7 @@
 use crate::figures::{figures, Figures};
 use crate::machine::Machine;
 use crate::price::Price;
-use crate::refusal::{code_and_place, Row, Verdict};
+use crate::refusal::{code_and_place, Refusal, Row, Verdict};
 use crate::text::{Point, Task};
 
 /// The most numbers of an event list.
@@ -48,21 +48,38 @@ pub fn run(
     cache: &mut [u32],
     memory: &mut [u32],
 ) -> RunResult {
-    let admitted = crate::admit_at(text, start, each, work_len).and_then(|(task, price)| {
-        let figures = figures(&task, price);
-        lengths(&task, &figures, events, answers, cache, memory)?;
-        Ok((task, price, figures))
-    });
-    match admitted {
-        Ok((task, price, figures)) => {
-            Run::new(&task, &figures, cache, memory).all(price, events, answers)
+    match crate::admit_at(text, start, each, work_len) {
+        Ok((task, price)) => {
+            let figures = figures(&task, price);
+            run_with(&figures, &task, price, events, answers, cache, memory)
         }
-        Err(refusal) => RunResult {
-            ending: Err(refusal),
-            done: 0,
-            moved: 0,
-            allowed: 0,
-        },
+        Err(refusal) => refused(refusal),
+    }
+}
+
+/// Runs a task that has passed the checks, with the figures of it at this price by any rule.
+pub fn run_with(
+    figures: &Figures,
+    task: &Task,
+    price: Price,
+    events: &[u32],
+    answers: &mut [u32],
+    cache: &mut [u32],
+    memory: &mut [u32],
+) -> RunResult {
+    match lengths(task, figures, events, answers, cache, memory) {
+        Ok(()) => Run::new(task, figures, cache, memory).all(price, events, answers),
+        Err(refusal) => refused(refusal),
+    }
+}
+
+/// The result where no event is done.
+fn refused(refusal: Refusal) -> RunResult {
+    RunResult {
+        ending: Err(refusal),
+        done: 0,
+        moved: 0,
+        allowed: 0,
     }
 }
 

@@ -143,15 +143,15 @@ pub fn check(task: &Task) -> Verdict {
     }
 }
 
-/// Whether point 0 leads to a return without passing a call.
-pub fn returns_without_call(points: &[Point]) -> bool {
+/// Whether point 0 leads to a return without passing a call of a function that is `barred`.
+pub fn returns_without(points: &[Point], barred: impl Fn(usize) -> bool) -> bool {
     let mut reached = PointSet::default();
     let mut pending = vec![0];
     while let Some(index) = pending.pop() {
         if reached.insert(index) {
             match points[index] {
                 Point::Return => return true,
-                Point::Call(_) => {}
+                Point::Call(callee) if barred(callee as usize) => {}
                 point => each_lead(index, point, |next| pending.push(next)),
             }
         }

@@ -2,12 +2,14 @@
 //! the rules name may change.
 
 mod guarded;
+mod rules;
 mod services;
 mod sheets;
 mod texts;
 mod written;
 
 pub use guarded::{is_noise_from, noise, Guarded, Noise};
+pub use rules::{figures_of, report_by, run_by};
 pub use services::{check, run, run_at, verdict, Lent, Ran};
 pub use sheets::{rows, whole_report};
 pub use texts::{called, deep, prices, steps, text, TWO};

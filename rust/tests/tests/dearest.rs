@@ -8,7 +8,7 @@ use std::fmt::Display;
 use generate::Price;
 use second::WORK_MIN;
 use tests::{called, dearest_points_at, deep, prices, report_at, rows, text, whole_report, Wanted};
-use vectors::{read, tasks};
+use vectors::{expected, read, tasks};
 
 /// How many texts of each kind are listed, and how many lists are held against the report.
 const VALID: u64 = 100_000;
@@ -79,7 +79,7 @@ fn assert_list(text: &[u8], price: Price, output: usize, wanted: &[u8], case: &i
 fn vectors_dearest() {
     for path in tasks("report") {
         let text = read(&path);
-        let wanted = list_of(&read(&path.with_extension("report")));
+        let wanted = list_of(&expected(&path, "report"));
         for output in wanted.len() - 2..wanted.len() + 3 {
             assert_list(&text, Price::BLOCKS, output, &wanted, &path.display());
         }

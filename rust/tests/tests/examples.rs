@@ -1,11 +1,11 @@
 //! The examples that settle the rules, and one task for each known wrong turn.
 
 use generate::Price;
-use second::figures::{figures, PointFigures};
+use second::figures::{figures, Displacement, PointFigures};
 use second::{admit, machine, plain, Row, RunResult, WORK_MIN};
 use tests::{
-    dearest_points_at, report, report_at, run, run_at, steps, text, verdict, Lent, Ran, Written,
-    TWO,
+    dearest_points_at, figures_of, report, report_at, report_by, run, run_at, run_by, steps, text,
+    verdict, Lent, Ran, Written, TWO,
 };
 
 const TWO_REPORT: &str = "(report
@@ -297,12 +297,23 @@ fn shipped(name: &str) -> (String, String) {
 
 #[test]
 fn shipped_sheets() {
-    for name in ["sample", "press", "loop", "chain", "forever"] {
+    for name in ["sample", "press", "loop", "chain", "forever", "wrapper"] {
         let (task, sheet) = shipped(name);
         let reported = report(task.as_bytes(), sheet.len(), WORK_MIN);
         assert_eq!(reported.result.verdict, Ok(()), "{name}");
         assert_eq!(reported.output, sheet.as_bytes(), "{name}");
     }
+}
+
+/// The second sheet of the wrapper, by the smallest of all calls.
+#[test]
+fn shipped_sheet_before() {
+    let (task, before) = (
+        shipped_file("wrapper", "task"),
+        shipped_file("wrapper", "before"),
+    );
+    let printed = report_by(Displacement::Smallest, task.as_bytes(), Price::BLOCKS);
+    assert_eq!(printed, before);
 }
 
 #[test]
@@ -333,4 +344,44 @@ fn press_charges_the_callers() {
     assert_eq!((undisturbed.moved, preempted.moved), (2, 25));
     let chained = figures.iter().filter(|point| point.chain > 0).count();
     assert_eq!(chained, 18);
+}
+
+/// What examples/README.md says of the wrapper: its two sheets.
+#[test]
+fn wrapper_costs_less_by_whole_walks() {
+    let (task, _) = shipped("wrapper");
+    let figures = [Displacement::Smallest, Displacement::Walks]
+        .map(|rule| figures_of(rule, task.as_bytes(), Price::BLOCKS));
+    let [before, since] = figures.each_ref().map(|of| &of.points);
+    let fallen = before.iter().zip(since).filter(|(a, b)| a.cost > b.cost);
+    assert_eq!((fallen.count(), since.len()), (20, 43));
+    // Functions 0 to 5 have 8, 9, 7, 8, 3 and 3 points.
+    let dearest = 8 + 9 + 7 + 8 + 3 + 3 + 1;
+    let most = since.iter().map(|at| at.cost).max();
+    assert_eq!(most, Some(since[dearest].cost));
+    assert_eq!((before[dearest].cost, since[dearest].cost), (31, 30));
+    let spills = figures.each_ref().map(|of| of.funcs[6].spill);
+    assert_eq!(spills, [1, 0]);
+}
+
+/// What it says of a run: the preemption costs what the sheet says, and the run moves all that is allowed.
+#[test]
+fn wrapper_moves_what_is_allowed() {
+    let (task, _) = shipped("wrapper");
+    // To point 1 of function 6 through the branch of function 3 that calls function 4; from there to the point behind the ensure of function 0.
+    let (there, back) = (steps(31, 0), steps(11, 0));
+    let undisturbed = run_like_plain(&task, 16, 18, &[&there[..], &back].concat());
+    assert_eq!((undisturbed.moved, undisturbed.allowed), (4, 4));
+    let events = [&there[..], &[1, 5], &back].concat();
+    let preempted = run_like_plain(&task, 16, 18, &events);
+    assert_eq!((preempted.moved, preempted.allowed), (34, 34));
+    let lent = Lent::noisy(43, 16, 18);
+    let by_smallest = run_by(
+        Displacement::Smallest,
+        task.as_bytes(),
+        Price::BLOCKS,
+        &events,
+        &lent,
+    );
+    assert_eq!(by_smallest.result, all_done(43, 34, 36));
 }

@@ -5,6 +5,7 @@ use tests::{check, verdict};
 
 /// How many texts of each kind are compared.
 const VALID: u64 = 40_000;
+const WRAPPERS: u64 = 10_000;
 const NEAR: u64 = 60_000;
 const DAMAGED: u64 = 100_000;
 const BYTES: u64 = 20_000;
@@ -39,6 +40,12 @@ fn assert_often(name: &str, met: Met, codes: &[usize], rarest: u64) {
 fn generated_valid() {
     let met = met_by((0..VALID).map(generate::valid));
     assert_eq!(met[0], VALID);
+}
+
+#[test]
+fn generated_wrappers() {
+    let met = met_by((0..WRAPPERS).map(|seed| generate::wrappers(seed + 15_000_000)));
+    assert_eq!(met[0], WRAPPERS);
 }
 
 #[test]

@@ -6,6 +6,7 @@ use tests::{report, report_at, rows, verdict, whole_report, Wanted};
 
 /// How many texts of each kind are reported on.
 const VALID: u64 = 50_000;
+const WRAPPERS: u64 = 30_000;
 const DAMAGED: u64 = 50_000;
 const PRICED: u64 = 8_000;
 const COMPARED: u64 = 2_000;
@@ -15,6 +16,20 @@ fn reports_of_accepted_texts() {
     for seed in 0..VALID {
         let case = generate::valid(seed + 4_000_000);
         Wanted::report(&case.text, Price::BLOCKS).write_around(&case, seed);
+    }
+}
+
+/// Every third at a price.
+#[test]
+fn reports_of_wrappers() {
+    for seed in 0..WRAPPERS {
+        let case = generate::wrappers(seed + 16_000_000);
+        let price = match seed % 3 {
+            0 => generate::price(seed),
+            _ => Price::BLOCKS,
+        };
+        let named = format!("{case} {price:?}");
+        Wanted::report(&case.text, price).write_around(&named, seed);
     }
 }
 

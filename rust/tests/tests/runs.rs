@@ -4,8 +4,9 @@ use std::collections::BTreeMap;
 use std::fmt::Display;
 
 use generate::{Price, RunCase};
+use second::figures::Displacement;
 use second::{code_and_place, plain, RunResult, WORK_MIN};
-use tests::{run, run_at, Lent, Ran};
+use tests::{run, run_at, run_by, Lent, Ran};
 
 /// The tasks of the random lists, those of lists at any price, and how many lists each has.
 const TASKS: u64 = 20_000;
@@ -16,6 +17,12 @@ const LISTS: usize = 10;
 const SMALL: u64 = 400;
 const POINTS: usize = 6;
 const EVENTS: usize = 7;
+
+/// The wrappers of the random lists, the small ones whose lists are all tried, and the most events of such a list. So many come behind the call of
+/// the wrapper, with a preemption there.
+const WRAPPERS: u64 = 2_000;
+const SMALL_WRAPPERS: u64 = 16;
+const WRAPPER_EVENTS: usize = 12;
 
 fn lent(case: &generate::Lent) -> Lent {
     Lent {
@@ -179,6 +186,63 @@ fn every_list_of_small_tasks_at_prices() {
         });
     }
     assert!(tight > 0);
+}
+
+/// How many runs are allowed less than by the smallest of all calls, and how many of them move all of it.
+#[derive(Debug, Default)]
+struct Less {
+    allowed: u64,
+    moved: u64,
+}
+
+impl Less {
+    /// Runs an event list, and requires that nothing but allowed differs from the run by the smallest of all calls, and that it is no more.
+    fn count(&mut self, case: &impl Display, text: &[u8], price: Price, buffers: &generate::Lent) {
+        let got = run_like_plain(case, text, price, buffers, WORK_MIN);
+        let lent = lent(buffers);
+        let before = run_by(Displacement::Smallest, text, price, &buffers.events, &lent).result;
+        let allowed = got.allowed;
+        assert_eq!(got, RunResult { allowed, ..before }, "{case}");
+        assert!(allowed <= before.allowed, "{case}");
+        let less = allowed < before.allowed;
+        self.allowed += u64::from(less);
+        self.moved += u64::from(less && got.moved == allowed);
+    }
+}
+
+/// Every other list at a price.
+#[test]
+fn runs_of_wrappers() {
+    let mut less = Less::default();
+    for seed in 0..WRAPPERS {
+        for (list, case) in (0..).zip(generate::wrapper_runs(seed + 4_000_000, LISTS)) {
+            let price = match list % 2 {
+                0 => Price::BLOCKS,
+                _ => generate::price(seed * LISTS as u64 + list),
+            };
+            let named = format!("{case} {price:?}");
+            less.count(&named, &case.text, price, &case.lent);
+        }
+    }
+    println!(
+        "of {} runs of wrappers: {less:?}",
+        WRAPPERS as usize * LISTS
+    );
+    assert!(less.allowed > WRAPPERS / 10 && less.moved > 0, "{less:?}");
+}
+
+/// Every event list of up to `WRAPPER_EVENTS` events on small wrappers.
+#[test]
+fn every_list_of_small_wrappers() {
+    let mut less = Less::default();
+    for seed in 0..SMALL_WRAPPERS {
+        let small = generate::small_wrapper(seed);
+        small.every_list(WRAPPER_EVENTS, |events| {
+            less.count(&small, &small.text, Price::BLOCKS, &small.lent(events));
+        });
+    }
+    println!("of all lists of up to {WRAPPER_EVENTS} events on {SMALL_WRAPPERS} small wrappers: {less:?}");
+    assert!(less.allowed > 0 && less.moved > 0, "{less:?}");
 }
 
 /// Prints how tight the sheet is: for each task, the largest part of what is allowed that a list with a preemption moves.

@@ -1,11 +1,14 @@
-//! Every case of the vectors folder, and those of report and run at other prices too.
+//! Every case of the vectors folder, and those of report and run at other prices too. Which results request 4 amends.
 
-use std::path::PathBuf;
+use std::path::Path;
 
 use generate::Price;
+use second::figures::Displacement;
 use second::WORK_MIN;
-use tests::{is_noise_from, prices, report, report_at, run, run_at, verdict, Lent};
-use vectors::{read, read_text, tasks};
+use tests::{
+    is_noise_from, prices, report, report_at, report_by, run, run_at, run_by, verdict, Lent,
+};
+use vectors::{amended, expected, original, read, read_text, tasks};
 
 /// The numbers on the line that begins with `name`.
 fn numbers(text: &str, name: &str) -> Vec<u64> {
@@ -61,7 +64,7 @@ fn vectors_report() {
     assert_eq!(tasks.len(), 75);
     for path in tasks {
         let text = read(&path);
-        let wanted = read(&path.with_extension("report"));
+        let wanted = expected(&path, "report");
         let length = wanted.len();
         for more in 0..3 {
             let reported = report(&text, length + more, WORK_MIN + more);
@@ -97,7 +100,7 @@ fn vectors_report_at_prices() {
             let reported = report_at(&text, price, wanted as usize, WORK_MIN);
             assert_eq!(reported.result.numbers(), [0, 0, wanted], "{path:?}");
             if price == Price::BLOCKS {
-                let wanted = read(&path.with_extension("report"));
+                let wanted = expected(&path, "report");
                 assert!(reported.output == wanted, "{path:?}");
             }
         }
@@ -114,27 +117,30 @@ struct RunVector {
     back: Lent,
 }
 
-fn run_vectors() -> Vec<RunVector> {
-    let buffers = |of: &str| Lent {
-        answers: blocks(of, "answers"),
-        cache: blocks(of, "cache"),
-        memory: blocks(of, "memory"),
-    };
-    let vector = |path: PathBuf| {
+impl RunVector {
+    fn of(path: &Path) -> Self {
+        let buffers = |of: &str| Lent {
+            answers: blocks(of, "answers"),
+            cache: blocks(of, "cache"),
+            memory: blocks(of, "memory"),
+        };
         let lent = read_text(&path.with_extension("lent"));
-        let back = read_text(&path.with_extension("back"));
+        let back = String::from_utf8(expected(path, "back")).expect("the file is text");
         RunVector {
             name: path.display().to_string(),
-            text: read(&path),
+            text: read(path),
             events: blocks(&lent, "events"),
             lent: buffers(&lent),
             result: numbers(&back, "result"),
             back: buffers(&back),
         }
-    };
-    let vectors: Vec<RunVector> = tasks("run").into_iter().map(vector).collect();
-    assert_eq!(vectors.len(), 80);
-    vectors
+    }
+}
+
+fn run_vectors() -> Vec<RunVector> {
+    let tasks = tasks("run");
+    assert_eq!(tasks.len(), 80);
+    tasks.iter().map(|path| RunVector::of(path)).collect()
 }
 
 #[test]
@@ -164,4 +170,55 @@ fn vectors_run_at_prices() {
             }
         }
     }
+}
+
+/// The report of a case by a rule, as its file has it.
+fn report_file(rule: Displacement, path: &Path) -> String {
+    report_by(rule, &read(path), Price::BLOCKS)
+}
+
+/// What the run of a case gives back by a rule, as its file has it.
+fn back_file(rule: Displacement, path: &Path) -> String {
+    let case = RunVector::of(path);
+    let ran = run_by(rule, &case.text, Price::BLOCKS, &case.events, &case.lent);
+    [
+        line("result", &ran.result.numbers()),
+        line("answers", &ran.lent.answers),
+        line("cache", &ran.lent.cache),
+        line("memory", &ran.lent.memory),
+    ]
+    .concat()
+}
+
+fn line(name: &str, numbers: &[impl ToString]) -> String {
+    let words = numbers
+        .iter()
+        .map(|number| format!(" {}", number.to_string()));
+    format!("{name}{}\n", words.collect::<String>())
+}
+
+/// How many cases of a folder are amended. Requires that the rule before request 4 gives every original file, that the rule since gives another result in
+/// exactly the amended cases, and that one, and that no other file is there.
+fn count_amended(name: &str, ending: &str, file: fn(Displacement, &Path) -> String) -> usize {
+    let tasks = tasks(name);
+    let mut count = 0;
+    for path in &tasks {
+        let before = file(Displacement::Smallest, path).into_bytes();
+        let since = file(Displacement::Walks, path).into_bytes();
+        assert!(original(path, ending) == before, "{path:?}");
+        let wanted = (since != before).then_some(since);
+        count += usize::from(wanted.is_some());
+        assert!(amended(path, ending) == wanted, "{path:?}");
+    }
+    let files = std::fs::read_dir(vectors::folder(name)).expect("the folder is there");
+    let paths = files.map(|file| file.expect("the entry is readable").path());
+    let results = paths.filter(|path| path.extension().is_some_and(|end| end == ending));
+    assert_eq!(results.count(), tasks.len() + count);
+    count
+}
+
+#[test]
+fn vectors_amended_where_the_rules_differ() {
+    assert_eq!(count_amended("report", "report", report_file), 29);
+    assert_eq!(count_amended("run", "back", back_file), 0);
 }

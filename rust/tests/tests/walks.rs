@@ -35,6 +35,21 @@ fn search(points: &[Point], start: usize, stop: impl Fn(Point) -> bool) -> Vec<u
     found
 }
 
+/// All pairs of point and number that walks from point 0 have, where they begin with `start` and `after` gives the number behind a point.
+fn pairs(points: &[Point], start: u32, after: impl Fn(Point, u32) -> u32) -> HashSet<(usize, u32)> {
+    let mut seen = HashSet::new();
+    let mut pending = vec![(0, start)];
+    while let Some((index, number)) = pending.pop() {
+        if seen.insert((index, number)) {
+            let point = points[index];
+            let number = after(point, number);
+            let next = leads(point, index).into_iter();
+            pending.extend(next.map(|index| (index, number)));
+        }
+    }
+    seen
+}
+
 /// What is known of a task while the figures are worked out.
 struct Search<'a> {
     task: &'a Task,
@@ -70,35 +85,38 @@ impl<'a> Search<'a> {
         self.task.points_of(&self.task.funcs[number])
     }
 
+    /// The figures of the function that a point calls.
+    fn called(&self, point: Point) -> Option<FuncFigures> {
+        match point {
+            Point::Call(callee) => Some(self.funcs[callee as usize]),
+            _ => None,
+        }
+    }
+
     fn depths(&mut self, number: usize) {
         let frame = self.task.funcs[number].frame;
-        let mut callees = Vec::new();
-        for &point in self.points(number) {
-            if let Point::Call(callee) = point {
-                callees.push(self.funcs[callee as usize]);
-            }
-        }
         let points = self.points(number);
-        let straight = search(points, 0, |point| matches!(point, Point::Call(_)))
-            .into_iter()
-            .any(|index| points[index] == Point::Return);
+        let callees: Vec<FuncFigures> = points.iter().filter_map(|&p| self.called(p)).collect();
         let longest = callees.iter().map(|callee| callee.longest).max();
-        let shortest = callees.iter().map(|callee| callee.shortest).min();
+        let smallest = callees.iter().map(|callee| callee.shortest).min();
+        // The number of a walk is the largest that it has called.
+        let walks = pairs(points, 0, |point, largest| match self.called(point) {
+            Some(callee) => largest.max(callee.shortest),
+            None => largest,
+        });
+        let returned = walks
+            .into_iter()
+            .filter(|&(index, _)| points[index] == Point::Return);
+        let on_walks = returned.map(|(_, largest)| largest).min();
         self.funcs[number].longest = frame + longest.unwrap_or(0);
-        self.funcs[number].shortest = match shortest {
-            Some(shortest) if !straight => frame + shortest,
-            _ => frame,
-        };
+        self.funcs[number].shortest = frame + on_walks.or(smallest).unwrap_or(0);
     }
 
     /// The occupancy after a point on a walk where it is `high` before it.
     fn after(&self, frame: u32, point: Point, high: u32) -> u32 {
-        match point {
-            Point::Call(callee) => {
-                let shortest = self.funcs[callee as usize].shortest;
-                high.min(self.task.stack.saturating_sub(shortest))
-            }
-            Point::Ensure(_) => high.max(frame),
+        match (point, self.called(point)) {
+            (_, Some(callee)) => high.min(self.task.stack.saturating_sub(callee.shortest)),
+            (Point::Ensure(_), _) => high.max(frame),
             _ => high,
         }
     }
@@ -109,19 +127,11 @@ impl<'a> Search<'a> {
         let points = self.points(number).to_vec();
         let wanted = self.funcs[number].entry + func.frame;
         self.funcs[number].spill = self.price.of(wanted.saturating_sub(self.task.stack));
-        let mut seen = HashSet::new();
-        let mut pending = vec![(0, wanted.min(self.task.stack))];
-        while let Some((index, high)) = pending.pop() {
-            if seen.insert((index, high)) {
-                let after = self.after(func.frame, points[index], high);
-                pending.extend(
-                    leads(points[index], index)
-                        .iter()
-                        .map(|&next| (next, after)),
-                );
-            }
-        }
-        for (index, high) in seen {
+        let start = wanted.min(self.task.stack);
+        let walks = pairs(&points, start, |point, high| {
+            self.after(func.frame, point, high)
+        });
+        for (index, high) in walks {
             let figure = &mut self.points[func.first + index];
             figure.high = figure.high.max(high);
             if let Point::Call(callee) = points[index] {
@@ -222,14 +232,22 @@ fn compare(case: &Case, price: Price) -> bool {
 }
 
 /// In blocks and at a price.
-#[test]
-fn figures_equal_a_search_over_walks() {
+fn compare_all(cases: impl Iterator<Item = Case>) {
     let mut compared = 0;
-    for seed in 100_000..104_000 {
-        let case = generate::valid(seed);
-        for price in [Price::BLOCKS, generate::price(seed)] {
+    for case in cases {
+        for price in [Price::BLOCKS, generate::price(case.seed)] {
             compared += u32::from(compare(&case, price));
         }
     }
     assert!(compared > 4_000);
+}
+
+#[test]
+fn figures_equal_a_search_over_walks() {
+    compare_all((100_000..104_000).map(generate::valid));
+}
+
+#[test]
+fn figures_of_wrappers_equal_a_search_over_walks() {
+    compare_all((104_000..108_000).map(generate::wrappers));
 }

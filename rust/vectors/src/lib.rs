@@ -34,6 +34,22 @@ pub fn tasks(name: &str) -> Vec<PathBuf> {
     paths
 }
 
+/// The result of a task before request 4, in the file with this ending.
+pub fn original(task: &Path, ending: &str) -> Vec<u8> {
+    read(&task.with_extension(ending))
+}
+
+/// The result of a task since request 4, where it is another.
+pub fn amended(task: &Path, ending: &str) -> Option<Vec<u8>> {
+    let path = task.with_extension(format!("request-4.{ending}"));
+    path.exists().then(|| read(&path))
+}
+
+/// The result that is expected of a task.
+pub fn expected(task: &Path, ending: &str) -> Vec<u8> {
+    amended(task, ending).unwrap_or_else(|| original(task, ending))
+}
+
 /// The refused cases: the name, the text, the code and the place.
 pub fn refused() -> Vec<(String, Vec<u8>, u32, u32)> {
     read_text(&folder("refused").join("expected"))
