@@ -1,5 +1,5 @@
 -- D, d and the level of a function from those of the functions behind it.
-use Prim.Native.Nat.{ℕ, _+_, _-_, _*_, _≤_, _<_}
+use Prim.Native.Nat.{ℕ, _+_, _-_, _≤_, _<_}
 use native.Mathlib.Omega.{arith}
 use native.Mathlib.Decide.{decLt, ℕ-discrete}
 use mathlib.Core.Bool.{true, not, true≢false}
@@ -29,10 +29,9 @@ use Rattle.tables.proofs.Valid.{settled-fits}
 use Rattle.problems.specs.Problems.{Filled, Blocks, lowestLevel}
 use Rattle.columns.specs.Columns.{columnsEnd, highColumn, longestColumn, shortestColumn, levelColumn, Funcs, OnlyColumns}
 use Rattle.columns.specs.Values.{numbered, levelAt, CallFits}
-use Rattle.columns.specs.Displaced.{Ready, Displaced, Displacing}
+use Rattle.columns.specs.Displaced.{Ready, Displaced}
 use Rattle.columns.proofs.Values.{level-call, level-past}
 use Rattle.columns.proofs.Writes.{changed-none, changed-set, changed-on, changed-wider, funcs-kept}
-use Rattle.columns.proofs.Limits.{shortest-low}
 use Rattle.columns.proofs.Within.{within-ready, within-task, callee-in}
 use Rattle.displace.specs.declared.CalleeBounds.{CalleeBounds}
 use Rattle.displace.specs.Bounds.{nonempty, BoundedBy}

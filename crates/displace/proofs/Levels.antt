@@ -5,19 +5,18 @@ use native.Mathlib.Decide.{ℕ-discrete}
 use native.Mathlib.Numerals.{add-one}
 use mathlib.Core.Bool.{Bool, true, false, not}
 use mathlib.Core.List.{List, _∷_, List·Memᴰ}
-use mathlib.Core.Path.{_≡_, refl, ap, sym, _∙_}
+use mathlib.Core.Path.{_≡_, refl, ap, _∙_}
 use lib.Dec.{T, leb, ltb, not-T, ltb→lt, lt→ltb}
 use borrow.Author.Tests.{le-ltb, le-leb, lt-leb}
-use lib.ListN.{length, set, length-set}
+use lib.ListN.{length, set}
 use Rattle.model.specs.Basic.{if_then_else_, select, largest, countFrom}
 use Rattle.model.specs.Limits.{mostFuncs}
-use Rattle.theory.proofs.Lists.{by-test, mem-select, mem-countFrom, length-countFrom, select-cong, select-most, select-less}
+use Rattle.theory.proofs.Lists.{mem-select, mem-countFrom, length-countFrom, select-cong, select-most, select-less}
 use Rattle.theory.proofs.Between.{largest-cong}
-use Rattle.tables.specs.Tables.{item}
 use Rattle.tables.proofs.Laws.{here, elsewhere}
-use Rattle.columns.specs.Columns.{shortestColumn, levelColumn, Funcs, Changed}
-use Rattle.columns.proofs.Writes.{changed-none, changed-set, changed-on}
-use Rattle.displace.specs.Levels.{levelAmong, largestWithin, shortestIn, levelIn, Room, Levelled, SmallLevels, Lifted, Placed}
+use Rattle.columns.specs.Columns.{shortestColumn, levelColumn, Funcs}
+use Rattle.columns.proofs.Writes.{changed-none, changed-set}
+use Rattle.displace.specs.Levels.{levelAmong, largestWithin, shortestIn, levelIn, Levelled, Lifted, Placed}
 
 -- the functions from m on, and those behind m
 behind : {m n : ℕ} → m < n → n - m ≡ suc (n - (m + 1))

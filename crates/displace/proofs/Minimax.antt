@@ -1,5 +1,5 @@
 -- d by levels: the lowest level that no call passes on some walk to a return is the level of the smallest, over such walks, of the largest d called.
-use Prim.Native.Nat.{ℕ, suc, _+_, _-_, _≤_, _<_}
+use Prim.Native.Nat.{ℕ, _-_, _≤_, _<_}
 use native.Mathlib.Omega.{arith}
 use native.Mathlib.Decide.{decLt}
 use mathlib.Core.List.{List}

@@ -1,5 +1,5 @@
--- Levels: the functions from m on and below n in the order of their d. A function is called with a larger d exactly where it has a higher level, and there are
--- no more levels than functions, so a set of 64 bits holds them all.
+-- Levels: the functions from m on and below n in the order of their d. One that displaces more has a higher level, and those that displace the same share
+-- one. There are no more levels than functions, so that a set of 64 bits holds them all.
 use Prim.Native.Nat.{ℕ, suc, _+_, _-_, _≤_, _<_}
 use mathlib.Core.List.{List}
 use mathlib.Core.Path.{_≡_}

@@ -1,5 +1,5 @@
-// D and d of every function of the task in the tables, from the last function to the first. d comes from the walks of a function: the functions behind it have
-// levels in the order of their d, and the levels are the bits of one gen/kill problem.
+// D and d of every function of the task in the tables, from the last function to the first. d comes from the walks of a function: the functions behind it
+// have levels in the order of their d, and the levels are the bits of one gen/kill problem.
 ghost use mathlib.Core.Path.{_≡_};
 ghost use Prim.Native.Nat.{ℕ, suc, _+_, _<_, _≤_, min};
 ghost use lib.Dec.{ltb};

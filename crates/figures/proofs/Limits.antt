@@ -7,7 +7,8 @@ use Rattle.model.specs.Basic.{upTo}
 use Rattle.model.specs.Limits.{mostStack, mostFuncs}
 use Rattle.model.specs.Task.{Task, size, count, func, point}
 use Rattle.model.specs.Walk.{carried, arrival, sources, leads, called, isEnsure}
-use Rattle.model.specs.Figures.{dead, need, fillAfter, fill, shortest, cutBy, afterWith, after, highFromWith, highFrom, callPoints, overCalls, entryTo, entryWith, entry, highWith, high, kept, chainTo, chain}
+use Rattle.model.specs.Figures.{dead, need, fillAfter, fill, shortest, cutBy, afterWith, after, highFromWith, highFrom, callPoints, overCalls}
+use Rattle.model.specs.Figures.{entryTo, entryWith, entry, highWith, high, kept, chainTo, chain}
 use Rattle.model.specs.Figures.{keptNext}
 use Rattle.model.specs.Sheet.{costed, pricedSheet}
 use Rattle.model.specs.WellFormed.{Shaped}

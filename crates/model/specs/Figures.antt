@@ -48,13 +48,12 @@ displacementAt d x p = displacementOf d (called (point x p))
 abbrev pub callsAbove : (ℕ → ℕ) → Func → ℕ → ℕ → Bool
 callsAbove d x v p = ltb v (displacementAt d x p)
 
--- the smallest, over walks from point 0 to a point of the kind goal, of the largest d called on the walk: the smallest v for which some such walk
--- calls nothing above v
+-- the smallest, over walks from point 0 to a point of the kind goal, of the largest d called on the walk (a minimax over paths): the smallest v for
+-- which some such walk calls nothing above v
 unfoldable pub minimax : (ℕ → ℕ) → Func → (ℕ → Bool) → ℕ
 minimax d x goal = lowest (λ v. someWalk x (callsAbove d x v) goal 0) (largest d (callees x))
 
--- d of a function, where d gives those of its callees: its frame and the smallest over walks to a return; where no walk comes to a return, its frame
--- and the smallest d called
+-- d of x from d of its callees: the frame and the minimax over walks to a return; where no walk comes to a return, the frame and the smallest d called
 unfoldable pub shortestBy : (ℕ → ℕ) → Func → ℕ
 shortestBy d x =
     x .frame + (if someWalk x never (returns x) 0 then minimax d x (returns x) else smallest d (callees x))
@@ -83,7 +82,8 @@ unfoldable pub fill : Task → ℕ → ℕ → ℕ
 fill t f p =
     if isEnsure (func t f) p then fillAfter t (func t f .frame) (called (point (func t f) (p - 1))) else 0
 
--- the figures that d is a part of, with d from anywhere: two rules for d can be compared. The occupancy after point p, at most, where it is at most h before
+-- the figures that d is a part of take d from anywhere, so that two rules for it can be compared. First the occupancy after point p, at most, where it
+-- is at most h before
 abbrev pub cutBy : (ℕ → ℕ) → Task → ℕ → Option ℕ → ℕ
 cutBy d t h none = h
 cutBy d t h (some g) = min h (t .stack - d g)

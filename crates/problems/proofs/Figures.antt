@@ -7,7 +7,7 @@ use mathlib.Core.Bool.{Bool, true, false, not}
 use mathlib.Core.List.{List, List·Memᴰ}
 use mathlib.Core.Logic.{_↔_, _⊎_, inl, inr, ⊎-elim}
 use mathlib.Core.Option.{some}
-use lib.Dec.{T, eqb, ltb, eqb→eq, eqb-refl, ltb→lt, lt→ltb, lit≤}
+use lib.Dec.{T, eqb, ltb, eqb→eq, eqb-refl, ltb→lt, lt→ltb}
 use borrow.Author.Tests.{lt-ltb}
 use Rattle.model.specs.declared.Point.{Point}
 use Rattle.model.specs.declared.Point.the-variants.{Load, Store, Call, Ensure, Goto, Either, Return}
@@ -89,7 +89,8 @@ not-not true h = tt
 not-not false h = absurd h
 
 above-after : (t : Task) (x : Point) (h k a j : ℕ) → ((g : ℕ) → called x ≡ some g → a ≡ t .stack - shortest t g)
-    → (j < (if present (ensured x) then max h k else cutBy (shortest t) t h (called x))) ↔ (T (gives Occupied k a x j) ⊎ ((j < h) × T (not (takes Occupied k a x j))))
+    → (j < (if present (ensured x) then max h k else cutBy (shortest t) t h (called x)))
+    ↔ (T (gives Occupied k a x j) ⊎ ((j < h) × T (not (takes Occupied k a x j))))
 above-after t (Load o) h k a j e = passed
 above-after t (Store o) h k a j e = passed
 above-after t (Call g) h k a j e = (

@@ -10,7 +10,7 @@ use lib.Dec.{T, lt→ltb, T-not}
 use Rattle.model.specs.Basic.{if_then_else_, smallest, upTo}
 use Rattle.model.specs.Task.{Func, Task, task, size, count, func, point}
 use Rattle.model.specs.Walk.{Met, leads, called, present, isCall, isEnsure, returns, never}
-use Rattle.model.specs.Figures.{callees, displacementOf, callsAbove, minimax, shortestBy, shortestTo, shortest, cutBy, afterWith, highFromWith}
+use Rattle.model.specs.Figures.{callees, callsAbove, minimax, shortestBy, shortestTo, shortest, cutBy, afterWith, highFromWith}
 use Rattle.model.specs.Figures.{dead, callPoints, overCalls, entryTo, entryWith, highWith, spillWith}
 use Rattle.model.specs.Refusal.{judged}
 use Rattle.model.specs.Sheet.{costed, pricedSheet}
@@ -108,7 +108,8 @@ module _ {t : Task} (w : WellFormed t) where
         displaces = displaces;
         spill = λ f l. c .more _ _ (omega (arith, entries f));
         at = λ f p l k.
-            let saves = c .more (highWith (shortest t) t f p - dead (func t f) p) (highWith (smallestCalled t) t f p - dead (func t f) p) (omega (arith, highs f p l)) in
+            let saved : (ℕ → ℕ) → ℕ = λ d. highWith d t f p - dead (func t f) p in
+            let saves = c .more (saved (shortest t)) (saved (smallestCalled t)) (omega (arith, highs f p l)) in
             record {
               high = highs f p l;
               save = saves;

@@ -1,7 +1,7 @@
 -- The shortest displacement d: the computed `minimax` is the smallest, over walks of every length, of the largest d called, and d satisfies its equation.
-use Prim.Native.Nat.{ℕ, zero, suc, _+_, _-_, _≤_, _<_, max}
+use Prim.Native.Nat.{ℕ, zero, suc, _+_, _-_, _≤_, _<_}
 use mathlib.Core.Bool.{Bool}
-use mathlib.Core.List.{List, List·Memᴰ}
+use mathlib.Core.List.{List·Memᴰ}
 use mathlib.Core.Option.{Option, none, some}
 use mathlib.Core.Path.{_≡_, refl, sym}
 use native.Mathlib.Decide.{decLt}
@@ -9,7 +9,7 @@ use native.Mathlib.Omega.{arith}
 use lib.Dec.{T, ltb, T-not, not-T, ltb→lt, nltb→le}
 use Rattle.model.specs.Basic.{largest, smallest, lowest}
 use Rattle.model.specs.Task.{Func, Task, size, count, func, point}
-use Rattle.model.specs.Walk.{Walk, Met, Carries, Smallest, Least, leads, called, isCall, returns, never, someWalk}
+use Rattle.model.specs.Walk.{Walk, Met, Carries, Smallest, Least, leads, called, returns, never, someWalk}
 use Rattle.model.specs.Figures.{callees, displacementOf, displacementAt, callsAbove, minimax, shortestBy, shortestTo, shortest}
 use Rattle.theory.specs.Displacement.{LargestCalled, CalledToReturn}
 use Rattle.theory.proofs.Lists.{by-test, lowest-smallest, largest-bounds}

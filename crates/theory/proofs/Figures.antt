@@ -10,7 +10,8 @@ use lib.Dec.{T, eqb, eqb→eq, eqb-refl}
 use Rattle.model.specs.Basic.{select, upTo, lowest}
 use Rattle.model.specs.Task.{Func, Task, size, func, point}
 use Rattle.model.specs.Walk.{Walk, Met, Carries, Largest, Smallest, leads, called, loads, stores, touches, isEnsure, never, someWalk}
-use Rattle.model.specs.Figures.{reached, uninitialised, live, dead, need, shortest, cutBy, afterWith, after, highFromWith, highFrom, entry, highWith, high, kept, firstEnsure, keptNext}
+use Rattle.model.specs.Figures.{reached, uninitialised, live, dead, need, shortest, cutBy, afterWith, after, highFromWith, highFrom, entry, highWith, high}
+use Rattle.model.specs.Figures.{kept, firstEnsure, keptNext}
 use Rattle.theory.proofs.Lists.{and-holds, mem-select, mem-upTo, above-largest, lowest-smallest, largest-largest}
 use Rattle.theory.proofs.Walks.{meets-sound, meets-complete, walk-met}
 use Rattle.theory.proofs.Arrival.{Steady, steady-same, steady-min, steady-max, steady-if, arrival-reached}

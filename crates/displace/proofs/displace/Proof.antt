@@ -62,14 +62,15 @@ place-requires : tie.Need-place-requires
 place-requires c κs =
     let b = c .before .before .before .before .before .before .before .before .before in
     let a = b .before .before .before .before .before .pre in
-    written-room (a .0) (a .1) _ _ (longest-here (a .0) (a .1) (b .before .before .span-at .ensures) (b .callee-bounds .ensures)) (c .before .before .before .shortest-of .ensures)
+    let e = longest-here (a .0) (a .1) (b .before .before .span-at .ensures) (b .callee-bounds .ensures) in
+    written-room (a .0) (a .1) _ _ e (c .before .before .before .shortest-of .ensures)
 
 returns : tie.Need-returns
 returns c =
     let b = c .before .before .before .before .before .before .before .before .before .before .before .before in
     let a = b .before .before .before .before .before .pre in
-    ordered-more (a .0) (a .1) _ _ (longest-here (a .0) (a .1) (b .before .before .span-at .ensures) (b .callee-bounds .ensures)) (c .before .before .before .before .before .before .shortest-of .ensures)
-    (c .before .before .place .ensures)
+    let e = longest-here (a .0) (a .1) (b .before .before .span-at .ensures) (b .callee-bounds .ensures) in
+    ordered-more (a .0) (a .1) _ _ e (c .before .before .before .before .before .before .shortest-of .ensures) (c .before .before .place .ensures)
 
 pub displace-spec : {M : Type 1} → statement M
 displace-spec =

@@ -19,8 +19,9 @@ abbrev μ-loop : tie.MeasureT-loop
 displace-requires : tie.Need-displace-requires Inv-loop μ-loop
 displace-requires c κs =
     let l = c .before .before .before .before .before .before .loop in
+    let h = c .before .before .before .before .before .before .before .before .args .h in
     let e : l .f ≡ l .f - 1 + 1 = omega arith in
-    (subst (λ (n : ℕ). Ordered (l .work) (c .before .before .before .before .before .before .before .before .args .h) n) e (l .inv .1), omega (arith, l .inv .0))
+    (subst (λ (n : ℕ). Ordered (l .work) h n) e (l .inv .1), omega (arith, l .inv .0))
 
 loop-again : tie.Need-loop-again Inv-loop μ-loop
 loop-again c =

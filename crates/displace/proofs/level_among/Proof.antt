@@ -1,7 +1,7 @@
 -- The loop counts from the last function to the first.
 use Prim.Native.Nat.{_-_, _≤_}
 use native.Mathlib.Omega.{arith}
-use mathlib.Core.Path.{_≡_, refl, sym, _∙_}
+use mathlib.Core.Path.{_≡_, sym}
 use Rattle.displace.specs.Levels.{levelAmong, shortestIn}
 use Rattle.displace.proofs.Levels.{level-none, level-turn, level-most}
 use Rattle.displace.proofs.level_among.Statement.{statement}

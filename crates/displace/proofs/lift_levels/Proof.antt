@@ -1,5 +1,5 @@
 -- The loop lifts one function a turn.
-use Prim.Native.Nat.{ℕ, _-_, _≤_}
+use Prim.Native.Nat.{_-_, _≤_}
 use native.Mathlib.Omega.{arith}
 use Rattle.displace.proofs.Levels.{Lifting, lifting-none, lifting-more, lifting-all}
 use Rattle.displace.proofs.lift_levels.Statement.{statement}
@@ -39,8 +39,8 @@ loop-again c =
     let l = c .before .before .before .before .loop in (
       omega (arith, l .inv .0),
       omega arith,
-      lifting-more (b .args .m) (b .args .v) (l .work) (l .g) (l .inv .0) (omega (arith, b .pre .0 .few)) (omega (arith, b .pre .0 .long, l .inv .2 .lifted .changed .size))
-          (c .raised .ensures) (l .inv .2),
+      lifting-more (b .args .m) (b .args .v) (l .work) (l .g) (l .inv .0) (omega (arith, b .pre .0 .few))
+          (omega (arith, b .pre .0 .long, l .inv .2 .lifted .changed .size)) (c .raised .ensures) (l .inv .2),
     )
 
 returns : tie.Need-returns Inv-loop μ-loop

@@ -1,5 +1,4 @@
 -- The level is counted before the functions behind f are lifted: both are about d, which neither changes.
-use Prim.Native.Nat.{_+_}
 use native.Mathlib.Omega.{arith}
 use borrow.Author.Needs.{needs}
 use Rattle.displace.proofs.Levels.{placed}
@@ -28,5 +27,5 @@ pub place-spec : {M : Type 1} → statement M
 place-spec =
     tie.close
     (tie.spec
-    (λ c. omega (arith, c .before .pre .0 .order, c .before .pre .0 .few)) (λ c. search needs) slice-read-d (λ c. search needs) (λ c κs. search needs) (λ c. search needs) (λ c κs. search needs) (λ c. search needs)
-    (λ c. search needs) slice-write-work (λ c. search needs) returns)
+    (λ c. omega (arith, c .before .pre .0 .order, c .before .pre .0 .few)) (λ c. search needs) slice-read-d (λ c. search needs) (λ c κs. search needs)
+    (λ c. search needs) (λ c κs. search needs) (λ c. search needs) (λ c. search needs) slice-write-work (λ c. search needs) returns)

@@ -39,9 +39,10 @@ add-result : tie.Need-add-result
 add-result c =
     let b = c .before .before .before .before .before .before .before .before in
     let a = b .before .before .before .before .before .pre in
+    let level = c .before .before .lowest-level .ensures .0 in
     omega (
       arith,
-      shortest-here (a .0) (a .1) (a .2) (b .value-points .ensures) (a .3 .least) (c .before .before .lowest-level .ensures .0) (c .before .called-least .ensures),
+      shortest-here (a .0) (a .1) (a .2) (b .value-points .ensures) (a .3 .least) level (c .before .called-least .ensures),
       shortest-low (a .0 .displacing .ready .settled .formed .shaped) (b .before .before .before .before .before .args .f),
     )
 
