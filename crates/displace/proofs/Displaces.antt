@@ -35,8 +35,9 @@ use Rattle.columns.proofs.Writes.{changed-none, changed-set, changed-on, change
 use Rattle.columns.proofs.Within.{within-ready, within-task, callee-in}
 use Rattle.displace.specs.declared.CalleeBounds.{CalleeBounds}
 use Rattle.displace.specs.Bounds.{nonempty, BoundedBy}
-use Rattle.displace.specs.Levels.{levelAmong, largestWithin, shortestIn, levelIn, Room, SmallLevels, Levelled, Placed, Ordered}
-use Rattle.displace.proofs.Levels.{level-low, within-cong}
+use Rattle.levels.specs.Levels.{levelAmong, largestWithin, shortestIn, levelIn, Room, SmallLevels, Levelled, Placed}
+use Rattle.displace.specs.Ordered.{Ordered}
+use Rattle.levels.proofs.Laws.{level-low, within-cong}
 use Rattle.displace.proofs.Minimax.{level-met, met-level, minimax-is}
 
 -- a column of the functions from m on with one number more in front

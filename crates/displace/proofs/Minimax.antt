@@ -17,8 +17,8 @@ use Rattle.theory.proofs.Displacement.{minimax-low, minimax-met}
 use Rattle.bits.specs.Bits.{setBits}
 use Rattle.tables.specs.Tables.{item}
 use Rattle.problems.specs.Problems.{callsOver, lowestLevel}
-use Rattle.displace.specs.Levels.{levelAmong, largestWithin}
-use Rattle.displace.proofs.Levels.{level-some, level-rises, level-low}
+use Rattle.levels.specs.Levels.{levelAmong, largestWithin}
+use Rattle.levels.proofs.Laws.{level-some, level-rises, level-low}
 
 module _
     (d : ℕ → ℕ)

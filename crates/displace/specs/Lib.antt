@@ -1,3 +1,3 @@
--- What the functions of this crate find in the columns, and the levels of the functions by their d.
-pub mod Levels
+-- What is known of the callees of a function, and of the functions that have D, d and their levels.
 pub mod Bounds
+pub mod Ordered

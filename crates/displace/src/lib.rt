@@ -1,11 +1,10 @@
 // D and d of every function of the task in the tables, from the last function to the first. d comes from the walks of a function: the functions behind it
 // have levels in the order of their d, and the levels are the bits of one gen/kill problem.
 ghost use mathlib.Core.Path.{_≡_};
-ghost use Prim.Native.Nat.{ℕ, suc, _+_, _<_, _≤_, min};
+ghost use Prim.Native.Nat.{ℕ, _+_, _<_, _≤_, min};
 ghost use lib.Dec.{ltb};
 ghost use lib.ListN.{length};
 ghost use Rattle.model.specs.Basic.{if_then_else_};
-ghost use Rattle.model.specs.Limits.{mostFuncs};
 ghost use Rattle.model.specs.Figures.{shortest};
 ghost use Rattle.bits.specs.Bits.{setBits};
 ghost use Rattle.tables.specs.Tables.{spanAt, taskOf};
@@ -14,7 +13,8 @@ ghost use Rattle.columns.specs.Columns.{columnsEnd, OnlyColumns};
 ghost use Rattle.columns.specs.Values.{CallFits};
 ghost use Rattle.columns.specs.Displaced.{Ready, Displacing};
 ghost use Rattle.displace.specs.Bounds.{BoundedBy};
-ghost use Rattle.displace.specs.Levels.{levelAmong, largestWithin, shortestIn, levelIn, Room, SmallLevels, Lifted, Placed, Ordered};
+ghost use Rattle.levels.specs.Levels.{largestWithin, shortestIn, levelIn, Room};
+ghost use Rattle.displace.specs.Ordered.{Ordered};
 use bits::Set;
 use columns::Columns;
 use columns::Value;
@@ -60,72 +60,6 @@ fn callee_bounds(work: &[u32], s: Span) -> CalleeBounds
     CalleeBounds { most, least, some }
 }
 
-// One level more where a is below b.
-fn raised(level: u32, a: u32, b: u32) -> u32
-    requires { ⌜ level ≤ mostFuncs ⌝ }
-    ensures { λ r. ⌜ r ≡ (if ltb a b then suc level else level) ⌝ }
-{
-    if a < b {
-        return level + 1;
-    }
-    level
-}
-
-// The level of the displacement v among the functions from m on and below n, from the last to the first.
-fn level_among(work: &[u32], m: usize, n: usize, v: u32) -> u32
-    requires { ⌜ Room m n (now work) ⌝ }
-    ensures { λ r. ⌜ r ≡ levelAmong (shortestIn (now (work .entry))) m n v ⌝ }
-{
-    let mut level: u32 = 1;
-    let mut g = n;
-    while m < g {
-        g -= 1;
-        level = raised(level, work[Columns::SHORTEST + g], v);
-    }
-    level
-}
-
-// Lifts the functions from m on and below n that displace more than v by one level.
-fn lift_levels(work: &mut [u32], m: usize, n: usize, v: u32)
-    requires { ⌜ Room m n (now work) × SmallLevels m n (now work) ⌝ }
-    ensures { λ r. ⌜ Lifted m n v (now (work .entry)) (now (work .exit)) ⌝ }
-{
-    let mut g = m;
-    while g < n {
-        let level = work[Columns::LEVEL + g];
-        let d = work[Columns::SHORTEST + g];
-        work[Columns::LEVEL + g] = raised(level, v, d);
-        g += 1;
-    }
-}
-
-// Gives function f, which has its d, its level among the functions behind it.
-fn place(work: &mut [u32], f: usize, n: usize)
-    requires { ⌜ Room (f + 1) n (now work) × SmallLevels (f + 1) n (now work) ⌝ }
-    ensures { λ r. ⌜ Placed f n (now (work .entry)) (now (work .exit)) ⌝ }
-{
-    let d = work[Columns::SHORTEST + f];
-    let level = level_among(work, f + 1, n, d);
-    lift_levels(work, f + 1, n, d);
-    work[Columns::LEVEL + f] = level;
-}
-
-// The largest d of the functions from m on and below n whose level is at most this one, from the last to the first; 0 where there is none.
-fn largest_within(work: &[u32], m: usize, n: usize, level: u32) -> u32
-    requires { ⌜ Room m n (now work) ⌝ }
-    ensures { λ r. ⌜ r ≡ largestWithin (levelIn (now (work .entry))) (shortestIn (now (work .entry))) m n level ⌝ }
-{
-    let mut most: u32 = 0;
-    let mut g = n;
-    while m < g {
-        g -= 1;
-        if work[Columns::LEVEL + g] <= level {
-            most = columns::larger(work[Columns::SHORTEST + g], most);
-        }
-    }
-    most
-}
-
 // What the calls of a function displace at least: by the lowest level of its walks to a return, and least where no walk comes to a return.
 fn called_least(work: &[u32], m: usize, n: usize, level: u32, least: u32) -> u32
     requires { ⌜ Room m n (now work) ⌝ }
@@ -134,7 +68,7 @@ fn called_least(work: &[u32], m: usize, n: usize, level: u32, least: u32) -> u32
         else least) ⌝ }
 {
     if level < Set::BITS {
-        return largest_within(work, m, n, level);
+        return levels::largest_within(work, m, n, level);
     }
     least
 }
@@ -180,7 +114,7 @@ fn displace(
     let d = shortest_of(work, h, f, s, b, levels, gens, kills, sets);
     work[Columns::LONGEST + f] = s.frame + b.most;
     work[Columns::SHORTEST + f] = d;
-    place(work, f, h.funcs);
+    levels::place(work, f, h.funcs);
 }
 
 // D and d of every function, from the last to the first: calls lead to later functions.

@@ -28,9 +28,10 @@ use Rattle.tables.proofs.Laws.{length-points, point-there}
 use Rattle.backward.specs.Backward.{Solved, has}
 use Rattle.forward.specs.Forward.{Carried}
 use Rattle.forward.specs.Forward as forward
-use Rattle.problems.specs.declared.Problem.{Problem}
-use Rattle.problems.specs.declared.Problem.the-variants.{Live, Touched, CallLevels, FirstEnsure, Occupied}
-use Rattle.problems.specs.Problems.{gives, takes, Filled, Gives, Takes, Blocks, Answered, callsOver, lowestLevel, KeptIn, CutIn, EachReached}
+use Rattle.effects.specs.declared.Problem.{Problem}
+use Rattle.effects.specs.declared.Problem.the-variants.{Live, Touched, CallLevels, FirstEnsure, Occupied}
+use Rattle.effects.specs.Effects.{gives, takes}
+use Rattle.problems.specs.Problems.{Filled, Gives, Takes, Blocks, Answered, callsOver, lowestLevel, KeptIn, CutIn, EachReached}
 use Rattle.problems.proofs.Laws.{unmarked}
 
 -- one more than the highest bit, where bit j tells of a number j + 1 of the kind P; the lowest bit, where bit j tells of j

@@ -1,52 +1,22 @@
--- The gen/kill problems as data: what each point gives and takes; and what the functions of this crate are given and do.
-use Prim.Native.Nat.{ℕ, suc, _+_, _-_, _≤_, _<_, min}
-use mathlib.Core.Bool.{Bool, false, not, _&&_, _||_}
+-- What the functions of this crate are given and do.
+use Prim.Native.Nat.{ℕ, _+_, _-_, _≤_, _<_, min}
+use mathlib.Core.Bool.{Bool, _&&_}
 use mathlib.Core.List.{List}
 use mathlib.Core.Logic.{_↔_}
 use mathlib.Core.Option.{some}
 use mathlib.Core.Path.{_≡_}
-use lib.Dec.{T, eqb, ltb}
-use Rattle.model.specs.declared.Point.{Point}
+use lib.Dec.{T, ltb}
 use Rattle.model.specs.Basic.{lowest}
 use Rattle.model.specs.Limits.{mostStack}
 use Rattle.model.specs.Task.{Func, Task, size, func, point}
-use Rattle.model.specs.Walk.{Met, leads, loaded, stored, called, ensured, isReturn, is, present, isCall, isEnsure, returns, someWalk}
+use Rattle.model.specs.Walk.{Met, leads, called, isCall, isEnsure, returns, someWalk}
 use Rattle.model.specs.Figures as figure
 use Rattle.bits.specs.Bits.{setBits, bit, Marks}
 use Rattle.tables.specs.declared.Span.{Span}
 use Rattle.tables.specs.Tables.{item, pointAt, funcIn}
 use Rattle.tables.specs.Valid.{Kept}
-use Rattle.problems.specs.declared.Problem.{Problem}
-use Rattle.problems.specs.declared.Problem.the-variants.{Live, Touched, CallLevels, FirstEnsure, Occupied, Unstored}
-use Rattle.problems.specs.declared.Effect.{Effect}
-
--- bit j is given, and bit j is taken, at point x of a function with frame k, where the column of the problem has the number a for the point
-abbrev pub gives : Problem → ℕ → ℕ → Point → ℕ → Bool
-gives Live k a x j = is j (loaded x)
-gives Touched k a x j = is j (loaded x) || is j (stored x)
-gives CallLevels k a x j = isReturn x
-gives FirstEnsure k a x j = present (ensured x) && eqb (suc j) a
-gives Occupied k a x j = present (ensured x) && ltb j k
-gives Unstored k a x j = false
-
-abbrev pub takes : Problem → ℕ → ℕ → Point → ℕ → Bool
-takes Live k a x j = is j (stored x)
-takes Touched k a x j = present (ensured x)
-takes CallLevels k a x j = present (called x) && ltb j a
-takes FirstEnsure k a x j = present (ensured x)
-takes Occupied k a x j = present (called x) && not (ltb j a)
-takes Unstored k a x j = is j (stored x)
-
--- the effect with these parts; e is the effect of point x
-abbrev pub effectWith : ℕ → ℕ → Bool → Bool → Bool → Effect
-effectWith a b c d e = record { loaded = a; stored = b; called = c; ensured = d; returned = e }
-
-pub record HasEffect (x : Point) (e : Effect) : Type 0 where
-  pub loads : Marks (λ j. is j (loaded x)) (e .loaded)
-  pub stores : Marks (λ j. is j (stored x)) (e .stored)
-  pub calls : e .called ≡ present (called x)
-  pub ensures : e .ensured ≡ present (ensured x)
-  pub returns : e .returned ≡ isReturn x
+use Rattle.effects.specs.declared.Problem.{Problem}
+use Rattle.effects.specs.Effects.{gives, takes}
 
 -- the first n entries of l′ are of the kind P, each by its place, and the others are those of l
 pub record Filled (P : ℕ → ℕ → Type 0) (n : ℕ) (l l′ : List ℕ) : Type 0 where

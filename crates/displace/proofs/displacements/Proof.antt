@@ -4,7 +4,7 @@ use native.Mathlib.Omega.{arith}
 use mathlib.Core.Path.{_≡_, subst}
 use Rattle.columns.specs.Columns.{OnlyColumns}
 use Rattle.columns.proofs.Writes.{changed-none, changed-on}
-use Rattle.displace.specs.Levels.{Ordered}
+use Rattle.displace.specs.Ordered.{Ordered}
 use Rattle.displace.proofs.Displaces.{ordered-none}
 use Rattle.displace.proofs.displacements.Statement.{statement}
 use Rattle.displace.proofs.displacements.Tie as tie

@@ -16,7 +16,7 @@ use Rattle.theory.proofs.Between.{largest-cong}
 use Rattle.tables.proofs.Laws.{here, elsewhere}
 use Rattle.columns.specs.Columns.{shortestColumn, levelColumn, Funcs}
 use Rattle.columns.proofs.Writes.{changed-none, changed-set}
-use Rattle.displace.specs.Levels.{levelAmong, largestWithin, shortestIn, levelIn, Levelled, Lifted, Placed}
+use Rattle.levels.specs.Levels.{levelAmong, largestWithin, shortestIn, levelIn, Levelled, Lifted, Placed}
 
 -- the functions from m on, and those behind m
 behind : {m n : ℕ} → m < n → n - m ≡ suc (n - (m + 1))

@@ -1,9 +1,9 @@
 -- No bit for no block, and bit k - 1 for k blocks.
 use native.Mathlib.Omega.{arith}
 use borrow.Author.Needs.{needs}
-use Rattle.problems.proofs.Laws.{kept-none, kept-some}
-use Rattle.problems.proofs.kept_bit.Statement.{statement}
-use Rattle.problems.proofs.kept_bit.Tie as tie
+use Rattle.effects.proofs.Laws.{kept-none, kept-some}
+use Rattle.effects.proofs.kept_bit.Statement.{statement}
+use Rattle.effects.proofs.kept_bit.Tie as tie
 
 pub kept-bit-spec : {M : Type 1} → statement M
 kept-bit-spec =

@@ -1,9 +1,9 @@
 -- Each arm is one clause of gives.
 use borrow.Author.Needs.{needs}
 use Rattle.bits.proofs.Laws.{marks-none, marks-low}
-use Rattle.problems.proofs.Laws.{marks-if, all-if, marks-union}
-use Rattle.problems.proofs.gens_of.Statement.{statement}
-use Rattle.problems.proofs.gens_of.Tie as tie
+use Rattle.effects.proofs.Laws.{marks-if, all-if, marks-union}
+use Rattle.effects.proofs.gens_of.Statement.{statement}
+use Rattle.effects.proofs.gens_of.Tie as tie
 
 pub gens-of-spec : {M : Type 1} → statement M
 gens-of-spec =

@@ -1,9 +1,9 @@
 -- The level is counted before the functions behind f are lifted: both are about d, which neither changes.
 use native.Mathlib.Omega.{arith}
 use borrow.Author.Needs.{needs}
-use Rattle.displace.proofs.Levels.{placed}
-use Rattle.displace.proofs.place.Statement.{statement}
-use Rattle.displace.proofs.place.Tie as tie
+use Rattle.levels.proofs.Laws.{placed}
+use Rattle.levels.proofs.place.Statement.{statement}
+use Rattle.levels.proofs.place.Tie as tie
 
 slice-read-d : tie.Need-slice-read-d
 slice-read-d c =

@@ -4,9 +4,9 @@ use lib.Dec.{ltb→lt}
 use borrow.Author.Needs.{needs}
 use Rattle.bits.specs.Bits.{setBits}
 use Rattle.bits.proofs.Laws.{marks-none, marks-single}
-use Rattle.problems.proofs.Laws.{does}
-use Rattle.problems.proofs.effect_of.Statement.{statement}
-use Rattle.problems.proofs.effect_of.Tie as tie
+use Rattle.effects.proofs.Laws.{does}
+use Rattle.effects.proofs.effect_of.Statement.{statement}
+use Rattle.effects.proofs.effect_of.Tie as tie
 
 offset-low : tie.Need-single-bit-requires
 offset-low c κs = ltb→lt _ setBits (rw (c .before .x .given .1) at (c .before .before .before .pre))

@@ -1,9 +1,9 @@
 -- The loop lifts one function a turn.
 use Prim.Native.Nat.{_-_, _≤_}
 use native.Mathlib.Omega.{arith}
-use Rattle.displace.proofs.Levels.{Lifting, lifting-none, lifting-more, lifting-all}
-use Rattle.displace.proofs.lift_levels.Statement.{statement}
-use Rattle.displace.proofs.lift_levels.Tie as tie
+use Rattle.levels.proofs.Laws.{Lifting, lifting-none, lifting-more, lifting-all}
+use Rattle.levels.proofs.lift_levels.Statement.{statement}
+use Rattle.levels.proofs.lift_levels.Tie as tie
 
 abbrev Inv-loop : tie.InvT-loop
 Inv-loop work₀ m n v g₀ work g =

@@ -7,11 +7,8 @@ use lib.Dec.{leb, ltb}
 use lib.ListN.{length}
 use Rattle.model.specs.Basic.{if_then_else_, select, largest, countFrom}
 use Rattle.model.specs.Limits.{mostFuncs}
-use Rattle.model.specs.Figures.{shortest}
-use Rattle.tables.specs.declared.Header.{Header}
-use Rattle.tables.specs.Tables.{item, taskOf}
+use Rattle.tables.specs.Tables.{item}
 use Rattle.columns.specs.Columns.{columnsEnd, shortestColumn, levelColumn, Funcs, Changed}
-use Rattle.columns.specs.Displaced.{Displacing}
 
 -- the level of a displacement v: one more than how many of them displace less than v
 unfoldable pub levelAmong : (ℕ → ℕ) → ℕ → ℕ → ℕ → ℕ
@@ -51,8 +48,3 @@ pub record Lifted (m n v : ℕ) (w w′ : List ℕ) : Type 0 where
 pub record Placed (f n : ℕ) (w w′ : List ℕ) : Type 0 where
   pub changed : Changed levelColumn mostFuncs w w′
   pub levelled : (d : ℕ → ℕ) → Funcs d shortestColumn f n w → Levelled d (f + 1) n w → Levelled d f n w′
-
--- the functions from f on have D, d and their levels
-pub record Ordered (w : List ℕ) (h : Header) (f : ℕ) : Type 0 where
-  pub displacing : Displacing w h f
-  pub levels : Levelled (shortest (taskOf w h)) f (h .funcs) w

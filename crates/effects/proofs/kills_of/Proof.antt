@@ -2,9 +2,9 @@
 use native.Mathlib.Omega.{arith}
 use borrow.Author.Needs.{needs}
 use Rattle.bits.proofs.Laws.{marks-low, marks-not}
-use Rattle.problems.proofs.Laws.{marks-if, all-if}
-use Rattle.problems.proofs.kills_of.Statement.{statement}
-use Rattle.problems.proofs.kills_of.Tie as tie
+use Rattle.effects.proofs.Laws.{marks-if, all-if}
+use Rattle.effects.proofs.kills_of.Statement.{statement}
+use Rattle.effects.proofs.kills_of.Tie as tie
 
 level-takes : tie.Need-returns-3
 level-takes c =

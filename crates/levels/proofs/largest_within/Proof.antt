@@ -3,10 +3,10 @@ use Prim.Native.Nat.{_-_, _≤_}
 use native.Mathlib.Omega.{arith}
 use mathlib.Core.Path.{_≡_, sym}
 use borrow.Author.Needs.{needs}
-use Rattle.displace.specs.Levels.{largestWithin, levelIn, shortestIn}
-use Rattle.displace.proofs.Levels.{within-none, within-in, within-out}
-use Rattle.displace.proofs.largest_within.Statement.{statement}
-use Rattle.displace.proofs.largest_within.Tie as tie
+use Rattle.levels.specs.Levels.{largestWithin, levelIn, shortestIn}
+use Rattle.levels.proofs.Laws.{within-none, within-in, within-out}
+use Rattle.levels.proofs.largest_within.Statement.{statement}
+use Rattle.levels.proofs.largest_within.Tie as tie
 
 abbrev Inv-loop : tie.InvT-loop
 Inv-loop work m n level most₀ g₀ most g =

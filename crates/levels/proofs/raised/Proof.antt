@@ -2,8 +2,8 @@
 use native.Mathlib.Omega.{arith}
 use borrow.Author.Needs.{needs}
 use borrow.Author.Tests.{lt-ltb, le-ltb}
-use Rattle.displace.proofs.raised.Statement.{statement}
-use Rattle.displace.proofs.raised.Tie as tie
+use Rattle.levels.proofs.raised.Statement.{statement}
+use Rattle.levels.proofs.raised.Tie as tie
 
 returns : tie.Need-returns
 returns c =

@@ -2,10 +2,10 @@
 use Prim.Native.Nat.{_-_, _≤_}
 use native.Mathlib.Omega.{arith}
 use mathlib.Core.Path.{_≡_, sym}
-use Rattle.displace.specs.Levels.{levelAmong, shortestIn}
-use Rattle.displace.proofs.Levels.{level-none, level-turn, level-most}
-use Rattle.displace.proofs.level_among.Statement.{statement}
-use Rattle.displace.proofs.level_among.Tie as tie
+use Rattle.levels.specs.Levels.{levelAmong, shortestIn}
+use Rattle.levels.proofs.Laws.{level-none, level-turn, level-most}
+use Rattle.levels.proofs.level_among.Statement.{statement}
+use Rattle.levels.proofs.level_among.Tie as tie
 
 abbrev Inv-loop : tie.InvT-loop
 Inv-loop work m n v level₀ g₀ level g =
