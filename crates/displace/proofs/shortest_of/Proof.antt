@@ -35,6 +35,12 @@ called-least-requires c κs =
     let a = c .before .before .before .before .before .before .before .before .before .before .before .pre in
     ordered-room (a .0) (a .1)
 
+returns-2 : tie.Need-returns-2
+returns-2 c =
+    let b = c .before .before .before .before .before .before .before .before in
+    let a = b .before .before .before .before .before .pre in
+    shortest-here (a .0) (a .1) (a .2) (b .value-points .ensures) (a .3 .least) (c .before .before .lowest-level .ensures .0) (c .before .called-least .ensures)
+
 add-result : tie.Need-add-result
 add-result c =
     let b = c .before .before .before .before .before .before .before .before in
@@ -45,12 +51,6 @@ add-result c =
       shortest-here (a .0) (a .1) (a .2) (b .value-points .ensures) (a .3 .least) level (c .before .called-least .ensures),
       shortest-low (a .0 .displacing .ready .settled .formed .shaped) (b .before .before .before .before .before .args .f),
     )
-
-returns-2 : tie.Need-returns-2
-returns-2 c =
-    let b = c .before .before .before .before .before .before .before .before in
-    let a = b .before .before .before .before .before .pre in
-    shortest-here (a .0) (a .1) (a .2) (b .value-points .ensures) (a .3 .least) (c .before .before .lowest-level .ensures .0) (c .before .called-least .ensures)
 
 pub shortest-of-spec : {M : Type 1} → statement M
 shortest-of-spec =
