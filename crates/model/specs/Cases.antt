@@ -12,11 +12,11 @@ use Rattle.model.specs.declared.Ending.the-variants.{AllDone, Refused}
 use Rattle.model.specs.Text.{bytes}
 use Rattle.model.specs.Task.{Task, Judged, refused, task}
 use Rattle.model.specs.Figures.{shortest}
-use Rattle.model.specs.Sheet.{movePrice, inBlocks, reportText}
+use Rattle.model.specs.Sheet.{movePrice, inBlocks, pricedSheet, recordsOf, totalOf, reportText}
 use Rattle.model.specs.Dearest.{dearestText}
 use Rattle.model.specs.Rows.{refuse}
 use Rattle.model.specs.Refusal.{judged, workRow, pricedRows, judge, noRows}
-use Rattle.model.specs.Services.{dearestOf, runOf}
+use Rattle.model.specs.Services.{reportOf, dearestOf, runOf}
 use Rattle.model.specs.Opened.{opened}
 use Rattle.model.specs.Examples.{lines, sample, sevenSteps, withPreemption}
 
@@ -74,7 +74,7 @@ pub reports :
     ∷ "  (store 3)" ∷ "  (either 5 1)" ∷ "  (either 6 6)" ∷ "  (either 7 1)" ∷ "  (store 0)" ∷ "  (either 7 4)" ∷ ")" ∷ []))))
     ≡ lines ("(report" ∷ "  (func 0 4 4 4 0 0)" ∷ "  (at 0 4 4 4 0 0 0 0 0 0)" ∷ "  (at 1 4 4 1 0 0 0 0 0 0)"
     ∷ "  (at 2 4 4 1 0 0 0 0 0 0)" ∷ "  (at 3 4 4 4 0 0 0 0 0 0)" ∷ "  (at 4 4 4 1 0 0 0 0 0 0)" ∷ "  (at 5 4 4 1 0 0 0 0 0 0)"
-    ∷ "  (at 6 4 4 1 0 0 0 0 0 0)" ∷ "  (at 7 4 4 1 0 0 0 0 0 0)" ∷ "  (at 8 4 4 1 0 0 0 0 0 0)" ∷ ")" ∷ []))
+    ∷ "  (at 6 4 4 1 0 0 0 0 0 0)" ∷ "  (at 7 4 4 1 0 0 0 0 0 0)" ∷ "  (at 8 4 4 1 0 0 0 0 0 0)" ∷ "  (total 0)" ∷ ")" ∷ []))
     × (reportText inBlocks (the (judged (lines ("(stack 6)" ∷ "(func 0" ∷ "  (goto 1)" ∷ "  (call 1)" ∷ "  (ensure 0)"
     ∷ "  (goto 4)" ∷ "  (goto 5)" ∷ "  (goto 4)" ∷ ")" ∷ "(func 6" ∷ "  (store 2)" ∷ "  (store 5)" ∷ "  (store 1)"
     ∷ "  (call 2)" ∷ "  (ensure 6)" ∷ "  (call 2)" ∷ "  (ensure 6)" ∷ "  (store 2)" ∷ "  (either 9 9)" ∷ "  (return)" ∷ ")"
@@ -84,7 +84,7 @@ pub reports :
     ∷ "  (at 1 6 6 6 0 0 0 0 0 0)" ∷ "  (at 2 6 6 2 0 0 0 0 0 0)" ∷ "  (at 3 6 6 0 0 0 1 0 1 0)" ∷ "  (at 4 1 6 0 0 0 1 0 1 5)"
     ∷ "  (at 5 6 6 0 0 0 1 0 1 0)" ∷ "  (at 6 1 6 0 0 0 1 0 1 5)" ∷ "  (at 7 6 6 3 0 0 0 0 0 0)" ∷ "  (at 8 6 6 0 0 0 0 0 0 0)"
     ∷ "  (at 9 6 6 0 0 0 0 0 0 0)" ∷ "  (func 2 5 5 5 5 1)" ∷ "  (at 0 6 5 3 1 0 0 1 2 0)" ∷ "  (at 1 6 5 1 1 0 0 1 2 0)"
-    ∷ "  (at 2 6 5 0 1 0 0 1 2 0)" ∷ ")" ∷ []))
+    ∷ "  (at 2 6 5 0 1 0 0 1 2 0)" ∷ "  (total 10)" ∷ ")" ∷ []))
     × (reportText inBlocks (the (judged (lines ("(stack 2)" ∷ "(func 1" ∷ "  (call 2)" ∷ "  (ensure 1)" ∷ "  (call 2)"
     ∷ "  (ensure 1)" ∷ "  (call 1)" ∷ "  (ensure 1)" ∷ "  (goto 7)" ∷ "  (call 1)" ∷ "  (ensure 1)" ∷ "  (either 10 10)"
     ∷ "  (store 0)" ∷ "  (return)" ∷ ")" ∷ "(func 1" ∷ "  (either 1 4)" ∷ "  (either 2 4)" ∷ "  (call 2)" ∷ "  (ensure 1)"
@@ -95,7 +95,7 @@ pub reports :
     ∷ "  (at 10 1 1 1 0 0 0 0 0 0)" ∷ "  (at 11 1 1 0 0 0 0 0 0 0)" ∷ "  (func 1 1 1 1 0 1)" ∷ "  (at 0 2 1 0 1 0 1 1 3 0)"
     ∷ "  (at 1 2 1 0 1 0 1 1 3 0)" ∷ "  (at 2 2 1 0 1 0 1 1 3 0)" ∷ "  (at 3 2 1 0 1 0 1 1 3 0)" ∷ "  (at 4 2 1 0 1 0 1 1 3 0)"
     ∷ "  (at 5 2 1 0 1 0 1 1 3 0)" ∷ "  (at 6 2 1 0 1 0 0 1 2 0)" ∷ "  (func 2 0 0 0 0 2)" ∷ "  (at 0 2 0 0 2 0 0 2 4 0)"
-    ∷ "  (at 1 2 0 0 2 0 0 2 4 0)" ∷ ")" ∷ []))
+    ∷ "  (at 1 2 0 0 2 0 0 2 4 0)" ∷ "  (total 37)" ∷ ")" ∷ []))
 unfolding opened lines sample
 reports = (refl, refl, refl)
 
@@ -206,17 +206,17 @@ pub turns :
     ∷ "  (return)" ∷ ")" ∷ [])))) ≡ lines ("(report" ∷ "  (func 0 2 6 6 0 0)" ∷ "  (at 0 2 2 2 0 0 0 0 0 0)"
     ∷ "  (at 1 2 1 0 1 0 0 0 1 0)" ∷ "  (at 2 0 1 0 0 0 0 0 0 2)" ∷ "  (at 3 2 1 0 1 0 2 0 3 0)" ∷ "  (at 4 2 1 0 1 0 2 0 3 0)"
     ∷ "  (at 5 2 1 2 1 1 0 0 2 0)" ∷ "  (at 6 2 2 0 0 0 0 0 0 0)" ∷ "  (func 1 4 4 4 2 0)" ∷ "  (at 0 4 4 0 0 0 0 0 0 0)"
-    ∷ "  (func 2 0 0 0 0 2)" ∷ "  (at 0 2 0 0 2 0 0 2 4 0)" ∷ ")" ∷ []))
+    ∷ "  (func 2 0 0 0 0 2)" ∷ "  (at 0 2 0 0 2 0 0 2 4 0)" ∷ "  (total 13)" ∷ ")" ∷ []))
     × (reportText inBlocks (the (judged (lines ("(stack 4)" ∷ "(func 3" ∷ "  (call 1)" ∷ "  (ensure 3)" ∷ "  (return)" ∷ ")"
     ∷ "(func 1" ∷ "  (either 1 3)" ∷ "  (call 2)" ∷ "  (ensure 1)" ∷ "  (return)" ∷ ")" ∷ "(func 2" ∷ "  (return)" ∷ ")"
     ∷ [])))) ≡ lines ("(report" ∷ "  (func 0 3 4 6 0 0)" ∷ "  (at 0 3 3 0 0 0 1 0 1 0)" ∷ "  (at 1 3 3 0 0 0 1 0 1 2)"
     ∷ "  (at 2 3 3 0 0 0 0 0 0 0)" ∷ "  (func 1 1 1 3 0 1)" ∷ "  (at 0 4 1 0 3 0 1 1 5 0)" ∷ "  (at 1 4 1 0 3 0 1 1 5 0)"
-    ∷ "  (at 2 2 1 0 1 0 1 1 3 0)" ∷ "  (at 3 4 1 0 3 0 0 1 4 0)" ∷ "  (func 2 2 2 2 2 2)" ∷ "  (at 0 4 2 0 2 0 0 2 4 0)" ∷ ")"
+    ∷ "  (at 2 2 1 0 1 0 1 1 3 0)" ∷ "  (at 3 4 1 0 3 0 0 1 4 0)" ∷ "  (func 2 2 2 2 2 2)" ∷ "  (at 0 4 2 0 2 0 0 2 4 0)" ∷ "  (total 23)" ∷ ")"
     ∷ []))
     × (reportText inBlocks (the (judged (lines ("(stack 2)" ∷ "(func 1" ∷ "  (store 0)" ∷ "  (either 2 4)" ∷ "  (store 0)"
     ∷ "  (goto 4)" ∷ "  (load 0)" ∷ "  (return)" ∷ ")" ∷ [])))) ≡ lines ("(report" ∷ "  (func 0 1 1 1 0 0)"
     ∷ "  (at 0 1 1 1 0 0 0 0 0 0)" ∷ "  (at 1 1 0 1 1 1 0 0 2 0)" ∷ "  (at 2 1 1 1 0 0 0 0 0 0)" ∷ "  (at 3 1 0 1 1 1 0 0 2 0)"
-    ∷ "  (at 4 1 0 1 1 1 0 0 2 0)" ∷ "  (at 5 1 1 0 0 0 0 0 0 0)" ∷ ")" ∷ []))
+    ∷ "  (at 4 1 0 1 1 1 0 0 2 0)" ∷ "  (at 5 1 1 0 0 0 0 0 0 0)" ∷ "  (total 6)" ∷ ")" ∷ []))
     × (runOf (lines ("(stack 2)" ∷ "(func 1" ∷ "  (store 0)" ∷ "  (either 2 4)" ∷ "  (store 0)" ∷ "  (goto 4)" ∷ "  (load 0)"
     ∷ "  (return)" ∷ ")" ∷ [])) 0 1 space (0 ∷ 5 ∷ 0 ∷ 2 ∷ []) (replicate 2 0) (replicate 2 0) (replicate 1 0) .result .ending
     ≡ Refused (refuse Choice 1))
@@ -254,7 +254,7 @@ pub prices :
     ≡ lines ("(report" ∷ "  (func 0 2 6 6 0 0)" ∷ "  (at 0 2 2 2 0 0 0 0 0 0)" ∷ "  (at 1 2 1 0 11 0 11 0 22 0)"
     ∷ "  (at 2 1 1 0 0 0 11 0 11 11)" ∷ "  (at 3 2 1 2 11 11 0 0 22 0)" ∷ "  (at 4 2 2 0 0 0 0 0 0 0)"
     ∷ "  (func 1 4 4 4 11 11)" ∷ "  (at 0 5 4 1 11 0 0 11 22 0)" ∷ "  (at 1 5 0 1 15 11 0 11 37 0)"
-    ∷ "  (at 2 5 4 0 11 0 0 11 22 0)" ∷ ")" ∷ []))
+    ∷ "  (at 2 5 4 0 11 0 0 11 22 0)" ∷ "  (total 136)" ∷ ")" ∷ []))
     × (runOf sample 10 1 space sevenSteps (replicate 7 0) (replicate 5 0) (replicate 6 0) .result
     ≡ record { ending = AllDone; done = 7; moved = 22; allowed = 22 })
     × (runOf sample 10 1 space withPreemption (replicate 8 0) (replicate 5 0) (replicate 6 0) .result
@@ -271,7 +271,7 @@ pub shares :
     ∷ []))))
     ≡ lines ("(report" ∷ "  (func 0 1 4 4 0 0)" ∷ "  (at 0 1 1 0 0 0 11 0 11 0)" ∷ "  (at 1 1 1 0 0 0 11 0 11 0)"
     ∷ "  (at 2 1 1 0 0 0 0 0 0 0)" ∷ "  (func 1 1 3 3 0 11)" ∷ "  (at 0 2 1 0 11 0 11 11 33 0)" ∷ "  (at 1 2 1 0 11 0 11 11 33 0)"
-    ∷ "  (at 2 2 1 0 11 0 0 11 22 0)" ∷ "  (func 2 2 2 2 0 22)" ∷ "  (at 0 4 2 0 12 0 0 22 34 0)" ∷ ")" ∷ [])
+    ∷ "  (at 2 2 1 0 11 0 0 11 22 0)" ∷ "  (func 2 2 2 2 0 22)" ∷ "  (at 0 4 2 0 12 0 0 22 34 0)" ∷ "  (total 144)" ∷ ")" ∷ [])
 unfolding opened lines
 shares = refl
 
@@ -287,6 +287,23 @@ pub priceRows :
     × (judge (pricedRows 16384 0 1) noRows sample ≡ judged sample)
 unfolding opened lines sample
 priceRows = (refl, refl, refl, refl, refl, refl, refl, refl)
+
+-- document 02, request 5, on the example of document 01: its total in blocks and at a price, and what the service returns and leaves of an output that has
+-- room for all but the last byte
+abbrev totalAt : (ℕ → ℕ) → ℕ
+totalAt price = let t = the (judged sample) in totalOf (recordsOf t (pricedSheet price t))
+
+pub totals :
+    (totalAt inBlocks ≡ 16)
+    × (totalAt (movePrice 10 1) ≡ 136)
+    × (reportOf sample 0 1 space (replicate 280 7)
+    ≡ record {
+      result = record { verdict = verdict.Refused (refuse OutputTooSmall 281); written = 0 };
+      work = spaceAfter;
+      output = replicate 280 7;
+    })
+unfolding opened lines sample
+totals = (refl, refl, refl)
 
 -- document 02, request 2, on the example of document 01, whose eight points are all listed: in blocks, at a price, and what the service returns and leaves
 -- of an output with six bytes more than the list, and of one that is a byte too short

@@ -57,6 +57,7 @@ sampleReport =
     ∷ "  (at 0 5 4 1 1 0 0 1 2 0)"
     ∷ "  (at 1 5 0 1 5 1 0 1 7 0)"
     ∷ "  (at 2 5 4 0 1 0 0 1 2 0)"
+    ∷ "  (total 16)"
     ∷ ")"
     ∷ [])
 
@@ -91,9 +92,9 @@ pub starred :
     × (free 4 (five 1) .occupancy ≡ 0)
     × (reportOf sample 0 1 space (replicate 400 7)
     ≡ record {
-      result = record { verdict = Accepted; written = 268 };
+      result = record { verdict = Accepted; written = 281 };
       work = spaceAfter;
-      output = sampleReport ++ replicate 132 7;
+      output = sampleReport ++ replicate 119 7;
     })
     × (sampleRun sevenSteps
     ≡ record {

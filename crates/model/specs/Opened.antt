@@ -22,7 +22,7 @@ unfolding Basic.firstOf Basic.any Basic.select Basic.joined Basic.sumOf Basic.la
     Figures.afterWith Figures.highFromWith Figures.callPoints Figures.overCalls Figures.entryTo Figures.entryWith Figures.highWith Figures.spillWith
     Figures.chainTo Figures.chain Figures.firstEnsure Figures.keptNext Sheet.movePrice Sheet.costed Sheet.recordsIn Sheet.recordsOf Sheet.decimalTo
     Sheet.decimal Sheet.row
-    Sheet.funcRow Sheet.pointRow Sheet.funcRows Sheet.reportWith Dearest.dearer Dearest.dearest Dearest.dearRow Dearest.dearestWith
+    Sheet.funcRow Sheet.pointRow Sheet.totalOf Sheet.totalRow Sheet.funcRows Sheet.reportWith Dearest.dearer Dearest.dearest Dearest.dearRow Dearest.dearestWith
     Refusal.linkRow Refusal.reachRow Refusal.loadRow Refusal.callRow Refusal.firstPoint Refusal.taskRows Refusal.judged Refusal.workRow
     Refusal.priceRow Refusal.judge Refusal.outputRows Refusal.runRows Refusal.eventRows
     Plain.act Plain.eventsOf Plain.afterEvent Plain.answerOf Plain.plainFrom Run.turn Run.ranFrom Run.eventBound Run.allowedFrom

@@ -2,7 +2,7 @@
 use Prim.Native.Nat.{ℕ, zero, suc, _+_, _-_, _*_, _/_, _%_}
 use mathlib.Core.List.{List, [], _∷_, _++_, map}
 use lib.Dec.{eqb, ltb}
-use Rattle.model.specs.Basic.{if_then_else_, joined, upTo}
+use Rattle.model.specs.Basic.{if_then_else_, joined, sumOf, upTo}
 use Rattle.model.specs.Text.{bytes}
 use Rattle.model.specs.Task.{Task, func, size, count}
 use Rattle.model.specs.Figures as Figures
@@ -134,12 +134,19 @@ pointRow x =
     ∷ x .figures .fill
     ∷ [])
 
--- a function's lines, and the report
+-- the foot line (document 02, request 5): the sum of the costs of records
+unfoldable pub totalOf : List Record → ℕ
+totalOf l = sumOf (λ x. x .figures .cost) l
+
+unfoldable pub totalRow : List Record → List ℕ
+totalRow l = row (bytes "  (total") (totalOf l ∷ [])
+
+-- a function's lines, and the report: the foot line sums the records whose lines are printed
 unfoldable pub funcRows : Task → Sheet → ℕ → List ℕ
 funcRows t s f = funcRow t s f ++ joined pointRow (recordsIn t s f)
 
 unfoldable pub reportWith : Task → Sheet → List ℕ
-reportWith t s = bytes "(report\n" ++ (joined (funcRows t s) (upTo (count t)) ++ bytes ")\n")
+reportWith t s = bytes "(report\n" ++ (joined (funcRows t s) (upTo (count t)) ++ (totalRow (recordsOf t s) ++ bytes ")\n"))
 
 abbrev pub reportText : (ℕ → ℕ) → Task → List ℕ
 reportText price t = reportWith t (pricedSheet price t)

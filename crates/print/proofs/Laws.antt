@@ -12,7 +12,7 @@ use Rattle.model.specs.Basic.{joined, countFrom, upTo}
 use Rattle.model.specs.Text.{bytes}
 use Rattle.model.specs.Sheet.{decimal, row}
 use Rattle.model.specs.Services.{over}
-use Rattle.theory.proofs.Lists.{joined-append, joined-snoc, joined-next}
+use Rattle.theory.proofs.Lists.{joined-append, joined-snoc, joined-next, length-joined, sum-room}
 use Rattle.theory.proofs.Decimal.{decimal-small, decimal-large}
 use Rattle.print.specs.Print.{pasted, Wrote, spaced}
 
@@ -215,16 +215,8 @@ module _ (g : ℕ → List ℕ) where
   next-wrote n h a b = rw (joined-next g n) (wrote-on h a b)
 
   -- a piece lies before the end of all
-  further : (k n : ℕ) → length (joined g (upTo k)) ≤ length (joined g (upTo (k + n)))
-  further k zero = rw (add-zero k) (omega arith)
-  further k (suc n) =
-      let e : k + suc n ≡ k + n + 1 = omega arith in
-      rw e (omega (arith, further k n, next-length (k + n)))
-
   pub next-room : (k n : ℕ) → k < n → length (joined g (upTo k)) + length (g k) ≤ length (joined g (upTo n))
-  next-room k n h =
-      let e : k + 1 + (n - (k + 1)) ≡ n = omega arith in
-      omega (arith, next-length k, rw e at (further (k + 1) (n - (k + 1))))
+  next-room k n h = omega (arith, length-joined g (upTo k), length-joined g (upTo n), sum-room (λ i. length (g i)) k n h)
 
 -- a row of the report
 

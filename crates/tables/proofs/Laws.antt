@@ -5,7 +5,7 @@ use native.Mathlib.Decide.{decLt, ℕ-discrete}
 use native.Mathlib.Numerals.{add-one}
 use mathlib.Core.Path.{_≡_, refl, ap, sym, _∙_}
 use mathlib.Core.Bool.{Bool, true, false}
-use mathlib.Core.List.{List, [], _∷_, _++_}
+use mathlib.Core.List.{List, [], _∷_}
 use mathlib.Core.Option.{some}
 use lib.ListN.{length, getD, take, length-append, set}
 use lib.ListN.{List·getD-append}
@@ -19,6 +19,7 @@ use Rattle.model.specs.Task.{Func, size, count, func, point, empty, inAll, func
 use Rattle.tables.specs.declared.Header.{Header}
 use Rattle.tables.specs.declared.Span.{Span}
 use Rattle.model.specs.Walk.{loaded, leadsFrom, leads}
+use Rattle.theory.proofs.Lists.{sum-append}
 use Rattle.tables.specs.Tables.{pointOf, kindOf, isAccess, firstArgument, secondArgument, pointAt, frameAt, baseAt, sizeAt, pointsOf, funcIn}
 use Rattle.tables.specs.Tables.{funcOf, funcsOf, taskOf, openingLine, Stacked, none, more, sum, item}
 
@@ -147,16 +148,11 @@ stacked-within {w} (more {n} {m} k e) f h =
       | no l ↦ let j : f ≡ n = omega arith in omega (arith, e, ap (baseAt w) j, ap (sizeAt w) j)
     ]
 
-pub sum-append : (l k : List Func) → inAll (l ++ k) ≡ inAll l + inAll k
-unfolding sumOf
-sum-append [] k = omega arith
-sum-append (x ∷ l) k = let i = sum-append l k in omega arith
-
 pub sum-funcs : {w : List ℕ} {n m : ℕ} → Stacked w n m → inAll (funcsOf w n) ≡ m
 unfolding funcsOf sumOf
 sum-funcs none = refl
 sum-funcs {w} (more {n} {m} k e) =
-    sum-append (funcsOf w n) (funcOf w n ∷ [])
+    sum-append size (funcsOf w n) (funcOf w n ∷ [])
     ∙ (let i = sum-funcs k in let l = length-points w (baseAt w n) (sizeAt w n) in omega arith)
 
 pub sum-before : {w : List ℕ} {n m : ℕ} → Stacked w n m → (f : ℕ) → f < n → inAll (take f (funcsOf w n)) ≡ baseAt w f

@@ -17,6 +17,7 @@
 --   Before                   against the rule for d before request 4 no figure rises
 --   Prices                   the price of a move with a start is a price; with start 0 and each 1 report and run are those of document 01
 --   Sorting, Dearest         laws of the sorted list; the list of the dearest points is the first ten of the report's records in a strict order
+--   Total                    the total of a report is the sum of the costs of all points
 --   Faithful                 demand 3, of every sheet that obeys the rules and of the sheet of every text that run accepts
 pub mod Lists
 pub mod Firsts
@@ -47,4 +48,5 @@ pub mod Before
 pub mod Prices
 pub mod Sorting
 pub mod Dearest
+pub mod Total
 pub mod Faithful

@@ -1,18 +1,18 @@
 -- Laws of the functions of the model's Basic: what is a member of a list that they make, that the largest and the smallest number that they find is one,
 -- and lists joined one after the other. The walks and the arrivals are proved from these.
-use Prim.Native.Nat.{ℕ, zero, suc, _+_, _≤_, _<_, min, max}
+use Prim.Native.Nat.{ℕ, zero, suc, _+_, _-_, _*_, _≤_, _<_, min, max}
 use mathlib.Core.Bool.{Bool, true, false, not, _&&_, _||_}
 use mathlib.Core.List.{List, [], _∷_, List·Memᴰ, List·Memᴰ·head, List·Memᴰ·tail, List·Memᴰ·not-nil, List·Memᴰ·cases-cons, List·Memᴰ·eq-of-singleton}
 use mathlib.Core.List.{List·Memᴰ·append-cases, Memᴰ·append-left, Memᴰ·append-right, _++_, map, map-append, append-assoc, append-nil}
 use mathlib.Core.Logic.{_↔_, _⊎_, inl, inr, ⊎-elim}
 use mathlib.Core.Path.{_≡_, refl, sym, ap, _∙_}
 use native.Mathlib.Decide.{decLe, decLt, ℕ-discrete}
-use native.Mathlib.Nat.{zero-add}
+use native.Mathlib.Nat.{zero-add, add-zero}
 use native.Mathlib.Numerals.{add-one}
 use native.Mathlib.Omega.{arith}
 use lib.Dec.{T, T-not}
-use lib.ListN.{length}
-use Rattle.model.specs.Basic.{if_then_else_, any, select, joined, largest, smallest, countFrom, upTo, aboveAll, lowestFrom, lowest}
+use lib.ListN.{length, getD, length-append}
+use Rattle.model.specs.Basic.{if_then_else_, any, select, joined, sumOf, largest, smallest, countFrom, upTo, aboveAll, lowestFrom, lowest}
 use Rattle.model.specs.Walk.{Largest, Smallest}
 
 -- what holds of both ways of a test holds of the chosen one
@@ -306,3 +306,67 @@ length-upTo n = length-countFrom 0 n
 
 pub joined-next : {B : Type 0} (g : ℕ → List B) (n : ℕ) → joined g (upTo (n + 1)) ≡ joined g (upTo n) ++ g n
 joined-next g n = ap (joined g) (upTo-next n) ∙ joined-snoc g (upTo n) n
+
+-- ---- sums
+
+pub sum-append : {A : Type 0} (f : A → ℕ) (k l : List A) → sumOf f (k ++ l) ≡ sumOf f k + sumOf f l
+unfolding sumOf
+sum-append f [] l = omega arith
+sum-append f (a ∷ k) l = omega (arith, sum-append f k l)
+
+-- of numbers that are at most m
+pub sum-most : {A : Type 0} (f : A → ℕ) (m : ℕ) (l : List A) → ((a : A) → List·Memᴰ a l → f a ≤ m) → sumOf f l ≤ m * length l
+unfolding sumOf
+sum-most f m [] e = omega arith
+sum-most f m (a ∷ l) e = omega (arith, e a (List·Memᴰ·head refl), sum-most f m l (λ b k. e b (List·Memᴰ·tail k)))
+
+-- numbers that are no smaller have no smaller sum
+pub sum-mono : {A : Type 0} {f g : A → ℕ} (l : List A) → ((a : A) → List·Memᴰ a l → f a ≤ g a) → sumOf f l ≤ sumOf g l
+unfolding sumOf
+sum-mono [] e = omega arith
+sum-mono (a ∷ l) e = omega (arith, e a (List·Memᴰ·head refl), sum-mono l (λ b k. e b (List·Memᴰ·tail k)))
+
+module _ {A B : Type 0} where
+  pub sum-map : (f : B → ℕ) (g : A → B) (l : List A) → sumOf f (map g l) ≡ sumOf (λ a. f (g a)) l
+  unfolding sumOf
+  sum-map f g [] = refl
+  sum-map f g (a ∷ l) = ap (λ (n : ℕ). f (g a) + n) (sum-map f g l)
+
+  -- over lists joined one after the other, and their length
+  pub sum-joined : (f : B → ℕ) (g : A → List B) (l : List A) → sumOf f (joined g l) ≡ sumOf (λ a. sumOf f (g a)) l
+  unfolding sumOf joined
+  sum-joined f g [] = refl
+  sum-joined f g (a ∷ l) = sum-append f (g a) (joined g l) ∙ ap (λ (n : ℕ). sumOf f (g a) + n) (sum-joined f g l)
+
+  pub length-joined : (g : A → List B) (l : List A) → length (joined g l) ≡ sumOf (λ a. length (g a)) l
+  unfolding sumOf joined
+  length-joined g [] = refl
+  length-joined g (a ∷ l) = length-append (g a) (joined g l) ∙ ap (λ (n : ℕ). length (g a) + n) (length-joined g l)
+
+-- over the numbers below n + 1
+pub sum-next : (f : ℕ → ℕ) (n : ℕ) → sumOf f (upTo (n + 1)) ≡ sumOf f (upTo n) + f n
+unfolding sumOf
+sum-next f n = ap (sumOf f) (upTo-next n) ∙ sum-append f (upTo n) (n ∷ []) ∙ omega arith
+
+sum-further : (f : ℕ → ℕ) (k n : ℕ) → sumOf f (upTo k) ≤ sumOf f (upTo (k + n))
+sum-further f k zero = rw (add-zero k) (omega arith)
+sum-further f k (suc n) =
+    let e : k + suc n ≡ k + n + 1 = omega arith in
+    rw e (omega (arith, sum-further f k n, sum-next f (k + n)))
+
+-- a summand lies within the sum
+pub sum-room : (f : ℕ → ℕ) (k n : ℕ) → k < n → sumOf f (upTo k) + f k ≤ sumOf f (upTo n)
+sum-room f k n h =
+    let e : k + 1 + (n - (k + 1)) ≡ n = omega arith in
+    omega (arith, sum-next f k, rw e at (sum-further f (k + 1) (n - (k + 1))))
+
+-- over the places of a list
+sum-later : (f : ℕ → ℕ) (i n : ℕ) → sumOf f (countFrom (suc i) n) ≡ sumOf (λ j. f (suc j)) (countFrom i n)
+unfolding sumOf countFrom
+sum-later f i zero = refl
+sum-later f i (suc n) = ap (λ (m : ℕ). f (suc i) + m) (sum-later f (suc i) n)
+
+pub sum-places : {A : Type 0} (f : A → ℕ) (l : List A) (d : A) → sumOf (λ i. f (getD l i d)) (upTo (length l)) ≡ sumOf f l
+unfolding sumOf countFrom
+sum-places f [] d = refl
+sum-places f (a ∷ l) d = ap (λ (m : ℕ). f a + m) (sum-later (λ i. f (getD (a ∷ l) i d)) 0 (length l) ∙ sum-places f l d)
