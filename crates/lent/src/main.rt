@@ -18,9 +18,9 @@ impl Lent {
 
     const SHORT_WORK: usize = Limits::WORK - 1;
     // Bytes of an output that is longer than the report of the task, and of one that is one short.
-    const OUTPUT: usize = 128;
+    const OUTPUT: usize = 140;
 
-    const SHORT_OUTPUT: usize = 111;
+    const SHORT_OUTPUT: usize = 123;
     // The same for the list of the dearest points.
     const LIST: usize = 48;
 

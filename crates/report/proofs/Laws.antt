@@ -1,15 +1,16 @@
--- The lines of the report by the figures that are read back.
-use Prim.Native.Nat.{ℕ, _+_, _≤_, _<_, zero-le}
+-- The lines of the report by the figures that are read back, part after part.
+use Prim.Native.Nat.{ℕ, _+_, _-_, _≤_, _<_, zero-le}
 use native.Mathlib.Omega.{arith}
 use mathlib.Core.Path.{_≡_, refl, ap, sym, _∙_}
 use mathlib.Core.List.{List, [], _∷_, _++_, append-assoc}
 use lib.ListN.{length, length-append}
+use Rattle.model.specs.Basic.{joined, sumOf, countFrom, upTo}
 use Rattle.model.specs.Text.{bytes}
-use Rattle.model.specs.Task.{Task}
-use Rattle.model.specs.Sheet as sheet
-use Rattle.model.specs.Sheet.{row, recordAt, recordsIn, funcRow, pointRow, funcRows, reportWith, reportText}
+use Rattle.model.specs.Task.{Task, count}
+use Rattle.model.specs.Sheet.{PointSheet, row, recordAt, recordsIn, recordsOf, totalOf, totalRow, funcRow, pointRow, funcRows, reportWith, reportText}
 use Rattle.model.specs.Services.{over}
-use Rattle.theory.proofs.Lists.{joined-map}
+use Rattle.theory.proofs.Lists.{joined-map, joined-next, sum-joined, sum-next, sum-room}
+use Rattle.theory.proofs.Total.{total-in}
 use Rattle.tables.specs.declared.Header.{Header}
 use Rattle.tables.specs.declared.Span.{Span}
 use Rattle.tables.specs.Tables.{sizeAt, taskOf}
@@ -17,70 +18,157 @@ use Rattle.tables.proofs.Laws.{size-is, count-is}
 use Rattle.prices.specs.declared.Price.{Price}
 use Rattle.prices.specs.Prices.{priceOf}
 use Rattle.print.specs.Print.{Wrote}
-use Rattle.print.proofs.Laws.{pasted-start, wrote-on}
-use Rattle.figures.specs.declared.PointFigures.{PointFigures}
+use Rattle.print.proofs.Laws.{pasted-start, wrote-on, wrote-nothing, next-room}
 use Rattle.figures.specs.declared.FuncFigures.{FuncFigures}
-use Rattle.figures.specs.Figured.{InFunc, figuredOf, sheetAt, funcFigures}
-use Rattle.report.specs.Report.{pointText, pointsText, headText, funcText, funcsText}
+use Rattle.figures.specs.Figured.{InFunc, sheetAt, funcFigures}
+use Rattle.report.specs.declared.Lines.{Lines}
+use Rattle.report.specs.Report.{Part, both, firstParts, pointNumbers, pointsPart, headPart, funcPart, funcsPart, footText}
+use Rattle.report.specs.Report.{Room, Counts, Adds}
 
--- the line of a point, and of a function
-pub point-row : (price : Price) (t : Task) (f p : ℕ) (r : PointFigures) → figuredOf r ≡ sheetAt price t .at f p
-    → row (bytes "  (at") (p ∷ r .high ∷ r .dead ∷ r .need ∷ r .save ∷ r .reload ∷ r .later ∷ r .chain ∷ r .cost ∷ r .fill ∷ []) ≡ pointText price t f p
+-- ---- parts that are counted or written one after the other
+
+module _ {l m r : Lines} {a b : Part} where
+  pub counts-both : Counts l a m → Counts m b r → Counts l (both a b) r
+  counts-both x y = record { end = omega (arith, x .end, y .end, length-append (a .text) (b .text)); total = omega (arith, x .total, y .total) }
+
+  pub adds-both : {out o o′ : List ℕ} → l .end ≤ length out → Adds l a out m o → Adds m b o r o′ → Adds l (both a b) out r o′
+  adds-both h x y = record { wrote = wrote-on h (x .wrote) (y .wrote); total = omega (arith, x .total, y .total) }
+
+-- a part of one line
+module _ {l m : Lines} (a : Part) {k : ℕ} (cost : k ≡ a .cost) where
+  pub line-counted : {n : ℕ} → n ≡ length (a .text) → (m .end ≡ l .end + n) × (m .total ≡ l .total + k) → Counts l a m
+  line-counted e r = record { end = omega (arith, e, r .0); total = omega (arith, r .1, cost) }
+
+  pub line-added : {text out o : List ℕ} {n : ℕ} → text ≡ a .text → Wrote (l .end) text out n o → (m .end ≡ n) × (m .total ≡ l .total + k)
+      → Adds l a out m o
+  line-added e x r = record { wrote = rw (r .0) (rw e at x); total = omega (arith, r .1, cost) }
+
+-- what is written is counted
+pub adds-counts : {l r : Lines} {a : Part} {out o : List ℕ} → Adds l a out r o → Counts l a r
+adds-counts x = record { end = x .wrote .end; total = x .total }
+
+-- each of two has room where both have, the second after the first
+module _ {l : Lines} (a b : Part) {n : ℕ} (x : Room l (both a b) n) where
+  pub room-first : Room l a n
+  room-first = record { bytes = omega (arith, x .bytes, length-append (a .text) (b .text)); sum = omega (arith, x .sum) }
+
+  pub room-second : {m : Lines} → Counts l a m → Room m b n
+  room-second y = record {
+    bytes = omega (arith, x .bytes, y .end, length-append (a .text) (b .text));
+    sum = omega (arith, x .sum, y .total);
+  }
+
+pub room-start : {l : Lines} {a : Part} {n : ℕ} → Room l a n → l .end ≤ n
+room-start x = omega (arith, x .bytes)
+
+-- the first of many: none, and one more
+module _ (part : ℕ → Part) where
+  next-part : (n : ℕ) → firstParts part (n + 1) ≡ both (firstParts part n) (part n)
+  next-part n = λ i. record { text = joined-next (λ k. part k .text) n i; cost = sum-next (λ k. part k .cost) n i }
+
+  pub none-counted : (l : Lines) → Counts l (firstParts part 0) l
+  unfolding joined sumOf countFrom
+  none-counted l = record { end = omega arith; total = omega arith }
+
+  pub none-added : (l : Lines) (out : List ℕ) → Adds l (firstParts part 0) out l out
+  unfolding joined sumOf countFrom
+  none-added l out = record { wrote = wrote-nothing (l .end) out; total = omega arith }
+
+  module _ (n : ℕ) {l m r : Lines} where
+    pub next-counted : Counts l (firstParts part n) m → Counts m (part n) r → Counts l (firstParts part (n + 1)) r
+    next-counted x y = rw (next-part n) (counts-both x y)
+
+    pub next-added : {out o o′ : List ℕ} → l .end ≤ length out → Adds l (firstParts part n) out m o → Adds m (part n) o r o′
+        → Adds l (firstParts part (n + 1)) out r o′
+    next-added h x y = rw (next-part n) (adds-both h x y)
+
+  -- the next one has room where all have
+  pub next-has-room : (k n : ℕ) {l m : Lines} {b : ℕ} → k < n → Room l (firstParts part n) b → Counts l (firstParts part k) m → Room m (part k) b
+  next-has-room k n h x y = record {
+    bytes = omega (arith, x .bytes, y .end, next-room (λ i. part i .text) k n h);
+    sum = omega (arith, x .sum, y .total, sum-room (λ i. part i .cost) k n h);
+  }
+
+-- ---- the parts of the report
+
+-- the line of a point by its figures, and the line that opens a function
+pub point-row : {x y : PointSheet} (f : ℕ) {p : ℕ} {numbers : List ℕ} → x ≡ y → numbers ≡ pointNumbers p x
+    → row (bytes "  (at") numbers ≡ pointRow (record { fn = f; at = p; figures = y })
 unfolding pointRow
-point-row price t f p r e = ap (λ (x : sheet.PointSheet). pointRow (record { fn = f; at = p; figures = x })) e
+point-row f {p} e k = ap (row (bytes "  (at")) k ∙ ap (λ (z : PointSheet). pointRow (record { fn = f; at = p; figures = z })) e
 
 pub func-row : (price : Price) (t : Task) (f : ℕ) (r : FuncFigures) → r ≡ funcFigures price t f
-    → row (bytes "  (func") (f ∷ r .frame ∷ r .shortest ∷ r .longest ∷ r .spill ∷ r .chain ∷ []) ≡ headText price t f
+    → row (bytes "  (func") (f ∷ r .frame ∷ r .shortest ∷ r .longest ∷ r .spill ∷ r .chain ∷ []) ≡ headPart price t f .text
 unfolding funcRow funcFigures
 func-row price t f r e = ap (λ (x : FuncFigures). row (bytes "  (func") (f ∷ x .frame ∷ x .shortest ∷ x .longest ∷ x .spill ∷ x .chain ∷ [])) e
 
--- the lines of a function: its own, and those of its points
-pub func-lines : (price : Price) (w : List ℕ) (h : Header) (f : ℕ) → f < h .funcs
-    → funcText price (taskOf w h) f
-    ≡ headText price (taskOf w h) f ++ pointsText price (taskOf w h) f (sizeAt w f)
-unfolding funcRows recordsIn
-func-lines price w h f l =
-    let t = taskOf w h in
-    ap
-    (λ (r : List ℕ). headText price t f ++ r)
-    (joined-map pointRow (recordAt (sheetAt price t) f) _ _ (λ p m. refl) ∙ ap (pointsText price t f) (size-is w h f l))
-
--- the report: its first line, those of the functions, and its last
-pub report-lines : (price : Price) (w : List ℕ) (h : Header)
-    → reportText (priceOf price) (taskOf w h) ≡ bytes "(report\n" ++ funcsText price (taskOf w h) (h .funcs) ++ bytes ")\n"
-unfolding reportWith
-report-lines price w h =
-    let t = taskOf w h in
-    ap (λ (n : ℕ). bytes "(report\n" ++ (funcsText price t n ++ bytes ")\n")) (count-is w h)
-    ∙ sym (append-assoc (bytes "(report\n") (funcsText price t (h .funcs)) (bytes ")\n"))
-
-pub report-size : (price : Price) (w : List ℕ) (h : Header)
-    → length (reportText (priceOf price) (taskOf w h)) ≡ 10 + length (funcsText price (taskOf w h) (h .funcs))
-report-size price w h =
-    let l = funcsText price (taskOf w h) (h .funcs) in
-    omega (arith, ap length (report-lines price w h), length-append (bytes "(report\n" ++ l) (bytes ")\n"), length-append (bytes "(report\n") l)
-
--- the lines of a function, printed or counted as its own and those of its points
-module _ {price : Price} {w : List ℕ} {h : Header} {f : ℕ} {s : Span} (k : InFunc price w h f s) where
-  lines-are : headText price (taskOf w h) f ++ pointsText price (taskOf w h) f (s .size) ≡ funcText price (taskOf w h) f
-  lines-are =
+-- the lines of a function: the one that opens it, and those of its points
+module _ (price : Price) (w : List ℕ) (h : Header) (f : ℕ) (l : f < h .funcs) where
+  func-lines : funcPart price (taskOf w h) f .text ≡ headPart price (taskOf w h) f .text ++ pointsPart price (taskOf w h) f (sizeAt w f) .text
+  unfolding funcRows recordsIn
+  func-lines =
       let t = taskOf w h in
-      ap (λ (s : Span). headText price t f ++ pointsText price t f (s .size)) (k .span) ∙ sym (func-lines price w h f (k .low))
+      ap
+      (λ (r : List ℕ). headPart price t f .text ++ r)
+      (joined-map pointRow (recordAt (sheetAt price t) f) _ _ (λ p m. refl) ∙ ap (λ (n : ℕ). pointsPart price t f n .text) (size-is w h f l))
 
-  pub func-size : length (funcText price (taskOf w h) f)
-      ≡ length (headText price (taskOf w h) f) + length (pointsText price (taskOf w h) f (s .size))
-  func-size =
-      sym (ap length lines-are) ∙ length-append (headText price (taskOf w h) f) (pointsText price (taskOf w h) f (s .size))
+  func-cost : funcPart price (taskOf w h) f .cost ≡ 0 + pointsPart price (taskOf w h) f (sizeAt w f) .cost
+  func-cost =
+      let t = taskOf w h in
+      omega (arith, total-in t (sheetAt price t) f, ap (λ (n : ℕ). pointsPart price t f n .cost) (size-is w h f l))
 
-  pub func-wrote : {at e r : ℕ} {out o o′ : List ℕ} → at ≤ length out → Wrote at (headText price (taskOf w h) f) out e o
-      → Wrote e (pointsText price (taskOf w h) f (s .size)) o r o′ → Wrote at (funcText price (taskOf w h) f) out r o′
-  func-wrote l a b = rw (← lines-are) (wrote-on l a b)
+  pub func-parts : funcPart price (taskOf w h) f ≡ both (headPart price (taskOf w h) f) (pointsPart price (taskOf w h) f (sizeAt w f))
+  func-parts = λ i. record { text = func-lines i; cost = func-cost i }
 
--- the report, printed as its first line, those of the functions, and its last
-pub report-wrote : (price : Price) (w : List ℕ) (h : Header) {e r z : ℕ} {out o o′ o″ : List ℕ} → Wrote 0 (bytes "(report\n") out e o
-    → Wrote e (funcsText price (taskOf w h) (h .funcs)) o r o′ → Wrote r (bytes ")\n") o′ z o″
-    → (z ≡ length (reportText (priceOf price) (taskOf w h))) × (o″ ≡ over (reportText (priceOf price) (taskOf w h)) out)
-report-wrote price w h {z = z} {out = out} {o″ = o″} a b d =
-    let l = reportText (priceOf price) (taskOf w h) in
-    let x : Wrote 0 l out z o″ = rw (report-lines price w h) (wrote-on zero-le (wrote-on zero-le a b) d) in
-    (omega (arith, x .end), x .buffer ∙ pasted-start l out)
+-- the same of a function that has been read
+pub opened-func : {price : Price} {w : List ℕ} {h : Header} {f : ℕ} {s : Span} → InFunc price w h f s
+    → funcPart price (taskOf w h) f ≡ both (headPart price (taskOf w h) f) (pointsPart price (taskOf w h) f (s .size))
+opened-func {price} {w} {h} {f} k =
+    func-parts price w h f (k .low) ∙ sym (ap (λ (s : Span). both (headPart price (taskOf w h) f) (pointsPart price (taskOf w h) f (s .size))) (k .span))
+
+-- the costs of all functions are the total
+module _ (price : Price) (w : List ℕ) (h : Header) where
+  pub total-all : funcsPart price (taskOf w h) (h .funcs) .cost ≡ totalOf (recordsOf (taskOf w h) (sheetAt price (taskOf w h)))
+  unfolding totalOf recordsOf
+  total-all =
+      let t = taskOf w h in
+      ap (λ (n : ℕ). funcsPart price t n .cost) (sym (count-is w h)) ∙ sym (sum-joined (λ x. x .figures .cost) (recordsIn t (sheetAt price t)) (upTo (count t)))
+
+  -- the report: its first line, those of the functions, the foot line, and its last
+  report-lines : reportText (priceOf price) (taskOf w h)
+      ≡ bytes "(report\n" ++ funcsPart price (taskOf w h) (h .funcs) .text ++ footText price (taskOf w h) ++ bytes ")\n"
+  unfolding reportWith
+  report-lines =
+      let t = taskOf w h in
+      let foot = footText price t in
+      let funcs = funcsPart price t (h .funcs) .text in
+      ap (λ (n : ℕ). bytes "(report\n" ++ (funcsPart price t n .text ++ (foot ++ bytes ")\n"))) (count-is w h)
+      ∙ sym (append-assoc (bytes "(report\n") funcs (foot ++ bytes ")\n"))
+      ∙ sym (append-assoc (bytes "(report\n" ++ funcs) foot (bytes ")\n"))
+
+  pub report-size : length (reportText (priceOf price) (taskOf w h))
+      ≡ 10 + length (funcsPart price (taskOf w h) (h .funcs) .text) + length (footText price (taskOf w h))
+  report-size =
+      let l = funcsPart price (taskOf w h) (h .funcs) .text in
+      let foot = footText price (taskOf w h) in
+      omega (
+        arith,
+        ap length report-lines,
+        length-append (bytes "(report\n" ++ l ++ foot) (bytes ")\n"),
+        length-append (bytes "(report\n" ++ l) foot,
+        length-append (bytes "(report\n") l,
+      )
+
+  -- the foot line, by the sum of the costs of all functions
+  pub foot-row : (n : ℕ) → n ≡ 0 + funcsPart price (taskOf w h) (h .funcs) .cost → row (bytes "  (total") (n ∷ []) ≡ footText price (taskOf w h)
+  unfolding totalRow
+  foot-row n e = ap (λ (m : ℕ). row (bytes "  (total") (m ∷ [])) (omega (arith, e, total-all))
+
+  -- the report, written line after line
+  pub report-wrote : {e r y z : ℕ} {out o o′ o″ o‴ : List ℕ} → Wrote 0 (bytes "(report\n") out e o
+      → Wrote e (funcsPart price (taskOf w h) (h .funcs) .text) o r o′ → Wrote r (footText price (taskOf w h)) o′ y o″ → Wrote y (bytes ")\n") o″ z o‴
+      → (z ≡ length (reportText (priceOf price) (taskOf w h))) × (o‴ ≡ over (reportText (priceOf price) (taskOf w h)) out)
+  report-wrote {z = z} {out = out} {o‴ = o‴} a b c d =
+      let l = reportText (priceOf price) (taskOf w h) in
+      let x : Wrote 0 l out z o‴ = rw report-lines (wrote-on zero-le (wrote-on zero-le (wrote-on zero-le a b) c) d) in
+      (omega (arith, x .end), x .buffer ∙ pasted-start l out)

@@ -1,40 +1,40 @@
--- How long the lines of a report can be.
-use Prim.Native.Nat.{ℕ, zero, suc, _+_, _-_, _*_, _≤_, _<_}
+-- How long the lines of a report can be, and how large the total.
+use Prim.Native.Nat.{ℕ, zero, suc, _+_, _-_, _*_, _^_, _≤_, _<_}
 use native.Mathlib.Omega.{arith}
 use native.Mathlib.Numerals.{add-one}
-use mathlib.Core.Path.{refl}
+use mathlib.Core.Path.{_≡_, refl, ap}
 use mathlib.Core.List.{List, [], _∷_}
-use lib.ListN.{length}
-use Rattle.model.specs.Limits.{mostStack, mostFuncs, mostPoints}
+use lib.ListN.{length, length-append}
+use Rattle.model.specs.Limits.{mostStack, mostFuncs, mostPoints, mostStart, mostEach}
 use Rattle.model.specs.Text.{bytes}
-use Rattle.model.specs.Task.{Task, func}
+use Rattle.model.specs.Task.{Task, task, func}
 use Rattle.model.specs.Figures as model
-use Rattle.model.specs.Sheet.{costed, pointRow, funcRow, reportText}
+use Rattle.model.specs.Sheet.{movePrice, costed, pricedSheet, Record, recordsOf, totalOf, pointRow, funcRow, totalRow, reportText}
+use Rattle.model.specs.Refusal.{judged}
 use Rattle.model.specs.WellFormed.{Shaped}
+use Rattle.theory.proofs.Lists.{sum-most}
+use Rattle.theory.proofs.Accepted.{judged-as}
 use Rattle.theory.proofs.Rules.{dead-frame, need-frame}
+use Rattle.theory.proofs.Dearest.{record-is}
+use Rattle.theory.proofs.Total.{records-count}
 use Rattle.tables.specs.declared.Header.{Header}
-use Rattle.tables.specs.declared.Span.{Span}
 use Rattle.tables.specs.Tables.{sizeAt, taskOf, sum}
 use Rattle.tables.proofs.Laws.{points-next, points-all}
 use Rattle.prices.specs.declared.Price.{Price}
-use Rattle.prices.specs.Prices.{priceOf, mostPrice}
+use Rattle.prices.specs.Prices.{priceOf, mostPrice, Small}
 use Rattle.prices.proofs.Laws.{price-small}
-use Rattle.figures.proofs.Limits.{high-low, next-low, fill-low, chain-low, entry-low}
-use Rattle.figures.specs.Figured.{Figured, InFunc, sheetAt}
+use Rattle.figures.proofs.Limits.{high-low, next-low, fill-low, chain-low, entry-low, cost-low}
+use Rattle.figures.specs.Figured.{Figured, sheetAt}
 use Rattle.figures.proofs.Read.{there, size-low}
-use Rattle.print.proofs.Laws.{none-length, next-length, next-room}
+use Rattle.print.proofs.Laws.{none-length, next-length}
 use Rattle.print.proofs.Digits.{Within, taken, digits-row}
-use Rattle.report.specs.Report.{pointText, pointsText, headText, funcText, funcsText}
-use Rattle.report.specs.Report.{mostPointText, mostHeadText, endsText, mostLength, mostReport}
+use Rattle.report.specs.declared.Lines.{Lines}
+use Rattle.report.specs.Report.{Part, pointNumbers, pointPart, pointsPart, headPart, funcPart, funcsPart, footText, Room, mostTotal}
+use Rattle.report.specs.Report.{mostPointText, mostHeadText, mostFootText, mostLength, mostReport}
 use Rattle.columns.proofs.Limits.{frame-low, longest-low, shortest-low}
-use Rattle.report.proofs.Laws.{report-size, func-size}
+use Rattle.report.proofs.Laws.{report-size, func-parts, total-all}
 
--- the numbers of the line of a point and of the first line of a function, and their digits
-abbrev pointNumbers : Price → Task → ℕ → ℕ → List ℕ
-pointNumbers price t f p =
-    let x = sheetAt price t .at f p in
-    p ∷ x .high ∷ x .dead ∷ x .need ∷ x .save ∷ x .reload ∷ x .later ∷ x .chain ∷ x .cost ∷ x .fill ∷ []
-
+-- the digits of the numbers of a point's line, and the numbers of a function's first line with theirs
 abbrev pointDigits : List ℕ
 pointDigits = 3 ∷ 2 ∷ 2 ∷ 2 ∷ 5 ∷ 5 ∷ 5 ∷ 7 ∷ 7 ∷ 5 ∷ []
 
@@ -62,7 +62,7 @@ module _ {price : Price} {w : List ℕ} {h : Header} (k : Figured price w h) (f 
   chain-few = omega (arith, chain-low shaped price (k .small) f, k .settled .holds .few)
 
   -- the line of a point
-  point-digits : (p : ℕ) → p < mostPoints → Within (pointNumbers price (taskOf w h) f p) pointDigits
+  point-digits : (p : ℕ) → p < mostPoints → Within (pointNumbers p (sheetAt price (taskOf w h) .at f p)) pointDigits
   unfolding costed
   point-digits p m =
       let t = taskOf w h in
@@ -73,9 +73,9 @@ module _ {price : Price} {w : List ℕ} {h : Header} (k : Figured price w h) (f 
       let fill = priced (model.fill t f p) (fill-low shaped f p) in
       omega (arith, high-low shaped f p, dead-frame x p, need-frame x p, frame-few, chain-few)
 
-  point-most : (p : ℕ) → p < mostPoints → length (pointText price (taskOf w h) f p) ≤ mostPointText
+  point-most : (p : ℕ) → p < mostPoints → length (pointPart price (taskOf w h) f p .text) ≤ mostPointText
   unfolding pointRow taken
-  point-most p m = omega (arith, digits-row (bytes "  (at") (pointNumbers price (taskOf w h) f p) pointDigits (point-digits p m))
+  point-most p m = omega (arith, digits-row (bytes "  (at") (pointNumbers p (sheetAt price (taskOf w h) .at f p)) pointDigits (point-digits p m))
 
   -- the first line of a function
   head-digits : Within (headNumbers price (taskOf w h) f) headDigits
@@ -85,42 +85,73 @@ module _ {price : Price} {w : List ℕ} {h : Header} (k : Figured price w h) (f 
       let spill = priced (model.spill t f) (omega (arith, entry-low shaped f, frame-low shaped f)) in
       omega (arith, k .settled .holds .few, frame-few, shortest-low shaped f, longest-low shaped f, chain-few)
 
-  head-most : length (headText price (taskOf w h) f) ≤ mostHeadText
+  head-most : length (headPart price (taskOf w h) f .text) ≤ mostHeadText
   unfolding funcRow taken
   head-most = omega (arith, digits-row (bytes "  (func") (headNumbers price (taskOf w h) f) headDigits head-digits)
 
   -- the lines of its first n points, and all its lines
-  points-most : (n : ℕ) → n ≤ mostPoints → length (pointsText price (taskOf w h) f n) ≤ mostPointText * n
-  points-most zero m = omega (arith, none-length (pointText price (taskOf w h) f))
+  points-most : (n : ℕ) → n ≤ mostPoints → length (pointsPart price (taskOf w h) f n .text) ≤ mostPointText * n
+  points-most zero m = omega (arith, none-length (λ p. pointPart price (taskOf w h) f p .text))
   points-most (suc n) m =
-      rw (← add-one n) (omega (arith, next-length (pointText price (taskOf w h) f) n, point-most n m, points-most n (omega arith)))
+      rw (← add-one n) (omega (arith, next-length (λ p. pointPart price (taskOf w h) f p .text) n, point-most n m, points-most n (omega arith)))
 
-  func-most : length (funcText price (taskOf w h) f) ≤ mostHeadText + mostPointText * sizeAt w f
-  func-most = let i = there k l refl in omega (arith, func-size i, head-most, points-most (sizeAt w f) (size-low i))
+  func-most : length (funcPart price (taskOf w h) f .text) ≤ mostHeadText + mostPointText * sizeAt w f
+  func-most =
+      let t = taskOf w h in
+      omega (
+        arith,
+        ap (λ (x : Part). length (x .text)) (func-parts price w h f l),
+        length-append (headPart price t f .text) (pointsPart price t f (sizeAt w f) .text),
+        head-most,
+        points-most (sizeAt w f) (size-low (there k l refl)),
+      )
+
+-- ---- the total
+
+-- each cost is three moves and a chain, and there are at most 1,024 of them
+pub total-low : (price : Price) {t : Task} → Shaped t → Small price → totalOf (recordsOf t (sheetAt price t)) ≤ mostTotal
+unfolding totalOf
+total-low price {t} s small =
+    let l = recordsOf t (sheetAt price t) in
+    let each = sum-most (λ (x : Record). x .figures .cost) (mostPrice * (mostFuncs + 2)) l (λ x m.
+    let r = record-is (sheetAt price t) t m in
+    rw (r .4) (cost-low s price small (r .0) (r .1) (omega (arith, r .2, s .few)))) in
+    omega (arith, each, records-count t (sheetAt price t), s .all)
+
+-- the total of every text that is accepted, at every price in its range, fits 32 bits
+pub total-fits : (text : List ℕ) (t : Task) (start each : ℕ) → judged text ≡ task t → start ≤ mostStart → each ≤ mostEach
+    → totalOf (recordsOf t (pricedSheet (movePrice start each) t)) < 2 ^ 32
+total-fits text t start each e l m =
+    omega (arith, total-low (record { start = start; each = each }) (judged-as text t e .formed .shaped) (record { start = l; each = m }))
+
+-- ---- the report
 
 module _ {price : Price} {w : List ℕ} {h : Header} (k : Figured price w h) where
   -- the lines of the first n functions
-  funcs-most : (n : ℕ) → n ≤ h .funcs → length (funcsText price (taskOf w h) n) ≤ mostHeadText * n + mostPointText * sum (sizeAt w) n
-  funcs-most zero m = omega (arith, none-length (funcText price (taskOf w h)))
+  funcs-most : (n : ℕ) → n ≤ h .funcs → length (funcsPart price (taskOf w h) n .text) ≤ mostHeadText * n + mostPointText * sum (sizeAt w) n
+  funcs-most zero m = omega (arith, none-length (λ f. funcPart price (taskOf w h) f .text))
   funcs-most (suc n) m =
-      rw (← add-one n) (omega (arith, next-length (funcText price (taskOf w h)) n, points-next w n, func-most k n m, funcs-most n (omega arith)))
+      rw (← add-one n)
+      (omega (arith, next-length (λ f. funcPart price (taskOf w h) f .text) n, points-next w n, func-most k n m, funcs-most n (omega arith)))
+
+  pub total-small : totalOf (recordsOf (taskOf w h) (sheetAt price (taskOf w h))) ≤ mostTotal
+  total-small = total-low price (k .settled .formed .shaped) (k .small)
+
+  -- the foot line
+  foot-most : length (footText price (taskOf w h)) ≤ mostFootText
+  unfolding totalRow taken
+  foot-most =
+      let n = totalOf (recordsOf (taskOf w h) (sheetAt price (taskOf w h))) in
+      omega (arith, digits-row (bytes "  (total") (n ∷ []) (10 ∷ []) (omega (arith, total-small)))
 
   -- a report
   pub report-most : length (reportText (priceOf price) (taskOf w h)) ≤ mostLength h
-  report-most = omega (arith, report-size price w h, funcs-most (h .funcs) (omega arith), points-all (k .settled .holds .stacked))
+  report-most = omega (arith, report-size price w h, funcs-most (h .funcs) (omega arith), foot-most, points-all (k .settled .holds .stacked))
 
   pub report-small : length (reportText (priceOf price) (taskOf w h)) ≤ mostReport
   report-small = omega (arith, report-most, k .settled .holds .few, k .settled .holds .all)
 
-  -- the sums on the way to its length are no larger
-  pub funcs-small : (n : ℕ) → n < h .funcs → endsText + length (funcsText price (taskOf w h) n) + length (funcText price (taskOf w h) n) ≤ mostReport
-  funcs-small n m =
-      let r = next-room (funcText price (taskOf w h)) n (h .funcs) m in
-      omega (arith, r, report-size price w h, report-small)
-
-module _ {price : Price} {w : List ℕ} {h : Header} {f : ℕ} {s : Span} (k : InFunc price w h f s) where
-  pub func-small : length (headText price (taskOf w h) f) + length (pointsText price (taskOf w h) f (s .size)) ≤ mostReport
-  func-small = omega (arith, func-size k, funcs-small (k .figured) f (k .low))
-
-  pub points-small : (n : ℕ) → n < s .size → length (pointsText price (taskOf w h) f n) + length (pointText price (taskOf w h) f n) ≤ mostReport
-  points-small n m = omega (arith, next-room (pointText price (taskOf w h) f) n (s .size) m, func-small)
+  -- all functions have room after the first line, where the report has
+  pub funcs-room : (n : ℕ) (l : Lines) → length (reportText (priceOf price) (taskOf w h)) ≤ n → l .end ≡ 8 → l .total ≡ 0
+      → Room l (funcsPart price (taskOf w h) (h .funcs)) n
+  funcs-room n l r e z = record { bytes = omega (arith, report-size price w h); sum = omega (arith, total-all price w h, total-small) }

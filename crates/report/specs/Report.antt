@@ -1,30 +1,81 @@
--- The text of a report, piece by piece, and how long it can be.
-use Prim.Native.Nat.{ℕ, _+_, _*_}
-use mathlib.Core.List.{List}
+-- The report, piece by piece: its lines, the sum of the costs that they show, and how long it can be.
+use Prim.Native.Nat.{ℕ, _+_, _*_, _≤_}
+use mathlib.Core.Path.{_≡_}
+use mathlib.Core.List.{List, [], _∷_, _++_}
+use lib.ListN.{length}
 use Rattle.model.specs.Limits.{mostFuncs, mostInAll}
-use Rattle.model.specs.Basic.{joined, upTo}
+use Rattle.model.specs.Basic.{joined, sumOf, upTo}
 use Rattle.model.specs.Task.{Task}
-use Rattle.model.specs.Sheet.{recordAt, funcRow, pointRow, funcRows}
+use Rattle.model.specs.Sheet.{PointSheet, recordAt, recordsIn, recordsOf, totalOf, funcRow, pointRow, totalRow, funcRows}
 use Rattle.tables.specs.declared.Header.{Header}
 use Rattle.prices.specs.declared.Price.{Price}
+use Rattle.prices.specs.Prices.{mostPrice}
 use Rattle.figures.specs.Figured.{sheetAt}
+use Rattle.print.specs.Print.{Wrote}
+use Rattle.report.specs.declared.Lines.{Lines}
+
+-- the numbers of the line of point p with these figures
+abbrev pub pointNumbers : ℕ → PointSheet → List ℕ
+pointNumbers p x =
+    p ∷ x .high ∷ x .dead ∷ x .need ∷ x .save ∷ x .reload ∷ x .later ∷ x .chain ∷ x .cost ∷ x .fill ∷ []
+
+-- ---- the parts of a report
+
+-- lines of the report, and the sum of the costs that they show
+pub record Part : Type 0 where
+  pub text : List ℕ
+  pub cost : ℕ
+
+-- one part after another, and the first n of many
+abbrev pub both : Part → Part → Part
+both a b = record { text = a .text ++ b .text; cost = a .cost + b .cost }
+
+abbrev pub firstParts : (ℕ → Part) → ℕ → Part
+firstParts part n = record { text = joined (λ i. part i .text) (upTo n); cost = sumOf (λ i. part i .cost) (upTo n) }
 
 -- the line of point p of function f, and those of its first n points
-abbrev pub pointText : Price → Task → ℕ → ℕ → List ℕ
-pointText price t f p = pointRow (recordAt (sheetAt price t) f p)
+abbrev pub pointPart : Price → Task → ℕ → ℕ → Part
+pointPart price t f p = record { text = pointRow (recordAt (sheetAt price t) f p); cost = sheetAt price t .at f p .cost }
 
-abbrev pub pointsText : Price → Task → ℕ → ℕ → List ℕ
-pointsText price t f n = joined (pointText price t f) (upTo n)
+abbrev pub pointsPart : Price → Task → ℕ → ℕ → Part
+pointsPart price t f n = firstParts (pointPart price t f) n
 
 -- the line that opens function f, all its lines, and those of the first n functions
-abbrev pub headText : Price → Task → ℕ → List ℕ
-headText price t f = funcRow t (sheetAt price t) f
+abbrev pub headPart : Price → Task → ℕ → Part
+headPart price t f = record { text = funcRow t (sheetAt price t) f; cost = 0 }
 
-abbrev pub funcText : Price → Task → ℕ → List ℕ
-funcText price t f = funcRows t (sheetAt price t) f
+abbrev pub funcPart : Price → Task → ℕ → Part
+funcPart price t f = record { text = funcRows t (sheetAt price t) f; cost = totalOf (recordsIn t (sheetAt price t) f) }
 
-abbrev pub funcsText : Price → Task → ℕ → List ℕ
-funcsText price t n = joined (funcText price t) (upTo n)
+abbrev pub funcsPart : Price → Task → ℕ → Part
+funcsPart price t n = firstParts (funcPart price t) n
+
+-- the foot line
+abbrev pub footText : Price → Task → List ℕ
+footText price t = totalRow (recordsOf t (sheetAt price t))
+
+-- ---- lines that are counted or written after those so far
+
+-- the most that the costs of all points add up to
+abbrev pub mostTotal : ℕ
+mostTotal = mostPrice * (mostFuncs + 2) * mostInAll
+
+-- they have room in so many bytes, and their costs in a sum of 32 bits
+pub record Room (lines : Lines) (part : Part) (room : ℕ) : Type 0 where
+  pub bytes : lines .end + length (part .text) ≤ room
+  pub sum : lines .total + part .cost ≤ mostTotal
+
+-- they are counted
+pub record Counts (lines : Lines) (part : Part) (r : Lines) : Type 0 where
+  pub end : r .end ≡ lines .end + length (part .text)
+  pub total : r .total ≡ lines .total + part .cost
+
+-- they are written into out, which is then out′
+pub record Adds (lines : Lines) (part : Part) (out : List ℕ) (r : Lines) (out′ : List ℕ) : Type 0 where
+  pub wrote : Wrote (lines .end) (part .text) out (r .end) out′
+  pub total : r .total ≡ lines .total + part .cost
+
+-- ---- how long it can be
 
 -- the most bytes of a point's line: 3 digits for its number, 2 for high, dead and need, 5 for each price, 7 for the chain and the cost
 abbrev pub mostPointText : ℕ
@@ -34,13 +85,17 @@ mostPointText = 60
 abbrev pub mostHeadText : ℕ
 mostHeadText = 39
 
+-- of the foot line: 10 digits for the total
+abbrev pub mostFootText : ℕ
+mostFootText = 21
+
 -- of the first and the last line together
 abbrev pub endsText : ℕ
 endsText = 10
 
 -- of a report with this header, and of every report
 abbrev pub mostLength : Header → ℕ
-mostLength h = endsText + mostHeadText * h .funcs + mostPointText * h .points
+mostLength h = endsText + mostFootText + mostHeadText * h .funcs + mostPointText * h .points
 
 abbrev pub mostReport : ℕ
-mostReport = endsText + mostHeadText * mostFuncs + mostPointText * mostInAll
+mostReport = endsText + mostFootText + mostHeadText * mostFuncs + mostPointText * mostInAll

@@ -1,22 +1,23 @@
-// The report of a task whose figures stand in the columns: how long it is, and its bytes in a lent buffer.
+// The report of a task whose figures stand in the columns: how long it is, and its bytes in a lent buffer. The costs are summed while their lines are
+// counted or written, because the foot line shows the sum.
 ghost use mathlib.Core.Path.{_≡_};
 ghost use Prim.Native.Nat.{_+_, _<_, _≤_};
 ghost use lib.ListN.{length};
-ghost use Rattle.model.specs.Limits.{mostFuncs, mostInAll};
+ghost use Rattle.model.specs.Limits.{mostFuncs, mostPoints, mostInAll};
 ghost use Rattle.model.specs.Text.{bytes};
 ghost use Rattle.model.specs.Sheet.{row, reportText};
 ghost use Rattle.model.specs.Services.{over};
 ghost use Rattle.tables.specs.Tables.{taskOf};
 ghost use Rattle.prices.specs.Prices.{priceOf};
-ghost use Rattle.print.specs.Print.{Wrote};
-ghost use Rattle.figures.specs.Figured.{Figured, InFunc};
-ghost use Rattle.report.specs.Report.{pointText, pointsText, headText, funcText, funcsText};
-ghost use Rattle.report.specs.Report.{mostLength, mostReport};
+ghost use Rattle.figures.specs.Figured.{Figured, InFunc, figuredOf};
+ghost use Rattle.report.specs.Report.{pointNumbers, pointPart, pointsPart, headPart, funcPart, funcsPart};
+ghost use Rattle.report.specs.Report.{mostTotal, mostLength, mostReport, Room, Counts, Adds};
+use figures::PointFigures;
 use prices::Price;
 use tables::Header;
 use tables::Span;
 
-// The most bytes of the first and the last line together, of a function's first line, and of a point's line.
+// The most bytes of the first and the last line together, of a function's first line, of a point's line, and of the foot line.
 struct Most;
 
 impl Most {
@@ -25,14 +26,34 @@ impl Most {
     const HEAD: usize = 39;
 
     const POINT: usize = 60;
+
+    const FOOT: usize = 21;
 }
 
-// The numbers of the line of point p of function f, which is s.
-fn point_numbers(work: &[u32], h: Header, price: Price, f: usize, s: Span, p: usize) -> [u32; 10]
-    requires { ⌜ InFunc price (now work) h f s × (p < s .size) ⌝ }
-    ensures { λ r. ⌜ (row (bytes "  (at") r ≡ pointText price (taskOf (now (work .entry)) h) f p) × (length r ≡ 10) ⌝ }
+// The lines so far: the byte at which they end, and the sum of the costs that they show.
+struct Lines {
+    end: usize,
+    total: u32,
+}
+
+// These lines and one more, which ends at this byte and shows this cost.
+fn and_line(lines: Lines, end: usize, cost: u32) -> Lines
+    requires { ⌜ lines .total + cost ≤ mostTotal ⌝ }
+    ensures { λ r. ⌜ (r .end ≡ end) × (r .total ≡ lines .total + cost) ⌝ }
 {
-    let x = figures::point_figures(work, h, price, f, s, p);
+    Lines {
+        end,
+        total: lines.total + cost,
+    }
+}
+
+// ---- the lines of a point
+
+// The numbers of the line of point p, which has these figures.
+fn point_numbers(p: usize, x: PointFigures) -> [u32; 10]
+    requires { ⌜ p < mostPoints ⌝ }
+    ensures { λ r. ⌜ r ≡ pointNumbers p (figuredOf x) ⌝ }
+{
     [
         p as u32,
         x.high,
@@ -47,97 +68,144 @@ fn point_numbers(work: &[u32], h: Header, price: Price, f: usize, s: Span, p: us
     ]
 }
 
-// How many bytes the line has.
-fn point_length(work: &[u32], h: Header, price: Price, f: usize, s: Span, p: usize) -> usize
-    requires { ⌜ InFunc price (now work) h f s × (p < s .size) ⌝ }
-    ensures { λ r. ⌜ r ≡ length (pointText price (taskOf (now (work .entry)) h) f p) ⌝ }
-{
-    print::row_length(b"  (at", &point_numbers(work, h, price, f, s, p))
-}
-
-// Writes the line from byte at on, and returns where it ends.
-fn put_point(
-    out: &mut [u8],
-    at: usize,
+// Counts the line of point p of function f, which is s.
+fn count_point(
+    lines: Lines,
     work: &[u32],
     h: Header,
     price: Price,
     f: usize,
     s: Span,
     p: usize,
-) -> usize
-    requires { ⌜ InFunc price (now work) h f s × (p < s .size) × (at + length (pointText price (taskOf (now work) h) f p) ≤ length (now out)) ⌝ }
-    ensures { λ r. ⌜ Wrote at (pointText price (taskOf (now (work .entry)) h) f p) (now (out .entry)) r (now (out .exit)) ⌝ }
+) -> Lines
+    requires { ⌜ InFunc price (now work) h f s × (p < s .size) × Room lines (pointPart price (taskOf (now work) h) f p) mostReport ⌝ }
+    ensures { λ r. ⌜ Counts lines (pointPart price (taskOf (now (work .entry)) h) f p) r ⌝ }
 {
-    print::put_row(out, at, b"  (at", &point_numbers(work, h, price, f, s, p))
+    let x = figures::point_figures(work, h, price, f, s, p);
+    let length = print::row_length(b"  (at", &point_numbers(p, x));
+    and_line(lines, lines.end + length, x.cost)
 }
 
-// The numbers of the line that opens function f.
-fn func_numbers(work: &[u32], h: Header, price: Price, f: usize) -> [u32; 6]
-    requires { ⌜ Figured price (now work) h × (f < h .funcs) ⌝ }
-    ensures { λ r. ⌜ (row (bytes "  (func") r ≡ headText price (taskOf (now (work .entry)) h) f) × (length r ≡ 6) ⌝ }
-{
-    let x = figures::func_figures(work, h, price, f);
-    [f as u32, x.frame, x.shortest, x.longest, x.spill, x.chain]
-}
-
-// How many bytes the lines of the points of function f have, which is s.
-fn points_length(work: &[u32], h: Header, price: Price, f: usize, s: Span) -> usize
-    requires { ⌜ InFunc price (now work) h f s ⌝ }
-    ensures { λ r. ⌜ r ≡ length (pointsText price (taskOf (now (work .entry)) h) f (s .size)) ⌝ }
-{
-    let size = s.size;
-    let mut n: usize = 0;
-    let mut p: usize = 0;
-    while p < size {
-        n += point_length(work, h, price, f, s, p);
-        p += 1;
-    }
-    n
-}
-
-// Writes them from byte at on, and returns where they end.
-fn put_points(
+// Writes it.
+fn put_point(
     out: &mut [u8],
-    at: usize,
+    lines: Lines,
     work: &[u32],
     h: Header,
     price: Price,
     f: usize,
     s: Span,
-) -> usize
-    requires { ⌜ InFunc price (now work) h f s × (at + length (pointsText price (taskOf (now work) h) f (s .size)) ≤ length (now out)) ⌝ }
-    ensures { λ r. ⌜ Wrote at (pointsText price (taskOf (now (work .entry)) h) f (s .size)) (now (out .entry)) r (now (out .exit)) ⌝ }
+    p: usize,
+) -> Lines
+    requires { ⌜ InFunc price (now work) h f s × (p < s .size) × Room lines (pointPart price (taskOf (now work) h) f p) (length (now out)) ⌝ }
+    ensures { λ r. ⌜ Adds lines (pointPart price (taskOf (now (work .entry)) h) f p) (now (out .entry)) r (now (out .exit)) ⌝ }
+{
+    let x = figures::point_figures(work, h, price, f, s, p);
+    let end = print::put_row(out, lines.end, b"  (at", &point_numbers(p, x));
+    and_line(lines, end, x.cost)
+}
+
+// ---- the lines of a function
+
+// Counts the lines of the points of function f, which is s.
+fn count_points(lines: Lines, work: &[u32], h: Header, price: Price, f: usize, s: Span) -> Lines
+    requires { ⌜ InFunc price (now work) h f s × Room lines (pointsPart price (taskOf (now work) h) f (s .size)) mostReport ⌝ }
+    ensures { λ r. ⌜ Counts lines (pointsPart price (taskOf (now (work .entry)) h) f (s .size)) r ⌝ }
 {
     let size = s.size;
-    let mut end = at;
+    let mut so_far = lines;
     let mut p: usize = 0;
     while p < size {
-        end = put_point(out, end, work, h, price, f, s, p);
+        so_far = count_point(so_far, work, h, price, f, s, p);
         p += 1;
     }
-    end
+    so_far
 }
 
-// How many bytes the lines of function f have.
-fn func_length(work: &[u32], h: Header, price: Price, f: usize) -> usize
+// Writes them.
+fn put_points(
+    out: &mut [u8],
+    lines: Lines,
+    work: &[u32],
+    h: Header,
+    price: Price,
+    f: usize,
+    s: Span,
+) -> Lines
+    requires { ⌜ InFunc price (now work) h f s × Room lines (pointsPart price (taskOf (now work) h) f (s .size)) (length (now out)) ⌝ }
+    ensures { λ r. ⌜ Adds lines (pointsPart price (taskOf (now (work .entry)) h) f (s .size)) (now (out .entry)) r (now (out .exit)) ⌝ }
+{
+    let size = s.size;
+    let mut so_far = lines;
+    let mut p: usize = 0;
+    while p < size {
+        so_far = put_point(out, so_far, work, h, price, f, s, p);
+        p += 1;
+    }
+    so_far
+}
+
+// The numbers of the line that opens function f.
+fn func_numbers(work: &[u32], h: Header, price: Price, f: usize) -> [u32; 6]
     requires { ⌜ Figured price (now work) h × (f < h .funcs) ⌝ }
-    ensures { λ r. ⌜ r ≡ length (funcText price (taskOf (now (work .entry)) h) f) ⌝ }
+    ensures { λ r. ⌜ (row (bytes "  (func") r ≡ headPart price (taskOf (now (work .entry)) h) f .text) × (length r ≡ 6) ⌝ }
 {
-    let s = tables::span_at(work, f);
-    print::row_length(b"  (func", &func_numbers(work, h, price, f))
-        + points_length(work, h, price, f, s)
+    let x = figures::func_figures(work, h, price, f);
+    [f as u32, x.frame, x.shortest, x.longest, x.spill, x.chain]
 }
 
-// Writes them from byte at on, and returns where they end.
-fn put_func(out: &mut [u8], at: usize, work: &[u32], h: Header, price: Price, f: usize) -> usize
-    requires { ⌜ Figured price (now work) h × (f < h .funcs)
-        × (at + length (funcText price (taskOf (now work) h) f) ≤ length (now out)) ⌝ }
-    ensures { λ r. ⌜ Wrote at (funcText price (taskOf (now (work .entry)) h) f) (now (out .entry)) r (now (out .exit)) ⌝ }
+// Counts the lines of function f. The one that opens it shows no cost.
+fn count_func(lines: Lines, work: &[u32], h: Header, price: Price, f: usize) -> Lines
+    requires { ⌜ Figured price (now work) h × (f < h .funcs) × Room lines (funcPart price (taskOf (now work) h) f) mostReport ⌝ }
+    ensures { λ r. ⌜ Counts lines (funcPart price (taskOf (now (work .entry)) h) f) r ⌝ }
 {
     let s = tables::span_at(work, f);
-    let end = print::put_row(out, at, b"  (func", &func_numbers(work, h, price, f));
-    put_points(out, end, work, h, price, f, s)
+    let length = print::row_length(b"  (func", &func_numbers(work, h, price, f));
+    let opened = and_line(lines, lines.end + length, 0);
+    count_points(opened, work, h, price, f, s)
+}
+
+// Writes them.
+fn put_func(out: &mut [u8], lines: Lines, work: &[u32], h: Header, price: Price, f: usize) -> Lines
+    requires { ⌜ Figured price (now work) h × (f < h .funcs) × Room lines (funcPart price (taskOf (now work) h) f) (length (now out)) ⌝ }
+    ensures { λ r. ⌜ Adds lines (funcPart price (taskOf (now (work .entry)) h) f) (now (out .entry)) r (now (out .exit)) ⌝ }
+{
+    let s = tables::span_at(work, f);
+    let end = print::put_row(out, lines.end, b"  (func", &func_numbers(work, h, price, f));
+    let opened = and_line(lines, end, 0);
+    put_points(out, opened, work, h, price, f, s)
+}
+
+// ---- the report
+
+// Counts the lines of all functions.
+fn count_funcs(lines: Lines, work: &[u32], h: Header, price: Price) -> Lines
+    requires { ⌜ Figured price (now work) h × Room lines (funcsPart price (taskOf (now work) h) (h .funcs)) mostReport ⌝ }
+    ensures { λ r. ⌜ Counts lines (funcsPart price (taskOf (now (work .entry)) h) (h .funcs)) r ⌝ }
+{
+    let funcs = h.funcs;
+    let mut so_far = lines;
+    let mut f: usize = 0;
+    while f < funcs {
+        so_far = count_func(so_far, work, h, price, f);
+        f += 1;
+    }
+    so_far
+}
+
+// Writes them.
+fn put_funcs(out: &mut [u8], lines: Lines, work: &[u32], h: Header, price: Price) -> Lines
+    requires { ⌜ Figured price (now work) h × Room lines (funcsPart price (taskOf (now work) h) (h .funcs)) (length (now out)) ⌝ }
+    ensures { λ r. ⌜ Adds lines (funcsPart price (taskOf (now (work .entry)) h) (h .funcs)) (now (out .entry)) r (now (out .exit)) ⌝ }
+{
+    let funcs = h.funcs;
+    let mut so_far = lines;
+    let mut f: usize = 0;
+    while f < funcs {
+        so_far = put_func(out, so_far, work, h, price, f);
+        f += 1;
+    }
+    so_far
 }
 
 // How many bytes a report with this header has at most, whatever its figures are.
@@ -145,7 +213,7 @@ pub fn most_length(h: Header) -> usize
     requires { ⌜ (h .funcs ≤ mostFuncs) × (h .points ≤ mostInAll) ⌝ }
     ensures { λ r. ⌜ r ≡ mostLength h ⌝ }
 {
-    Most::ENDS + Most::HEAD * h.funcs + Most::POINT * h.points
+    Most::ENDS + Most::FOOT + Most::HEAD * h.funcs + Most::POINT * h.points
 }
 
 // How many bytes the report has.
@@ -153,29 +221,13 @@ pub fn report_length(work: &[u32], h: Header, price: Price) -> usize
     requires { ⌜ Figured price (now work) h ⌝ }
     ensures { λ r. ⌜ (r ≡ length (reportText (priceOf price) (taskOf (now (work .entry)) h))) × (r ≤ mostReport) ⌝ }
 {
-    let funcs = h.funcs;
-    let mut n = b"(report\n".len() + b")\n".len();
-    let mut f: usize = 0;
-    while f < funcs {
-        n += func_length(work, h, price, f);
-        f += 1;
-    }
-    n
-}
-
-// Writes the lines of all functions from byte at on, and returns where they end.
-fn put_funcs(out: &mut [u8], at: usize, work: &[u32], h: Header, price: Price) -> usize
-    requires { ⌜ Figured price (now work) h × (at + length (funcsText price (taskOf (now work) h) (h .funcs)) ≤ length (now out)) ⌝ }
-    ensures { λ r. ⌜ Wrote at (funcsText price (taskOf (now (work .entry)) h) (h .funcs)) (now (out .entry)) r (now (out .exit)) ⌝ }
-{
-    let funcs = h.funcs;
-    let mut end = at;
-    let mut f: usize = 0;
-    while f < funcs {
-        end = put_func(out, end, work, h, price, f);
-        f += 1;
-    }
-    end
+    let opened = Lines {
+        end: b"(report\n".len(),
+        total: 0,
+    };
+    let lines = count_funcs(opened, work, h, price);
+    let foot = print::row_length(b"  (total", &[lines.total]);
+    lines.end + foot + b")\n".len()
 }
 
 // Writes the report over the first bytes of the output, and returns how many they are.
@@ -185,6 +237,11 @@ pub fn put_report(output: &mut [u8], work: &[u32], h: Header, price: Price) -> u
         × (now (output .exit) ≡ over (reportText (priceOf price) (taskOf (now (work .entry)) h)) (now (output .entry))) ⌝ }
 {
     let first = print::put(output, 0, b"(report\n");
-    let end = put_funcs(output, first, work, h, price);
+    let opened = Lines {
+        end: first,
+        total: 0,
+    };
+    let lines = put_funcs(output, opened, work, h, price);
+    let end = print::put_row(output, lines.end, b"  (total", &[lines.total]);
     print::put(output, end, b")\n")
 }

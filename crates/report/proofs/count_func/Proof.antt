@@ -1,28 +1,35 @@
--- Its first line and those of its points are counted.
-use native.Mathlib.Omega.{arith}
-use mathlib.Core.Path.{ap}
+-- The line that opens the function is counted, and then those of its points.
+use mathlib.Core.Path.{refl, ap, _∙_}
 use lib.ListN.{length}
+use Rattle.tables.specs.Tables.{taskOf}
 use Rattle.figures.proofs.Read.{there}
-use Rattle.report.proofs.Laws.{func-size}
-use Rattle.report.proofs.Limits.{func-small}
+use Rattle.report.specs.Report.{headPart, pointsPart}
+use Rattle.report.proofs.Laws.{line-counted, counts-both, room-second, opened-func}
 use borrow.Author.Needs.{needs}
-use Rattle.report.proofs.func_length.Statement.{statement}
-use Rattle.report.proofs.func_length.Tie as tie
-
-add-result : tie.Need-add-result
-add-result c =
-    let a = c .before .before .before .before .before .before .before .pre in
-    let k = there (a .0) (a .1) (c .before .before .before .before .before .span-at .ensures) in
-    omega (arith, func-small k, ap length (c .before .before .before .func-numbers .ensures .0))
+use Rattle.report.proofs.count_func.Statement.{statement}
+use Rattle.report.proofs.count_func.Tie as tie
 
 returns : tie.Need-returns
 returns c =
-    let a = c .before .before .before .before .before .before .before .pre in
-    let k = there (a .0) (a .1) (c .before .before .before .before .before .span-at .ensures) in
-    omega (arith, func-size k, ap length (c .before .before .before .func-numbers .ensures .0))
+    let start = c .before .before .before .before .before .before .before .before .before in
+    let a = start .args in
+    let k = there (start .pre .0) (start .pre .1) (c .before .before .before .before .before .before .before .span-at .ensures) in
+    let own = c .before .before .before .row-length .ensures .0 ∙ ap length (c .before .before .before .before .before .func-numbers .ensures .0) in
+    let head = line-counted (headPart (a .price) (taskOf (a .work .now) (a .h)) (a .f)) refl own (c .before .and-line .ensures) in
+    rw (opened-func k) (counts-both head (c .count-points .ensures))
 
-pub func-length-spec : {M : Type 1} → statement M
-func-length-spec =
+count-points-requires : tie.Need-count-points-requires
+count-points-requires c κs =
+    let start = c .before .before .before .before .before .before .before .before in
+    let a = start .args in
+    let k = there (start .pre .0) (start .pre .1) (c .before .before .before .before .before .before .span-at .ensures) in
+    let own = c .before .before .row-length .ensures .0 ∙ ap length (c .before .before .before .before .func-numbers .ensures .0) in
+    let part = headPart (a .price) (taskOf (a .work .now) (a .h)) (a .f) in
+    let points = pointsPart (a .price) (taskOf (a .work .now) (a .h)) (a .f) (c .before .before .before .before .before .before .span-at .result .size) in
+    (k, room-second part points (rw (opened-func k) at (start .pre .2)) (line-counted part refl own (c .and-line .ensures)))
+
+pub count-func-spec : {M : Type 1} → statement M
+count-func-spec =
     tie.close
     (tie.spec
     (λ c κs. search needs)
@@ -30,6 +37,7 @@ func-length-spec =
     (λ c κs. search needs)
     (λ c. search needs)
     (λ c κs. search needs)
+    (λ c. search needs)
     (λ c κs. search needs)
-    add-result
+    count-points-requires
     returns)

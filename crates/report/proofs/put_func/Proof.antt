@@ -1,32 +1,44 @@
--- Its first line is written, and then those of its points.
+-- The line that opens the function is written, and then those of its points.
 use native.Mathlib.Omega.{arith}
-use mathlib.Core.Path.{ap}
+use mathlib.Core.Path.{refl, ap}
 use lib.ListN.{length}
+use Rattle.tables.specs.Tables.{taskOf}
 use Rattle.figures.proofs.Read.{there}
-use Rattle.report.proofs.Laws.{func-size, func-wrote}
+use Rattle.report.specs.Report.{headPart, pointsPart}
+use Rattle.report.proofs.Laws.{line-added, adds-both, adds-counts, room-first, room-second, room-start, opened-func}
 use borrow.Author.Needs.{needs}
 use Rattle.report.proofs.put_func.Statement.{statement}
 use Rattle.report.proofs.put_func.Tie as tie
 
+returns : tie.Need-returns
+returns c =
+    let start = c .before .before .before .before .before .before .before .before .before .before .before .before .before .before .before in
+    let a = start .args in
+    let k = there (start .pre .0) (start .pre .1) (c .before .before .before .before .before .before .before .before .before .before .before .before .span-at .ensures) in
+    let part = headPart (a .price) (taskOf (a .work .now) (a .h)) (a .f) in
+    let head = line-added part refl (c .before .before .before .before .before .before .before .before .before .func-numbers .ensures .0) (c .before .before .before .before .before .before .before .put-row .ensures) (c .before .before .before .before .and-line .ensures) in
+    rw (opened-func k) (adds-both (room-start (start .pre .2)) head (c .before .before .put-points .ensures))
+
 put-row-requires : tie.Need-put-row-requires
 put-row-requires c κs =
-    let a = c .before .before .before .before .before .before .before .pre in
-    let k = there (a .0) (a .1) (c .before .before .before .before .span-at .ensures) in
-    omega (arith, func-size k, ap length (c .before .func-numbers .ensures .0))
+    let start = c .before .before .before .before .before .before .before in
+    let a = start .args in
+    let k = there (start .pre .0) (start .pre .1) (c .before .before .before .before .span-at .ensures) in
+    let points = pointsPart (a .price) (taskOf (a .work .now) (a .h)) (a .f) (c .before .before .before .before .span-at .result .size) in
+    let part = headPart (a .price) (taskOf (a .work .now) (a .h)) (a .f) in
+    let room = room-first part points (rw (opened-func k) at (start .pre .2)) in
+    omega (arith, room .bytes, ap length (c .before .func-numbers .ensures .0))
 
 put-points-requires : tie.Need-put-points-requires
 put-points-requires c κs =
-    let a = c .before .before .before .before .before .before .before .before .before .before .before .pre in
-    let k = there (a .0) (a .1) (c .before .before .before .before .before .before .before .before .span-at .ensures) in
-    (k, omega (arith, func-size k, ap length (c .before .before .before .before .before .func-numbers .ensures .0)))
-
-returns : tie.Need-returns
-returns c =
-    let a = c .before .before .before .before .before .before .before .before .before .before .before .before .before .before .pre in
-    let k = there (a .0) (a .1) (c .before .before .before .before .before .before .before .before .before .before .before .span-at .ensures) in
-    let own = c .before .before .before .before .before .before .before .before .func-numbers .ensures .0 in
-    let head = rw own at (c .before .before .before .before .before .before .put-row .ensures) in
-    func-wrote k (omega arith) head (c .before .before .put-points .ensures)
+    let start = c .before .before .before .before .before .before .before .before .before .before .before .before in
+    let a = start .args in
+    let k = there (start .pre .0) (start .pre .1) (c .before .before .before .before .before .before .before .before .before .span-at .ensures) in
+    let part = headPart (a .price) (taskOf (a .work .now) (a .h)) (a .f) in
+    let head = line-added part refl (c .before .before .before .before .before .before .func-numbers .ensures .0) (c .before .before .before .before .put-row .ensures) (c .before .and-line .ensures) in
+    let points = pointsPart (a .price) (taskOf (a .work .now) (a .h)) (a .f) (c .before .before .before .before .before .before .before .before .before .span-at .result .size) in
+    let room = room-second part points (rw (opened-func k) at (start .pre .2)) (adds-counts head) in
+    (k, record { bytes = omega (arith, room .bytes); sum = room .sum })
 
 pub put-func-spec : {M : Type 1} → statement M
 put-func-spec =
@@ -37,6 +49,7 @@ put-func-spec =
     (λ c κs. search needs)
     (λ c. search needs)
     put-row-requires
+    (λ c κs. search needs)
     put-points-requires
     (λ c. search needs)
     returns)

@@ -1,33 +1,34 @@
--- The loop's invariant: the lines of the first f functions are written, and end at byte end.
+-- The loop's invariant: the lines of the first f functions are written.
 use native.Mathlib.Omega.{arith}
 use Prim.Native.Nat.{_-_, _≤_}
 use mathlib.Core.Path.{_≡_, refl}
 use lib.ListN.{length}
 use Rattle.tables.specs.Tables.{taskOf}
-use Rattle.print.specs.Print.{Wrote}
-use Rattle.print.proofs.Laws.{none-wrote, next-wrote, next-room}
-use Rattle.report.specs.Report.{funcText, funcsText}
+use Rattle.report.specs.Report.{funcPart, funcsPart, Adds}
+use Rattle.report.proofs.Laws.{adds-counts, none-added, next-added, next-has-room, room-start}
 use Rattle.report.proofs.put_funcs.Statement.{statement}
 use Rattle.report.proofs.put_funcs.Tie as tie
 
 abbrev Inv-loop : tie.InvT-loop
-Inv-loop out₀ at work h price funcs end₀ f₀ out end f =
-    (f ≤ h .funcs) × (length out ≡ length out₀) × Wrote at (funcsText price (taskOf work h) f) out₀ end out
+Inv-loop out₀ work h price funcs lines f₀ out so-far f =
+    (f ≤ h .funcs) × (length out ≡ length out₀) × Adds lines (funcsPart price (taskOf work h) f) out₀ so-far out
 
 abbrev μ-loop : tie.MeasureT-loop
-μ-loop out₀ at work h price funcs end₀ f₀ out end f = h .funcs - f
+μ-loop out₀ work h price funcs lines f₀ out so-far f = h .funcs - f
 
 loop-holds : tie.Need-loop-holds Inv-loop μ-loop
 loop-holds c =
     let a = c .before .before .args in
-    (omega arith, refl, none-wrote (funcText (a .price) (taskOf (a .work .now) (a .h))) (a .at) (a .out .now))
+    (omega arith, refl, none-added (funcPart (a .price) (taskOf (a .work .now) (a .h))) (a .lines) (a .out .now))
 
 put-func-requires : tie.Need-put-func-requires Inv-loop μ-loop
 put-func-requires c κs =
     let start = c .before .before .before .before .before in
     let a = start .args in
-    let g = funcText (a .price) (taskOf (a .work .now) (a .h)) in
-    (start .pre .0, omega arith, omega (arith, next-room g (c .before .before .loop .f) (a .h .funcs) (omega arith)))
+    let l = c .before .before .loop in
+    let part = funcPart (a .price) (taskOf (a .work .now) (a .h)) in
+    let room = next-has-room part (l .f) (a .h .funcs) (omega arith) (start .pre .1) (adds-counts (l .inv .2)) in
+    (start .pre .0, omega arith, rw (l .inv .1) room)
 
 add-f : tie.Need-add-f Inv-loop μ-loop
 add-f c = omega (arith, c .before .before .before .before .before .before .before .before .pre .0 .settled .holds .few)
@@ -37,10 +38,11 @@ loop-less c = omega arith
 
 loop-again : tie.Need-loop-again Inv-loop μ-loop
 loop-again c =
-    let a = c .before .before .before .before .before .before .before .before .args in
+    let start = c .before .before .before .before .before .before .before .before in
+    let a = start .args in
     let l = c .before .before .before .before .before .loop in
-    let g = funcText (a .price) (taskOf (a .work .now) (a .h)) in
-    (omega arith, omega arith, next-wrote g (l .f) (omega arith) (l .inv .2) (c .before .before .put-func .ensures))
+    let part = funcPart (a .price) (taskOf (a .work .now) (a .h)) in
+    (omega arith, omega arith, next-added part (l .f) (room-start (start .pre .1)) (l .inv .2) (c .before .before .put-func .ensures))
 
 same-length : tie.Need-same-length Inv-loop μ-loop
 same-length c = omega arith

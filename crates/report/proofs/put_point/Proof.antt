@@ -1,24 +1,46 @@
--- The line is the row of its numbers.
+-- The line is the row of the numbers, and the cost is one of the figures.
 use native.Mathlib.Omega.{arith}
 use mathlib.Core.Path.{ap}
 use lib.ListN.{length}
+use Rattle.model.specs.Sheet.{PointSheet}
+use Rattle.tables.specs.Tables.{taskOf}
+use Rattle.figures.proofs.Read.{size-low}
+use Rattle.report.specs.Report.{pointPart}
+use Rattle.report.proofs.Laws.{point-row, line-added}
 use borrow.Author.Needs.{needs}
 use Rattle.report.proofs.put_point.Statement.{statement}
 use Rattle.report.proofs.put_point.Tie as tie
 
-put-row-requires : tie.Need-put-row-requires
-put-row-requires c κs = omega (arith, ap length (c .before .point-numbers .ensures .0))
-
 returns : tie.Need-returns
-returns c = rw (c .before .before .before .before .point-numbers .ensures .0) at (c .before .before .put-row .ensures)
+returns c =
+    let a = c .before .before .before .before .before .before .before .before .before .before .before .args in
+    let figures = c .before .before .before .before .before .before .before .before .point-figures .ensures in
+    line-added
+    (pointPart (a .price) (taskOf (a .work .now) (a .h)) (a .f) (a .p))
+    (ap (λ (x : PointSheet). x .cost) figures)
+    (point-row (a .f) figures (c .before .before .before .before .before .point-numbers .ensures))
+    (c .before .before .before .put-row .ensures)
+    (c .and-line .ensures)
+
+point-numbers-requires : tie.Need-point-numbers-requires
+point-numbers-requires c κs = omega (arith, size-low (c .before .before .before .before .before .pre .0))
+
+put-row-requires : tie.Need-put-row-requires
+put-row-requires c κs =
+    omega (arith, ap length (point-row (c .before .before .before .before .before .before .before .args .f) (c .before .before .before .before .point-figures .ensures) (c .before .point-numbers .ensures)), c .before .before .before .before .before .before .before .pre .2 .bytes)
+
+and-line-requires : tie.Need-and-line-requires
+and-line-requires c κs = omega (arith, ap (λ (x : PointSheet). x .cost) (c .before .before .before .before .before .before .before .point-figures .ensures), c .before .before .before .before .before .before .before .before .before .before .pre .2 .sum)
 
 pub put-point-spec : {M : Type 1} → statement M
 put-point-spec =
     tie.close
     (tie.spec
-    (λ c. search needs)
     (λ c κs. search needs)
     (λ c. search needs)
+    point-numbers-requires
+    (λ c. search needs)
     put-row-requires
+    and-line-requires
     (λ c. search needs)
     returns)

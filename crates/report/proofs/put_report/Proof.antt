@@ -1,9 +1,19 @@
--- The first line, those of the functions, and the last.
+-- The first line is written, those of the functions, the foot line, and the last.
 use native.Mathlib.Omega.{arith}
-use Rattle.report.proofs.Laws.{report-size, report-wrote}
+use mathlib.Core.Path.{refl, ap}
+use lib.ListN.{length}
+use Rattle.report.proofs.Laws.{report-size, foot-row, report-wrote}
+use Rattle.report.proofs.Limits.{funcs-room}
 use borrow.Author.Needs.{needs}
 use Rattle.report.proofs.put_report.Statement.{statement}
 use Rattle.report.proofs.put_report.Tie as tie
+
+returns : tie.Need-returns
+returns c =
+    let a = c .before .before .before .before .before .before .before .before .before .before .before .before .before .before .before .before .before .before .before .before .before .before .args in
+    let funcs = c .before .before .before .before .before .before .before .before .before .before .before .before .before .put-funcs .ensures in
+    let foot = rw (foot-row (a .price) (a .work .now) (a .h) _ (funcs .total)) at (c .before .before .before .before .before .before .before .put-row .ensures) in
+    report-wrote (a .price) (a .work .now) (a .h) (c .before .before .before .before .before .before .before .before .before .before .before .before .before .before .before .before .before .put .ensures) (funcs .wrote) foot (c .before .before .put2 .ensures)
 
 put-requires : tie.Need-put-requires
 put-requires c κs = let a = c .before .before .before .before .args in omega (arith, report-size (a .price) (a .work .now) (a .h))
@@ -11,20 +21,21 @@ put-requires c κs = let a = c .before .before .before .before .args in omega (a
 put-funcs-requires : tie.Need-put-funcs-requires
 put-funcs-requires c κs =
     let start = c .before .before .before .before .before .before .before .before in
-    let a = start .args in
-    (start .pre .0, omega (arith, report-size (a .price) (a .work .now) (a .h)))
+    (start .pre .0, funcs-room (start .pre .0) _ _ (omega (arith, start .pre .1)) (c .before .before .before .put .ensures .end) refl)
+
+put-row-requires : tie.Need-put-row-requires
+put-row-requires c κs =
+    let a = c .before .before .before .before .before .before .before .before .before .before .before .before .before .before .args in
+    let funcs = c .before .before .before .before .before .put-funcs .ensures in
+    let foot = ap length (foot-row (a .price) (a .work .now) (a .h) _ (funcs .total)) in
+    omega (arith, foot, funcs .wrote .end, report-size (a .price) (a .work .now) (a .h))
 
 put-requires-2 : tie.Need-put-requires-2
 put-requires-2 c κs =
-    let a = c .before .before .before .before .before .before .before .before .before .before .before .before .before .args in
-    omega (arith, report-size (a .price) (a .work .now) (a .h))
-
-returns : tie.Need-returns
-returns c =
-    let a = c .before .before .before .before .before .before .before .before .before .before .before .before .before .before .before .before .args in
-    let first = c .before .before .before .before .before .before .before .before .before .before .before .put .ensures in
-    let funcs = c .before .before .before .before .before .before .before .put-funcs .ensures in
-    report-wrote (a .price) (a .work .now) (a .h) first funcs (c .before .before .put2 .ensures)
+    let a = c .before .before .before .before .before .before .before .before .before .before .before .before .before .before .before .before .before .before .before .args in
+    let funcs = c .before .before .before .before .before .before .before .before .before .before .put-funcs .ensures in
+    let foot = ap length (foot-row (a .price) (a .work .now) (a .h) _ (funcs .total)) in
+    omega (arith, foot, funcs .wrote .end, c .before .before .before .before .put-row .ensures .end, report-size (a .price) (a .work .now) (a .h))
 
 pub put-report-spec : {M : Type 1} → statement M
 put-report-spec =
@@ -33,6 +44,9 @@ put-report-spec =
     (λ c. search needs)
     put-requires
     put-funcs-requires
+    (λ c. search needs)
+    (λ c. search needs)
+    put-row-requires
     (λ c. search needs)
     put-requires-2
     (λ c. search needs)
