@@ -44,7 +44,8 @@ uint32_t felknost_check(const uint8_t *text, size_t length);
  *
  * start and each are the price of a move of blocks between cache and memory: start for beginning it, 0 to 255, and each for every block moved, 1 to 255.
  * A move of no blocks costs nothing. With 0 and 1 a price is a number of blocks. On the sheet spill, chain, save, reload, later, cost and fill are prices,
- * each move priced by itself; K, d, D, high, dead and need are blocks.
+ * each move priced by itself; K, d, D, high, dead and need are blocks. The line before the last is "  (total T)": T is the sum of cost over all points of
+ * the task, and is below 2^32.
  *
  * result gets three numbers: CODE, PLACE and how many bytes were written. CODE and PLACE are 0 where the text is accepted; else they are as above, and
  * three rows are new:
@@ -61,7 +62,7 @@ uint32_t felknost_check(const uint8_t *text, size_t length);
  */
 #define FELKNOST_WORK 16384
 
-/* Bytes of output that are enough for every task and every start and each: no report has more than 63,946. */
+/* Bytes of output that are enough for every task and every start and each: no report has more than 63,967. */
 #define FELKNOST_OUTPUT 65536
 
 uint32_t felknost_report(const uint8_t *text, size_t text_length, uint32_t start, uint32_t each, uint8_t *output, size_t output_length,

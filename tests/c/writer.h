@@ -173,8 +173,8 @@ static void prepare(void)
     room_report_traps();
     /* First of all, so that the dynamic linker looks memset up on this stack too. */
     stacks();
-    texts.room = room_of(2 * PAGE);
-    outputs.room = room_of(PAGE);
+    texts.room = room_of(4 * PAGE);
+    outputs.room = room_of(FELKNOST_OUTPUT);
     works.room = room_of(20 * PAGE);
     results.room = room_of(PAGE);
 }

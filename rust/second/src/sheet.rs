@@ -1,4 +1,4 @@
-//! The report: the figures as text.
+//! The report: the figures as text, and the sum of their costs.
 
 use std::fmt::Write;
 
@@ -11,9 +11,24 @@ pub fn report(text: &[u8], start: u32, each: u32, work_len: usize, out: &mut [u8
     write(print, text, start, each, work_len, out)
 }
 
+/// What stands between the lines of the functions and the last line of a report.
+#[derive(Clone, Copy, Debug, PartialEq, Eq)]
+pub enum Foot {
+    /// Nothing, as before request 5.
+    None,
+    /// A line with the total of the costs of all points.
+    Total,
+}
+
 /// The report as a string.
 pub fn print(task: &Task, figures: &Figures) -> String {
+    print_with(Foot::Total, task, figures)
+}
+
+/// The report as a string, with this foot.
+pub fn print_with(foot: Foot, task: &Task, figures: &Figures) -> String {
     let mut sheet = String::from("(report\n");
+    let mut total = 0;
     for (number, func) in task.funcs.iter().enumerate() {
         let own = &figures.funcs[number];
         let row = [func.frame, own.shortest, own.longest, own.spill, own.chain];
@@ -32,7 +47,12 @@ pub fn print(task: &Task, figures: &Figures) -> String {
                 point.fill,
             ];
             line(&mut sheet, "at", index, &row);
+            total += u64::from(point.cost);
         }
+    }
+    if foot == Foot::Total {
+        // Writing to a string does not fail.
+        let _ = writeln!(sheet, "  (total {total})");
     }
     sheet.push_str(")\n");
     sheet

@@ -11,7 +11,7 @@ mod written;
 pub use guarded::{is_noise_from, noise, Guarded, Noise};
 pub use rules::{figures_of, report_by, run_by};
 pub use services::{check, run, run_at, verdict, Lent, Ran};
-pub use sheets::{rows, whole_report};
+pub use sheets::{rows, split_total, sum_of_costs, whole_report};
 pub use texts::{called, deep, prices, steps, text, TWO};
 pub use written::{
     assert_binding, assert_short_results, dearest_points_at, report, report_at, Wanted, Written,

@@ -131,7 +131,7 @@ type Binding = fn(&[u8], u32, u32, &mut [u8], &mut [u32]) -> Result<usize, Refus
 
 /// Requires of a function of the binding what is wanted of [`TWO`], in blocks, where it has this length, and at a start of 10; and the refusals 14, 15, 23 and 2.
 pub fn assert_binding(function: Binding, length: u32, wanted: impl Fn(&[u8], Price) -> Vec<u8>) {
-    let mut output = [7; 300];
+    let mut output = [7; 400];
     let mut work = vec![7; felknost::WORK];
     let text = TWO.as_bytes();
     for (start, each) in [(0, 1), (10, 1)] {

@@ -49,6 +49,7 @@ fn report_records(report: &[u8]) -> Vec<Record> {
             ("at", &[point, _, _, _, _, _, _, _, cost, _]) => {
                 records.push(Record::of(func, point, cost));
             }
+            ("total", &[_]) => {}
             _ => panic!("a line {word} {numbers:?}"),
         }
     }
@@ -79,7 +80,7 @@ fn assert_list(text: &[u8], price: Price, output: usize, wanted: &[u8], case: &i
 fn vectors_dearest() {
     for path in tasks("report") {
         let text = read(&path);
-        let wanted = list_of(&expected(&path, "report"));
+        let wanted = list_of(&expected(&path));
         for output in wanted.len() - 2..wanted.len() + 3 {
             assert_list(&text, Price::BLOCKS, output, &wanted, &path.display());
         }

@@ -6,9 +6,10 @@ use std::path::PathBuf;
 
 use generate::Price;
 use second::figures::{Displacement, FuncFigures};
+use second::sheet::Foot;
 use second::text::{Point, Task};
 use second::{admit, WORK_MIN};
-use tests::{figures_of, report_by, rows, whole_report};
+use tests::{figures_of, rows, whole_report};
 use vectors::{read, tasks};
 
 /// How many generated texts of each kind are compared under both rules, and how many of the first kind are counted.
@@ -16,12 +17,18 @@ const WRAPPERS: u64 = 3_000;
 const VALID: u64 = 1_000;
 const COUNTED: u64 = 2_000;
 
-/// The columns of a func line that the rule may change, and those of an at line.
+/// The columns of a func line that the rule may change, those of an at line, and the total.
 const SHORTEST: usize = 2;
 const SPILL: usize = 4;
 const HIGH: usize = 1;
 const SAVE: usize = 4;
 const COST: usize = 8;
+const TOTAL: usize = 0;
+
+/// The report by the smallest of all calls.
+fn report_before(text: &[u8], price: Price) -> String {
+    tests::report_by(Displacement::Smallest, Foot::Total, text, price)
+}
 
 /// d of each function of a report.
 fn shortest(report: &[u8]) -> Vec<u32> {
@@ -32,7 +39,7 @@ fn shortest(report: &[u8]) -> Vec<u32> {
 
 /// d of each function: by the smallest of all calls, and in the report, in which both implementations agree.
 fn both(text: &str) -> [Vec<u32>; 2] {
-    let before = report_by(Displacement::Smallest, text.as_bytes(), Price::BLOCKS);
+    let before = report_before(text.as_bytes(), Price::BLOCKS);
     let since = whole_report(text.as_bytes(), Price::BLOCKS);
     [shortest(before.as_bytes()), shortest(&since)]
 }
@@ -229,11 +236,12 @@ struct Changed {
     high: u32,
     save: u32,
     cost: u32,
+    total: u32,
 }
 
 impl Changed {
-    /// Compares a line of the report with the one by the smallest of all calls: d may only rise, spill, high, save and cost may only fall, and nothing
-    /// else may differ.
+    /// Compares a line of the report with the one by the smallest of all calls: d may only rise, spill, high, save, cost and the total may only fall, and
+    /// nothing else may differ.
     fn count(&mut self, word: &str, before: &[u32], since: &[u32], case: &impl Display) {
         assert_eq!(before.len(), since.len(), "{case}");
         for (column, (&before, &since)) in before.iter().zip(since).enumerate() {
@@ -243,6 +251,7 @@ impl Changed {
                 ("at", HIGH) => (&mut self.high, since <= before),
                 ("at", SAVE) => (&mut self.save, since <= before),
                 ("at", COST) => (&mut self.cost, since <= before),
+                ("total", TOTAL) => (&mut self.total, since <= before),
                 _ => (&mut 0, since == before),
             };
             assert!(fits, "{case} {word} {column}: {before} {since}");
@@ -254,7 +263,7 @@ impl Changed {
     fn count_all(&mut self, text: &[u8], seed: u64, case: &impl Display) {
         let with_start = Price { start: 10, each: 3 };
         for price in [Price::BLOCKS, with_start, generate::price(seed)] {
-            let before = report_by(Displacement::Smallest, text, price);
+            let before = report_before(text, price);
             let since = whole_report(text, price);
             let (before, since) = (rows(before.as_bytes()), rows(&since));
             assert_eq!(before.len(), since.len(), "{case} {price:?}");
@@ -273,8 +282,9 @@ impl Changed {
             high,
             save,
             cost,
+            total,
         } = *self;
-        let all = [shortest, spill, high, save, cost];
+        let all = [shortest, spill, high, save, cost, total];
         assert!(all.into_iter().all(|lines| lines >= least), "{self:?}");
     }
 }

@@ -2,6 +2,7 @@
 
 use generate::Price;
 use second::figures::{figures, Displacement, PointFigures};
+use second::sheet::Foot;
 use second::{admit, machine, plain, Row, RunResult, WORK_MIN};
 use tests::{
     dearest_points_at, figures_of, report, report_at, report_by, run, run_at, run_by, steps, text,
@@ -19,6 +20,7 @@ const TWO_REPORT: &str = "(report
   (at 0 5 4 1 1 0 0 1 2 0)
   (at 1 5 0 1 5 1 0 1 7 0)
   (at 2 5 4 0 1 0 0 1 2 0)
+  (total 16)
 )
 ";
 
@@ -34,6 +36,7 @@ const TWO_REPORT_AT_10: &str = "(report
   (at 0 5 4 1 11 0 0 11 22 0)
   (at 1 5 0 1 15 11 0 11 37 0)
   (at 2 5 4 0 11 0 0 11 22 0)
+  (total 136)
 )
 ";
 
@@ -312,7 +315,12 @@ fn shipped_sheet_before() {
         shipped_file("wrapper", "task"),
         shipped_file("wrapper", "before"),
     );
-    let printed = report_by(Displacement::Smallest, task.as_bytes(), Price::BLOCKS);
+    let printed = report_by(
+        Displacement::Smallest,
+        Foot::Total,
+        task.as_bytes(),
+        Price::BLOCKS,
+    );
     assert_eq!(printed, before);
 }
 
@@ -355,6 +363,8 @@ fn wrapper_costs_less_by_whole_walks() {
     let [before, since] = figures.each_ref().map(|of| &of.points);
     let fallen = before.iter().zip(since).filter(|(a, b)| a.cost > b.cost);
     assert_eq!((fallen.count(), since.len()), (20, 43));
+    let totals = [before, since].map(|points| points.iter().map(|at| at.cost).sum::<u32>());
+    assert_eq!(totals, [589, 557]);
     // Functions 0 to 5 have 8, 9, 7, 8, 3 and 3 points.
     let dearest = 8 + 9 + 7 + 8 + 3 + 3 + 1;
     let most = since.iter().map(|at| at.cost).max();

@@ -77,7 +77,7 @@ fn every_output_length() {
     }
 }
 
-/// What a line says at a price, from the same line in blocks, but for chain and cost.
+/// What a line but that of the total says at a price, from the same line in blocks and the chain of the function.
 fn priced(price: Price, word: &str, blocks: &[u32], chain: u32) -> Vec<u32> {
     let of = |blocks| price.of(blocks);
     match (word, blocks) {
@@ -93,15 +93,15 @@ fn priced(price: Price, word: &str, blocks: &[u32], chain: u32) -> Vec<u32> {
     }
 }
 
-/// K, d, D, high, dead and need are those of the report in blocks, and each move is the price of the one there. The chain of a function, in all of its
-/// lines, is taken from the report; the test `figures_equal_a_search_over_walks` has another.
+/// K, d, D, high, dead and need are those of the report in blocks, each move is the price of the one there, and the total is the sum of the costs at the
+/// price. The chain of a function, in all of its lines, is taken from the report; the test `figures_equal_a_search_over_walks` has another.
 #[test]
 fn blocks_are_kept_and_moves_are_priced() {
     let mut moves = 0;
     for seed in 0..COMPARED {
         let case = generate::valid(seed + 9_000_000);
         let price = generate::price(seed);
-        let mut chain = 0;
+        let (mut chain, mut total) = (0, 0);
         let reports = [Price::BLOCKS, price].map(|price| whole_report(&case.text, price));
         let [blocks, prices] = reports.each_ref().map(|report| rows(report));
         assert_eq!(blocks.len(), prices.len(), "{case}");
@@ -110,9 +110,16 @@ fn blocks_are_kept_and_moves_are_priced() {
                 chain = line.1[5];
                 assert_eq!(chain > 0, blocks[5] > 0, "{case} {price:?}");
             }
-            let wanted = (*word, priced(price, word, blocks, chain));
-            assert_eq!(*line, wanted, "{case} {price:?}");
-            moves += blocks[4..].iter().filter(|&&blocks| blocks > 0).count();
+            let wanted = match *word {
+                "total" => vec![total],
+                _ => priced(price, word, blocks, chain),
+            };
+            if *word == "at" {
+                total += wanted[8];
+            }
+            assert_eq!(*line, (*word, wanted), "{case} {price:?}");
+            let in_moves = blocks.iter().skip(4);
+            moves += in_moves.filter(|&&blocks| blocks > 0).count();
         }
     }
     assert!(moves > 100_000);
@@ -132,6 +139,6 @@ mod in_archive {
     #[test]
     fn binding() {
         let wanted = |text: &[u8], price| Wanted::report(text, price).bytes;
-        assert_binding(felknost::report, 268, wanted);
+        assert_binding(felknost::report, 281, wanted);
     }
 }

@@ -1,14 +1,16 @@
-//! Every case of the vectors folder, and those of report and run at other prices too. Which results request 4 amends.
+//! Every case of the vectors folder, and those of report and run at other prices too. Which results request 4 amends, and the totals of the reports.
 
-use std::path::Path;
+use std::path::{Path, PathBuf};
 
 use generate::Price;
 use second::figures::Displacement;
+use second::sheet::Foot;
 use second::WORK_MIN;
 use tests::{
-    is_noise_from, prices, report, report_at, report_by, run, run_at, run_by, verdict, Lent,
+    is_noise_from, prices, report, report_at, report_by, run, run_at, run_by, split_total,
+    sum_of_costs, verdict, whole_report, Lent,
 };
-use vectors::{amended, expected, original, read, read_text, tasks};
+use vectors::{amended, expected, in_force, original, read, read_text, tasks};
 
 /// The numbers on the line that begins with `name`.
 fn numbers(text: &str, name: &str) -> Vec<u64> {
@@ -64,7 +66,7 @@ fn vectors_report() {
     assert_eq!(tasks.len(), 75);
     for path in tasks {
         let text = read(&path);
-        let wanted = expected(&path, "report");
+        let wanted = expected(&path);
         let length = wanted.len();
         for more in 0..3 {
             let reported = report(&text, length + more, WORK_MIN + more);
@@ -83,7 +85,7 @@ fn vectors_report() {
     }
 }
 
-/// The report at a price: of the length that an output of none is told, and at 0 and 1 the one of the case.
+/// The report at a price: of the length that an output of none is told, with the sum of the costs at that price, and at 0 and 1 the one of the case.
 #[test]
 fn vectors_report_at_prices() {
     for path in tasks("report") {
@@ -99,8 +101,10 @@ fn vectors_report_at_prices() {
             };
             let reported = report_at(&text, price, wanted as usize, WORK_MIN);
             assert_eq!(reported.result.numbers(), [0, 0, wanted], "{path:?}");
+            let (rest, total) = split_total(&reported.output);
+            assert_eq!(total, sum_of_costs(&rest), "{path:?} {price:?}");
             if price == Price::BLOCKS {
-                let wanted = expected(&path, "report");
+                let wanted = expected(&path);
                 assert!(reported.output == wanted, "{path:?}");
             }
         }
@@ -125,7 +129,7 @@ impl RunVector {
             memory: blocks(of, "memory"),
         };
         let lent = read_text(&path.with_extension("lent"));
-        let back = String::from_utf8(expected(path, "back")).expect("the file is text");
+        let back = String::from_utf8(in_force(path, "back")).expect("the file is text");
         RunVector {
             name: path.display().to_string(),
             text: read(path),
@@ -172,9 +176,9 @@ fn vectors_run_at_prices() {
     }
 }
 
-/// The report of a case by a rule, as its file has it.
+/// The report of a case by a rule, as its file has it: without its total.
 fn report_file(rule: Displacement, path: &Path) -> String {
-    report_by(rule, &read(path), Price::BLOCKS)
+    report_by(rule, Foot::None, &read(path), Price::BLOCKS)
 }
 
 /// What the run of a case gives back by a rule, as its file has it.
@@ -221,4 +225,28 @@ fn count_amended(name: &str, ending: &str, file: fn(Displacement, &Path) -> Stri
 fn vectors_amended_where_the_rules_differ() {
     assert_eq!(count_amended("report", "report", report_file), 29);
     assert_eq!(count_amended("run", "back", back_file), 0);
+}
+
+/// The line of the total is all that a report has beside the file in force, and the total is the sum of the costs there.
+#[test]
+fn vectors_report_without_the_total() {
+    for path in tasks("report") {
+        let report = whole_report(&read(&path), Price::BLOCKS);
+        let (without, total) = split_total(&report);
+        let file = in_force(&path, "report");
+        assert!(without == file, "{path:?}");
+        assert_eq!(total, sum_of_costs(&file), "{path:?}");
+    }
+}
+
+/// The file of the totals has a line for each case, in order, with the sum of the costs in the file in force, and no other line.
+#[test]
+fn vectors_totals() {
+    let line = |path: &PathBuf| {
+        let name = path.file_stem().expect("a name").to_string_lossy();
+        let total = sum_of_costs(&in_force(path, "report"));
+        format!("{name} {total}\n")
+    };
+    let lines: String = tasks("report").iter().map(line).collect();
+    assert_eq!(lines, vectors::totals());
 }

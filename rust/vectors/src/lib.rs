@@ -34,7 +34,7 @@ pub fn tasks(name: &str) -> Vec<PathBuf> {
     paths
 }
 
-/// The result of a task before request 4, in the file with this ending.
+/// The result of a task before request 4, in the file with this ending. No file of a report has the line with the total.
 pub fn original(task: &Path, ending: &str) -> Vec<u8> {
     read(&task.with_extension(ending))
 }
@@ -45,9 +45,28 @@ pub fn amended(task: &Path, ending: &str) -> Option<Vec<u8>> {
     path.exists().then(|| read(&path))
 }
 
-/// The result that is expected of a task.
-pub fn expected(task: &Path, ending: &str) -> Vec<u8> {
+/// The result of a task that is in force: the amended one where there is one.
+pub fn in_force(task: &Path, ending: &str) -> Vec<u8> {
     amended(task, ending).unwrap_or_else(|| original(task, ending))
+}
+
+/// The file with the totals of the reports, a line of name and total for each case.
+pub fn totals() -> String {
+    read_text(&folder("report").join("totals"))
+}
+
+/// The report that is expected of a task: the one in force, with its total in a line before the last.
+pub fn expected(task: &Path) -> Vec<u8> {
+    let name = task.file_stem().and_then(|name| name.to_str());
+    let name = name.expect("a case has a name");
+    let totals = totals();
+    let total = totals
+        .lines()
+        .find_map(|line| line.strip_prefix(name)?.strip_prefix(' '))
+        .unwrap_or_else(|| panic!("no total of {name}"));
+    let report = in_force(task, "report");
+    let lines = report.strip_suffix(b")\n").expect("the last line");
+    [lines, format!("  (total {total})\n)\n").as_bytes()].concat()
 }
 
 /// The refused cases: the name, the text, the code and the place.
