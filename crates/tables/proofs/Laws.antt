@@ -19,7 +19,7 @@ use Rattle.model.specs.Task.{Func, size, count, func, point, empty, inAll, func
 use Rattle.tables.specs.declared.Header.{Header}
 use Rattle.tables.specs.declared.Span.{Span}
 use Rattle.model.specs.Walk.{loaded, leadsFrom, leads}
-use Rattle.theory.proofs.Lists.{sum-append}
+use Rattle.theory.proofs.Lists.{sum-snoc}
 use Rattle.tables.specs.Tables.{pointOf, kindOf, isAccess, firstArgument, secondArgument, pointAt, frameAt, baseAt, sizeAt, pointsOf, funcIn}
 use Rattle.tables.specs.Tables.{funcOf, funcsOf, taskOf, openingLine, Stacked, none, more, sum, item}
 
@@ -152,7 +152,7 @@ pub sum-funcs : {w : List ℕ} {n m : ℕ} → Stacked w n m → inAll (funcsOf 
 unfolding funcsOf sumOf
 sum-funcs none = refl
 sum-funcs {w} (more {n} {m} k e) =
-    sum-append size (funcsOf w n) (funcOf w n ∷ [])
+    sum-snoc size (funcsOf w n) (funcOf w n)
     ∙ (let i = sum-funcs k in let l = length-points w (baseAt w n) (sizeAt w n) in omega arith)
 
 pub sum-before : {w : List ℕ} {n m : ℕ} → Stacked w n m → (f : ℕ) → f < n → inAll (take f (funcsOf w n)) ≡ baseAt w f

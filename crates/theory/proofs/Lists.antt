@@ -314,6 +314,10 @@ unfolding sumOf
 sum-append f [] l = omega arith
 sum-append f (a ∷ k) l = omega (arith, sum-append f k l)
 
+pub sum-snoc : {A : Type 0} (f : A → ℕ) (l : List A) (x : A) → sumOf f (l ++ (x ∷ [])) ≡ sumOf f l + f x
+unfolding sumOf
+sum-snoc f l x = sum-append f l (x ∷ []) ∙ omega arith
+
 -- of numbers that are at most m
 pub sum-most : {A : Type 0} (f : A → ℕ) (m : ℕ) (l : List A) → ((a : A) → List·Memᴰ a l → f a ≤ m) → sumOf f l ≤ m * length l
 unfolding sumOf
@@ -345,8 +349,7 @@ module _ {A B : Type 0} where
 
 -- over the numbers below n + 1
 pub sum-next : (f : ℕ → ℕ) (n : ℕ) → sumOf f (upTo (n + 1)) ≡ sumOf f (upTo n) + f n
-unfolding sumOf
-sum-next f n = ap (sumOf f) (upTo-next n) ∙ sum-append f (upTo n) (n ∷ []) ∙ omega arith
+sum-next f n = ap (sumOf f) (upTo-next n) ∙ sum-snoc f (upTo n) n
 
 sum-further : (f : ℕ → ℕ) (k n : ℕ) → sumOf f (upTo k) ≤ sumOf f (upTo (k + n))
 sum-further f k zero = rw (add-zero k) (omega arith)

@@ -19,7 +19,7 @@ use Rattle.model.specs.Text.{linesOf}
 use Rattle.model.specs.Task.{Func, Task, Judged, refused, task, Progress, start, between, inside, Step, stop, goes, size, count, inAll, empty, func}
 use Rattle.model.specs.Task.{point, offsetFits, withPoint, withFunc, readLine, readEnd, onward, readFrom, readText}
 use Rattle.model.specs.WellFormed.{Shaped}
-use Rattle.theory.proofs.Lists.{by-test, and-holds}
+use Rattle.theory.proofs.Lists.{by-test, and-holds, sum-snoc}
 
 -- a function that has been opened, with the points read so far
 pub record Opened (s : ℕ) (x : Func) : Type 0 where
@@ -66,12 +66,6 @@ at-snoc P l x d h k i j =
       | yes b ↦ rw (List·getD-append l (x ∷ []) d i b) (h i b)
       | no b ↦ let e : i ≡ length l = omega (arith, length-append l (x ∷ [])) in rw (e, getD-append-seam) k
     ]
-
--- the sum over a list and one more element
-pub sum-snoc : {A : Type 0} (g : A → ℕ) (l : List A) (x : A) → sumOf g (l ++ (x ∷ [])) ≡ sumOf g l + g x
-unfolding sumOf
-sum-snoc g [] x = omega arith
-sum-snoc g (a ∷ l) x = omega (arith, sum-snoc g l x)
 
 -- the task with one function more
 more-func : (t : Task) (x : Func) → Begun t → Opened (t .stack) x → count t < mostFuncs → inAll (t .funcs) + size x ≤ mostInAll → 1 ≤ size x
