@@ -5,8 +5,8 @@ use Rattle.tables.proofs.Valid.{kept-later}
 use Rattle.figures.specs.Columns.{columnsEnd}
 use Rattle.serving.proofs.Laws.{cleared-same}
 use borrow.Author.Needs.{needs}
-use Rattle.services.proofs.writing.write_task.Statement.{statement}
-use Rattle.services.proofs.writing.write_task.Tie as tie
+use Rattle.writing.proofs.write_task.Statement.{statement}
+use Rattle.writing.proofs.write_task.Tie as tie
 
 returns : tie.Need-returns
 returns c =

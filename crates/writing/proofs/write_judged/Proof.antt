@@ -1,8 +1,8 @@
 -- By what the judgement is.
 use Rattle.serving.proofs.Laws.{none-written}
 use borrow.Author.Needs.{needs}
-use Rattle.services.proofs.writing.write_judged.Statement.{statement}
-use Rattle.services.proofs.writing.write_judged.Tie as tie
+use Rattle.writing.proofs.write_judged.Statement.{statement}
+use Rattle.writing.proofs.write_judged.Tie as tie
 
 write-task-requires : tie.Need-write-task-requires
 write-task-requires c κs = rw (c .before .before .before .judgement2 .given .1) at (c .before .before .before .before .before .before .before .pre)

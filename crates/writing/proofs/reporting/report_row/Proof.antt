@@ -8,8 +8,8 @@ use Rattle.prices.specs.Prices.{priceOf}
 use Rattle.report.proofs.Limits.{report-most}
 use Rattle.serving.proofs.Laws.{room-enough, row-of}
 use borrow.Author.Needs.{needs}
-use Rattle.services.proofs.reporting.report_row.Statement.{statement}
-use Rattle.services.proofs.reporting.report_row.Tie as tie
+use Rattle.writing.proofs.reporting.report_row.Statement.{statement}
+use Rattle.writing.proofs.reporting.report_row.Tie as tie
 
 most-length-requires : tie.Need-most-length-requires
 most-length-requires c κs = let k = c .before .pre .settled .holds in (k .few, k .all)

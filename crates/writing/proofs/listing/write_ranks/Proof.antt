@@ -7,8 +7,8 @@ use lib.ListN.{length}
 use Rattle.model.specs.Services.{over}
 use Rattle.serving.proofs.Laws.{row-room, row-of, too-short, long-enough}
 use borrow.Author.Needs.{needs}
-use Rattle.services.proofs.listing.write_ranks.Statement.{statement}
-use Rattle.services.proofs.listing.write_ranks.Tie as tie
+use Rattle.writing.proofs.listing.write_ranks.Statement.{statement}
+use Rattle.writing.proofs.listing.write_ranks.Tie as tie
 
 returns : tie.Need-returns
 returns c print t w w′ e after =

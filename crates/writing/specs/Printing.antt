@@ -7,8 +7,8 @@ use Rattle.model.specs.Sheet.{movePrice, reportText}
 use Rattle.model.specs.Dearest.{dearestText}
 use Rattle.model.specs.Refusal.{pricedRows}
 use Rattle.model.specs.Services.{AfterWrite, writtenOf}
-use Rattle.services.specs.declared.Print.{Print}
-use Rattle.services.specs.declared.Print.the-variants.{Report, Dearest}
+use Rattle.writing.specs.declared.Print.{Print}
+use Rattle.writing.specs.declared.Print.the-variants.{Report, Dearest}
 
 abbrev pub printOf : Print → (ℕ → ℕ) → Task → List ℕ
 printOf Report price t = reportText price t

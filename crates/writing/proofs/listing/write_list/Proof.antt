@@ -4,8 +4,8 @@ use Rattle.model.specs.Task.{Task}
 use Rattle.model.specs.Dearest.{dearestText}
 use Rattle.prices.specs.Prices.{priceOf}
 use borrow.Author.Needs.{needs}
-use Rattle.services.proofs.listing.write_list.Statement.{statement}
-use Rattle.services.proofs.listing.write_list.Tie as tie
+use Rattle.writing.proofs.listing.write_list.Statement.{statement}
+use Rattle.writing.proofs.listing.write_list.Tie as tie
 
 returns : tie.Need-returns
 returns c t w w′ same after =

@@ -3,8 +3,8 @@ use native.Mathlib.Omega.{arith}
 use Rattle.report.proofs.Limits.{report-small}
 use Rattle.serving.proofs.Laws.{output-room, too-short, long-enough}
 use borrow.Author.Needs.{needs}
-use Rattle.services.proofs.reporting.write_report.Statement.{statement}
-use Rattle.services.proofs.reporting.write_report.Tie as tie
+use Rattle.writing.proofs.reporting.write_report.Statement.{statement}
+use Rattle.writing.proofs.reporting.write_report.Tie as tie
 
 returns : tie.Need-returns
 returns c t w w′ same after =

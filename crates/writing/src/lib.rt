@@ -8,14 +8,20 @@ ghost use Rattle.tables.specs.Valid.{Settled};
 ghost use Rattle.prices.specs.Prices.{priceOf, Small};
 ghost use Rattle.judge.specs.Judgement.{judgedIn};
 ghost use Rattle.serving.specs.Served.{ReadyAt, Writes};
-ghost use Rattle.services.specs.Printing.{printOf};
-use super::Print;
-use super::listing;
-use super::reporting;
+ghost use Rattle.writing.specs.Printing.{printOf};
 use judge::Judgement;
 use model::WriteResult;
 use prices::Price;
 use tables::Header;
+
+mod listing;
+mod reporting;
+
+// The bytes of a task that a service writes.
+pub enum Print {
+    Report,
+    Dearest,
+}
 
 // 14, or the bytes of the task that the tables hold.
 fn write_task(
