@@ -26,9 +26,9 @@ use Rattle.tables.proofs.Valid.{kept-on}
 use Rattle.prices.specs.declared.Price.{Price}
 use Rattle.prices.specs.Prices.{priceOf, mostPrice}
 use Rattle.figures.specs.Figured.{sheetAt}
-use Rattle.turns.specs.declared.State.{State}
-use Rattle.turns.specs.declared.Turned.{Turned}
-use Rattle.turns.specs.Frames.{framesEnd, framesOf, stateOf, turnOf}
+use Rattle.steps.specs.declared.State.{State}
+use Rattle.steps.specs.declared.Turned.{Turned}
+use Rattle.steps.specs.Frames.{framesEnd, framesOf, stateOf, turnOf}
 use Rattle.turns.specs.Turns.{Runs, Turns, actOf, Started}
 use Rattle.turns.proofs.Kept.{goes-on, begins, accepted-runs}
 use Rattle.run.specs.Events.{Fitting, ranOn, allowedOn, endedWith, Serves}

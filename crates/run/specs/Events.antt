@@ -18,7 +18,7 @@ use Rattle.tables.specs.Valid.{Kept}
 use Rattle.prices.specs.declared.Price.{Price}
 use Rattle.figures.specs.Figured.{sheetAt}
 use Rattle.bounds.specs.Bounds.{Bounded}
-pub use Rattle.turns.specs.Frames.{framesEnd}
+pub use Rattle.steps.specs.Frames.{framesEnd}
 
 -- the working space has the task, its figures and the bounds of its events, and rows 16 to 19 refuse none of the buffers
 pub record Fitting (price : Price) (w : List ℕ) (h : Header) (events answers cache memory : List ℕ) : Type 0 where

@@ -5,22 +5,13 @@ ghost use lib.ListN.{length};
 ghost use Rattle.model.specs.Refusal.{pricedRows};
 ghost use Rattle.model.specs.Services.{checkOf, reportOf, dearestOf, runOf, Demand3};
 ghost use Rattle.running.specs.Performs.{afterRun};
-ghost use Rattle.services.specs.Printing.{wroteOf};
+ghost use Rattle.writing.specs.Printing.{wroteOf};
 use judge::Judgement;
 use model::RunResult;
 use model::Verdict;
 use model::WriteResult;
 use prices::Price;
-
-mod listing;
-mod reporting;
-mod writing;
-
-// The bytes of a task that a service writes.
-enum Print {
-    Report,
-    Dearest,
-}
+use writing::Print;
 
 // Check: the verdict on a text, and the working space cleared.
 //

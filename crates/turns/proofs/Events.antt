@@ -23,11 +23,14 @@ use Rattle.prices.specs.declared.Price.{Price}
 use Rattle.prices.specs.Prices.{priceOf}
 use Rattle.figures.specs.Figured.{sheetAt}
 use Rattle.machine.specs.Moves.{coreOf}
-use Rattle.turns.specs.declared.State.{State}
-use Rattle.turns.specs.declared.Turned.{Turned}
-use Rattle.turns.specs.Frames.{placesIn, framesFrom, framesOf, stateOf, turnOf}
-use Rattle.turns.specs.Turns.{Stays, IsTurn, Steps, IsPreemption, Turns, actOf}
-use Rattle.turns.proofs.Laws.{frames-some, stays-same}
+use Rattle.steps.specs.declared.State.{State}
+use Rattle.steps.specs.declared.Turned.{Turned}
+use Rattle.steps.specs.Frames.{placesIn, framesFrom, framesOf, stateOf, turnOf}
+use Rattle.steps.specs.Steps.{Stays, IsTurn, Steps}
+use Rattle.steps.proofs.Laws.{frames-some}
+use Rattle.moves.specs.Moves.{IsPreemption}
+use Rattle.turns.specs.Turns.{Turns, actOf}
+use Rattle.turns.proofs.Laws.{stays-same}
 use Rattle.turns.proofs.Given.{top-of}
 
 -- ---- an event is a step or a preemption, by its kind

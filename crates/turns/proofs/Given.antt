@@ -1,4 +1,4 @@
--- What a state that a run can be in gives to each function of this crate.
+-- What a state that a run can be in gives to each kind of step, to a preemption and to the rows of an event.
 use Prim.Native.Nat.{ℕ, zero, suc, _+_, _-_, _≤_, _<_}
 use mathlib.Core.List.{List, [], _∷_}
 use mathlib.Core.Path.{_≡_, refl, ap, sym, subst, _∙_}
@@ -29,10 +29,12 @@ use Rattle.prices.specs.declared.Price.{Price}
 use Rattle.figures.specs.Figured.{sheetAt}
 use Rattle.machine.specs.Moves.{coreOf, mostAddress, Good}
 use Rattle.machine.proofs.Kept.{window-good, window-frame}
-use Rattle.turns.specs.declared.State.{State}
-use Rattle.turns.specs.Frames.{placesIn, framesFrom}
-use Rattle.turns.specs.Turns.{Runs, Placed, Reaches, Inside, Enters, Leaves, StandsAt}
-use Rattle.turns.proofs.Laws.{inside-small}
+use Rattle.steps.specs.declared.State.{State}
+use Rattle.steps.specs.Frames.{placesIn, framesFrom}
+use Rattle.steps.specs.Steps.{Reaches, Leaves}
+use Rattle.moves.specs.Moves.{Inside, Enters}
+use Rattle.moves.proofs.Laws.{inside-small}
+use Rattle.turns.specs.Turns.{Runs, Placed, StandsAt}
 
 -- ---- the running frame on the plain stack
 

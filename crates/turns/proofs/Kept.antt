@@ -36,10 +36,11 @@ use Rattle.bounds.specs.Bounds.{boundsEnd, Bounded}
 use Rattle.bounds.proofs.Laws.{bounded-same}
 use Rattle.machine.specs.Moves.{coreOf}
 use Rattle.machine.proofs.Kept.{reserve-blocks, ensure-blocks}
-use Rattle.turns.specs.declared.State.{State}
-use Rattle.turns.specs.declared.Turned.{Turned}
-use Rattle.turns.specs.Frames.{framesFrom, turnOf}
-use Rattle.turns.specs.Turns.{Runs, Stays, modelTurn, Turns, Started}
+use Rattle.steps.specs.declared.State.{State}
+use Rattle.steps.specs.declared.Turned.{Turned}
+use Rattle.steps.specs.Frames.{framesFrom, turnOf}
+use Rattle.steps.specs.Steps.{Stays}
+use Rattle.turns.specs.Turns.{Runs, modelTurn, Turns, Started}
 
 -- what an event leaves of the working space has the task, its figures and its bounds
 stays-bounds : {w w′ : List ℕ} → Stays w w′ → Same boundsEnd w w′

@@ -1,3 +1,2 @@
--- The state of a run in the working space, and what one event does to it.
-pub mod Frames
+-- What one event does.
 pub mod Turns

@@ -1,0 +1,2 @@
+-- What the events that move blocks are given and do.
+pub mod Moves

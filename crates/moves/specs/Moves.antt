@@ -1,0 +1,45 @@
+-- What a call, an ensure and a preemption are given, and what a preemption does.
+use Prim.Native.Nat.{ℕ, _-_, _≤_, _<_}
+use mathlib.Core.List.{List}
+use mathlib.Core.Path.{_≡_}
+use lib.ListN.{length, replicate}
+use Rattle.model.specs.Limits.{mostFuncs, mostPoints}
+use Rattle.model.specs.Task.{Task, func}
+use Rattle.model.specs.Run.{preemptTurn}
+use Rattle.tables.specs.declared.Header.{Header}
+use Rattle.tables.specs.declared.Span.{Span}
+use Rattle.tables.specs.Tables.{spanAt, taskOf}
+use Rattle.prices.specs.declared.Price.{Price}
+use Rattle.figures.specs.Figured.{sheetAt}
+use Rattle.bounds.specs.Bounds.{Bounded}
+use Rattle.machine.specs.Moves.{coreOf, Good}
+use Rattle.steps.specs.declared.State.{State}
+use Rattle.steps.specs.declared.Turned.{Turned}
+use Rattle.steps.specs.Frames.{placesIn}
+use Rattle.steps.specs.Steps.{IsTurn}
+
+-- a preemption at the point of the running frame of x, by a task that leaves v in every block
+abbrev pub IsPreemption : Price → Task → State → ℕ → (w cache memory : List ℕ) → Turned → (cache′ memory′ : List ℕ) → Type 0
+IsPreemption price t x v w cache memory r cache′ memory′ =
+    IsTurn price r w cache′ memory′
+    (preemptTurn (sheetAt price t) (x .f) (x .p) (placesIn w (x .depth - 1)) (coreOf (x .machine) cache memory) (replicate (length cache) v))
+    (sheetAt price t .at (x .f) (x .p) .cost)
+
+-- the running frame is at a point of its function, which is s
+pub record Inside (price : Price) (w : List ℕ) (h : Header) (x : State) (s : Span) : Type 0 where
+  pub bounded : Bounded price w h
+  pub some : 0 < x .depth
+  pub fn-in : x .f < h .funcs
+  pub span : s ≡ spanAt w (x .f)
+  pub at-in : x .p < s .size
+
+-- there is room for one more caller, and for the frame of function g below ST
+pub record Enters (price : Price) (w : List ℕ) (h : Header) (x : State) (cache memory : List ℕ) (g : ℕ) : Type 0 where
+  pub bounded : Bounded price w h
+  pub some : 0 < x .depth
+  pub few : x .depth ≤ mostFuncs
+  pub fn-in : x .f < h .funcs
+  pub small : x .p < mostPoints
+  pub callee : g < h .funcs
+  pub good : Good (coreOf (x .machine) cache memory)
+  pub room : func (taskOf w h) g .frame ≤ x .machine .st

@@ -1,0 +1,23 @@
+-- The last caller is read back, where there is one.
+use mathlib.Core.Path.{refl}
+use borrow.Author.Needs.{needs}
+use Rattle.steps.proofs.Laws.{callers-none, caller-runs}
+use Rattle.steps.proofs.resumed.Statement.{statement}
+use Rattle.steps.proofs.resumed.Tie as tie
+
+pub resumed-spec : {M : Type 1} → statement M
+resumed-spec =
+    tie.close
+    (tie.spec
+    (λ c. (callers-none _ _ (c .if1 .taken), refl))
+    (λ c. search needs)
+    (λ c. search needs)
+    (λ c. search needs)
+    (λ c. search needs)
+    (λ c. search needs)
+    (λ c κs. search needs)
+    (λ c. search needs)
+    (λ c. search needs)
+    (λ c. search needs)
+    (λ c κs. search needs)
+    (λ c. (caller-runs _ _ _ _ (c .before .before .before .before .if1 .left) (c .before .before .wide .ensures) (c .wide2 .ensures), refl)))

@@ -1,0 +1,16 @@
+-- The number goes to the cache.
+use mathlib.Core.Path.{refl}
+use native.Mathlib.Omega.{arith}
+use borrow.Author.Needs.{needs}
+use Rattle.steps.proofs.Laws.{plain-does}
+use Rattle.steps.proofs.store_step.Statement.{statement}
+use Rattle.steps.proofs.store_step.Tie as tie
+
+returns : tie.Need-returns
+returns c =
+    let l = c .before .before .before .before in
+    let s = l .before .before .before .before in
+    λ z t w memory. plain-does z (s .args .x) _ _ _ _ _ w _ memory _ (s .pre .some) (c .onwards .ensures) (omega arith) refl (l .store .ensures memory)
+
+pub store-step-spec : {M : Type 1} → statement M
+store-step-spec = tie.close (tie.spec (λ c κs. search needs) (λ c. search needs) (λ c κs. search needs) (λ c. search needs) returns)

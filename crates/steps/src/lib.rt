@@ -1,0 +1,154 @@
+// The state of a run, and the steps that move nothing: a load, a store, a goto, an either and a return. The running frame is by value and its callers
+// are in the working space, behind the bounds, so that only a call and a return touch them.
+ghost use mathlib.Core.Path.{_≡_};
+ghost use mathlib.Core.List.{List};
+ghost use Prim.Native.Nat.{ℕ, _<_, _≤_};
+ghost use lib.ListN.{length};
+ghost use Rattle.model.specs.declared.Point.the-variants.{Load, Store, Goto, Either, Return};
+ghost use Rattle.model.specs.Limits.{mostFuncs, mostPoints};
+ghost use Rattle.model.specs.Task.{Task, func};
+ghost use Rattle.prices.specs.declared.Price.{Price as Price·spec};
+ghost use Rattle.steps.specs.Frames.{framesEnd, placesIn, putCaller, framesOf, plainTurn};
+ghost use Rattle.steps.specs.Steps.{Steps, Reaches, Leaves};
+use bounds::Bounds;
+use machine::Machine;
+
+// Where the callers begin in the working space: two numbers for each, its function and its point.
+pub struct Frames;
+
+impl Frames {
+    pub const AT: usize = Bounds::END;
+}
+
+// How many frames there are, function and point of the running one, and where the stack stands. A finished task has no frames.
+pub struct State {
+    pub depth: usize,
+    pub f: usize,
+    pub p: usize,
+    pub machine: Machine,
+}
+
+// A state after an event, its answer, what it moved, and what the sheet allows: both as prices.
+pub struct Turned {
+    pub state: State,
+    pub answer: u32,
+    pub moved: u32,
+    pub bound: u32,
+}
+
+pub fn wide(x: u32) -> usize
+    ensures { λ r. ⌜ r ≡ x ⌝ }
+{
+    x as usize
+}
+
+// ---- the callers in the working space
+
+// Function and point of caller n.
+pub fn put_caller(work: &mut [u32], n: usize, f: usize, p: usize)
+    requires { ⌜ (framesEnd ≤ length (now work)) × (n < mostFuncs) × (f < mostFuncs) × (p ≤ mostPoints) ⌝ }
+    ensures { λ r. ⌜ now (work .exit) ≡ putCaller (now (work .entry)) n f p ⌝ }
+{
+    let at = Frames::AT + 2 * n;
+    work[at] = f as u32;
+    work[at + 1] = p as u32;
+}
+
+// The last of n callers runs, and a task with none has finished.
+fn resumed(work: &[u32], n: usize, machine: Machine) -> State
+    requires { ⌜ (framesEnd ≤ length (now work)) × (n ≤ mostFuncs) ⌝ }
+    ensures { λ r. ⌜ (framesOf (now (work .entry)) r ≡ placesIn (now (work .entry)) n) × (r .machine ≡ machine) ⌝ }
+{
+    if n == 0 {
+        return State {
+            depth: 0,
+            f: 0,
+            p: 0,
+            machine,
+        };
+    }
+    let at = Frames::AT + 2 * (n - 1);
+    let f = wide(work[at]);
+    let p = wide(work[at + 1]);
+    State {
+        depth: n,
+        f,
+        p,
+        machine,
+    }
+}
+
+// ---- the steps that move nothing
+
+// On at point p of the running frame. Nothing moves, and nothing is allowed.
+fn onwards(x: State, p: usize, answer: u32) -> Turned
+    ensures { λ r. ⌜ r ≡ plainTurn x p answer ⌝ }
+{
+    let machine = x.machine;
+    let state = State {
+        depth: x.depth,
+        f: x.f,
+        p,
+        machine,
+    };
+    Turned {
+        state,
+        answer,
+        moved: 0,
+        bound: 0,
+    }
+}
+
+pub fn load_step(x: State, cache: &[u32], o: u32) -> Turned
+    requires { ⌜ Reaches x (now cache) o ⌝ }
+    ensures { λ r. ⌜ ((price : Price·spec) (t : Task) (v : ℕ) (w memory : List ℕ) → Steps price t x (Load o) v w (now (cache .entry)) memory r w
+        (now (cache .entry)) memory) ⌝ }
+{
+    let machine = x.machine;
+    let answer = machine.load(cache, o);
+    onwards(x, x.p + 1, answer)
+}
+
+pub fn store_step(x: State, cache: &mut [u32], o: u32, v: u32) -> Turned
+    requires { ⌜ Reaches x (now cache) o ⌝ }
+    ensures { λ r. ⌜ ((price : Price·spec) (t : Task) (w memory : List ℕ) → Steps price t x (Store o) v w (now (cache .entry)) memory r w
+        (now (cache .exit)) memory) ⌝ }
+{
+    let machine = x.machine;
+    machine.store(cache, o, v);
+    onwards(x, x.p + 1, 0)
+}
+
+pub fn goto_step(x: State, q: u32) -> Turned
+    requires { ⌜ 0 < x .depth ⌝ }
+    ensures { λ r. ⌜ ((price : Price·spec) (t : Task) (v : ℕ) (w cache memory : List ℕ) → Steps price t x (Goto q) v w cache memory r w cache memory) ⌝ }
+{
+    onwards(x, wide(q), 0)
+}
+
+pub fn either_step(x: State, q: u32, r: u32, v: u32) -> Turned
+    requires { ⌜ 0 < x .depth ⌝ }
+    ensures { λ u. ⌜ ((price : Price·spec) (t : Task) (w cache memory : List ℕ) → Steps price t x (Either q r) v w cache memory u w cache memory) ⌝ }
+{
+    if v == 0 {
+        return onwards(x, wide(q), 0);
+    }
+    onwards(x, wide(r), 0)
+}
+
+// The frame of the running function is left, and its caller runs.
+pub fn return_step(work: &[u32], x: State, frame: u32) -> Turned
+    requires { ⌜ Leaves (now work) x frame ⌝ }
+    ensures { λ r. ⌜ ((price : Price·spec) (t : Task) (v : ℕ) (cache memory : List ℕ) → func t (x .f) .frame ≡ frame →
+        Steps price t x Return v (now (work .entry)) cache memory r (now (work .entry)) cache memory) ⌝ }
+{
+    let machine = x.machine;
+    let freed = machine.free(frame);
+    let state = resumed(work, x.depth - 1, freed);
+    Turned {
+        state,
+        answer: 0,
+        moved: 0,
+        bound: 0,
+    }
+}

@@ -1,0 +1,19 @@
+-- The bytes of a task that a service writes, at a price, and what such a service returns and leaves.
+use Prim.Native.Nat.{ℕ}
+use mathlib.Core.List.{List}
+use lib.ListN.{length}
+use Rattle.model.specs.Task.{Task}
+use Rattle.model.specs.Sheet.{movePrice, reportText}
+use Rattle.model.specs.Dearest.{dearestText}
+use Rattle.model.specs.Refusal.{pricedRows}
+use Rattle.model.specs.Services.{AfterWrite, writtenOf}
+use Rattle.writing.specs.declared.Print.{Print}
+use Rattle.writing.specs.declared.Print.the-variants.{Report, Dearest}
+
+abbrev pub printOf : Print → (ℕ → ℕ) → Task → List ℕ
+printOf Report price t = reportText price t
+printOf Dearest price t = dearestText price t
+
+abbrev pub wroteOf : Print → ℕ → ℕ → List ℕ → List ℕ → List ℕ → AfterWrite
+wroteOf which start each text work output =
+    writtenOf (pricedRows (length work) start each) (printOf which (movePrice start each)) text work output
