@@ -22,7 +22,7 @@ use Rattle.print.proofs.Laws.{pasted-start, wrote-on, wrote-nothing, next-room}
 use Rattle.figures.specs.declared.FuncFigures.{FuncFigures}
 use Rattle.figures.specs.Figured.{InFunc, sheetAt, funcFigures}
 use Rattle.report.specs.declared.Lines.{Lines}
-use Rattle.report.specs.Report.{Part, both, firstParts, pointNumbers, pointsPart, headPart, funcPart, funcsPart, footText}
+use Rattle.report.specs.Report.{Part, both, firstParts, pointNumbers, pointsPart, headPart, funcPart, funcsPart, footText, endsText}
 use Rattle.report.specs.Report.{Room, Counts, Adds}
 
 -- ---- parts that are counted or written one after the other
@@ -147,7 +147,7 @@ module _ (price : Price) (w : List ℕ) (h : Header) where
       ∙ sym (append-assoc (bytes "(report\n" ++ funcs) foot (bytes ")\n"))
 
   pub report-size : length (reportText (priceOf price) (taskOf w h))
-      ≡ 10 + length (funcsPart price (taskOf w h) (h .funcs) .text) + length (footText price (taskOf w h))
+      ≡ endsText + length (funcsPart price (taskOf w h) (h .funcs) .text) + length (footText price (taskOf w h))
   report-size =
       let l = funcsPart price (taskOf w h) (h .funcs) .text in
       let foot = footText price (taskOf w h) in

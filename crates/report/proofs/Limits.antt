@@ -152,6 +152,6 @@ module _ {price : Price} {w : List ℕ} {h : Header} (k : Figured price w h) whe
   report-small = omega (arith, report-most, k .settled .holds .few, k .settled .holds .all)
 
   -- all functions have room after the first line, where the report has
-  pub funcs-room : (n : ℕ) (l : Lines) → length (reportText (priceOf price) (taskOf w h)) ≤ n → l .end ≡ 8 → l .total ≡ 0
+  pub funcs-room : (n : ℕ) (l : Lines) → length (reportText (priceOf price) (taskOf w h)) ≤ n → l .end ≡ length (bytes "(report\n") → l .total ≡ 0
       → Room l (funcsPart price (taskOf w h) (h .funcs)) n
   funcs-room n l r e z = record { bytes = omega (arith, report-size price w h); sum = omega (arith, total-all price w h, total-small) }

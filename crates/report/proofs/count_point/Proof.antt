@@ -25,7 +25,9 @@ point-numbers-requires : tie.Need-point-numbers-requires
 point-numbers-requires c κs = omega (arith, size-low (c .before .before .before .pre .0))
 
 and-line-requires : tie.Need-and-line-requires
-and-line-requires c κs = omega (arith, ap (λ (x : PointSheet). x .cost) (c .before .before .before .before .before .point-figures .ensures), c .before .before .before .before .before .before .before .pre .2 .sum)
+and-line-requires c κs =
+    let start = c .before .before .before .before .before .before .before in
+    omega (arith, ap (λ (x : PointSheet). x .cost) (c .before .before .before .before .before .point-figures .ensures), start .pre .2 .sum)
 
 pub count-point-spec : {M : Type 1} → statement M
 count-point-spec =

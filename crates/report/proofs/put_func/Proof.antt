@@ -12,31 +12,38 @@ use Rattle.report.proofs.put_func.Tie as tie
 
 returns : tie.Need-returns
 returns c =
-    let start = c .before .before .before .before .before .before .before .before .before .before .before .before .before .before .before in
+    let row = c .before .before .before .before .before .before .before in
+    let span = row .before .before .before .before .before .span-at .ensures in
+    let start = row .before .before .before .before .before .before .before .before in
     let a = start .args in
-    let k = there (start .pre .0) (start .pre .1) (c .before .before .before .before .before .before .before .before .before .before .before .before .span-at .ensures) in
+    let k = there (start .pre .0) (start .pre .1) span in
     let part = headPart (a .price) (taskOf (a .work .now) (a .h)) (a .f) in
-    let head = line-added part refl (c .before .before .before .before .before .before .before .before .before .func-numbers .ensures .0) (c .before .before .before .before .before .before .before .put-row .ensures) (c .before .before .before .before .and-line .ensures) in
+    let own = row .before .before .func-numbers .ensures .0 in
+    let head = line-added part refl own (row .put-row .ensures) (c .before .before .before .before .and-line .ensures) in
     rw (opened-func k) (adds-both (room-start (start .pre .2)) head (c .before .before .put-points .ensures))
 
 put-row-requires : tie.Need-put-row-requires
 put-row-requires c κs =
+    let span = c .before .before .before .before .span-at in
     let start = c .before .before .before .before .before .before .before in
     let a = start .args in
-    let k = there (start .pre .0) (start .pre .1) (c .before .before .before .before .span-at .ensures) in
-    let points = pointsPart (a .price) (taskOf (a .work .now) (a .h)) (a .f) (c .before .before .before .before .span-at .result .size) in
+    let k = there (start .pre .0) (start .pre .1) (span .ensures) in
     let part = headPart (a .price) (taskOf (a .work .now) (a .h)) (a .f) in
+    let points = pointsPart (a .price) (taskOf (a .work .now) (a .h)) (a .f) (span .result .size) in
     let room = room-first part points (rw (opened-func k) at (start .pre .2)) in
     omega (arith, room .bytes, ap length (c .before .func-numbers .ensures .0))
 
 put-points-requires : tie.Need-put-points-requires
 put-points-requires c κs =
-    let start = c .before .before .before .before .before .before .before .before .before .before .before .before in
+    let row = c .before .before .before .before in
+    let span = row .before .before .before .before .before .span-at in
+    let start = row .before .before .before .before .before .before .before .before in
     let a = start .args in
-    let k = there (start .pre .0) (start .pre .1) (c .before .before .before .before .before .before .before .before .before .span-at .ensures) in
+    let k = there (start .pre .0) (start .pre .1) (span .ensures) in
     let part = headPart (a .price) (taskOf (a .work .now) (a .h)) (a .f) in
-    let head = line-added part refl (c .before .before .before .before .before .before .func-numbers .ensures .0) (c .before .before .before .before .put-row .ensures) (c .before .and-line .ensures) in
-    let points = pointsPart (a .price) (taskOf (a .work .now) (a .h)) (a .f) (c .before .before .before .before .before .before .before .before .before .span-at .result .size) in
+    let points = pointsPart (a .price) (taskOf (a .work .now) (a .h)) (a .f) (span .result .size) in
+    let own = row .before .before .func-numbers .ensures .0 in
+    let head = line-added part refl own (row .put-row .ensures) (c .before .and-line .ensures) in
     let room = room-second part points (rw (opened-func k) at (start .pre .2)) (adds-counts head) in
     (k, record { bytes = omega (arith, room .bytes); sum = room .sum })
 

@@ -27,10 +27,15 @@ point-numbers-requires c κs = omega (arith, size-low (c .before .before .before
 
 put-row-requires : tie.Need-put-row-requires
 put-row-requires c κs =
-    omega (arith, ap length (point-row (c .before .before .before .before .before .before .before .args .f) (c .before .before .before .before .point-figures .ensures) (c .before .point-numbers .ensures)), c .before .before .before .before .before .before .before .pre .2 .bytes)
+    let figures = c .before .before .before .before .point-figures .ensures in
+    let start = c .before .before .before .before .before .before .before in
+    omega (arith, ap length (point-row (start .args .f) figures (c .before .point-numbers .ensures)), start .pre .2 .bytes)
 
 and-line-requires : tie.Need-and-line-requires
-and-line-requires c κs = omega (arith, ap (λ (x : PointSheet). x .cost) (c .before .before .before .before .before .before .before .point-figures .ensures), c .before .before .before .before .before .before .before .before .before .before .pre .2 .sum)
+and-line-requires c κs =
+    let figures = c .before .before .before .before .before .before .before .point-figures .ensures in
+    let start = c .before .before .before .before .before .before .before .before .before .before in
+    omega (arith, ap (λ (x : PointSheet). x .cost) figures, start .pre .2 .sum)
 
 pub put-point-spec : {M : Type 1} → statement M
 put-point-spec =
