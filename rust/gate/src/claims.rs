@@ -5,7 +5,7 @@
 //! | Word | Stands for |
 //! |---|---|
 //! | `crate::item` | a function, type or constant of crates/CRATE/src, or of rust/CRATE/src; `crate::Type::method` too |
-//! | `crate/name` | the edit crates/CRATE/must-fail/NAME.edit |
+//! | `crate/label` | the must-fail edit of this label in crates/CRATE/must-fail |
 //! | `crate/specs/File`, `crate/proofs/File`, each also with `.name` | a file of a crate, and a name that it declares |
 //! | `specs/File`, `proofs/File` | the file of each crate that the cell has named |
 //! | `File.name`, `File.Record.field` | a name that File.antt declares, in crates/model/specs, crates/theory/proofs or crates/theory/specs |
@@ -21,6 +21,7 @@
 use std::collections::{BTreeMap, BTreeSet};
 use std::path::{Path, PathBuf};
 
+use crate::edit;
 use crate::names::{self, Names};
 use crate::tree::{self, files, files_below, stem};
 use crate::Findings;
@@ -59,10 +60,9 @@ pub fn resolve_all(root: &Path) -> Findings {
             row.crates.append(&mut scope.crates);
         }
     }
-    for edit in tree::edits(root) {
-        let row = named.contains(&edit.to_string());
+    for edit in &index.edits {
         let none = || format!("{DOCUMENT}: the edit {edit} has no row");
-        findings.count(row.then_some(()).ok_or_else(none));
+        findings.count(named.contains(edit).then_some(()).ok_or_else(none));
     }
     findings
 }
@@ -145,6 +145,8 @@ struct Index {
     tests: BTreeMap<String, Names>,
     /// The names of all files outside build folders.
     files: BTreeSet<String>,
+    /// The must-fail edits, each as `crate/label`.
+    edits: BTreeSet<String>,
 }
 
 impl Index {
@@ -155,6 +157,7 @@ impl Index {
             sources: BTreeMap::new(),
             tests: BTreeMap::new(),
             files: BTreeSet::new(),
+            edits: edit::all(root).iter().map(ToString::to_string).collect(),
         };
         for folder in [
             "crates/model/specs",
@@ -262,7 +265,7 @@ impl Index {
         if (first == "specs" || first == "proofs") && !scope.crates.is_empty() {
             return self.files_of_crates(word, scope);
         }
-        if krate.join(format!("must-fail/{rest}.edit")).exists() {
+        if self.edits.contains(word) {
             return Ok(());
         }
         Err("there is no such edit, file or folder".to_string())
@@ -367,45 +370,42 @@ mod tests {
     use super::*;
     use crate::tree::Sample;
 
-    fn sample(name: &str, table: &str) -> Sample {
+    fn sample(table: &str) -> Sample {
         let document = format!("# Claims\n\n`not in a table`\n\n{table}");
-        Sample::of(
-            name,
-            &[
-                ("docs/CLAIMS.md", &document),
-                ("docs/RULES.md", "# Rules\n\n## Task text: lines, words\n"),
-                (
-                    "crates/model/specs/Text.antt",
-                    "pub lineOf : ℕ\nabbrev pub bytes : ℕ\n",
-                ),
-                (
-                    "crates/model/specs/Limits.antt",
-                    "abbrev pub mostBytes : ℕ\n",
-                ),
-                ("crates/model/src/lib.rt", "pub struct Limits;\n"),
-                (
-                    "crates/theory/proofs/Text.antt",
-                    "pub record Read (t : Task) : Type 0 where\n  pub whole : ℕ\n",
-                ),
-                (
-                    "crates/line/src/lib.rt",
-                    "pub enum Found {\n    At(u32),\n}\npub fn read_line(a: u32)\n",
-                ),
-                ("crates/line/proofs/Laws.antt", "pub first-line : ℕ\n"),
-                ("crates/line/must-fail/one_more.edit", ""),
-                (
-                    "rust/tests/tests/rows.rs",
-                    "#[test]\nfn damaged_texts() {\n}\n",
-                ),
-                ("rust/felknost/src/lib.rs", "pub fn check(text: &[u8])\n"),
-                ("tests/c/check.c", "static void limits(void)\n"),
-                ("include/felknost.h", ""),
-            ],
-        )
+        Sample::of(&[
+            ("docs/CLAIMS.md", &document),
+            ("docs/RULES.md", "# Rules\n\n## Task text: lines, words\n"),
+            (
+                "crates/model/specs/Text.antt",
+                "pub lineOf : ℕ\nabbrev pub bytes : ℕ\n",
+            ),
+            (
+                "crates/model/specs/Limits.antt",
+                "abbrev pub mostBytes : ℕ\n",
+            ),
+            ("crates/model/src/lib.rt", "pub struct Limits;\n"),
+            (
+                "crates/theory/proofs/Text.antt",
+                "pub record Read (t : Task) : Type 0 where\n  pub whole : ℕ\n",
+            ),
+            (
+                "crates/line/src/lib.rt",
+                "pub enum Found {\n    At(u32),\n}\npub fn read_line(a: u32)\n",
+            ),
+            ("crates/line/proofs/Laws.antt", "pub first-line : ℕ\n"),
+            ("crates/line/must-fail/one_more.edit", ""),
+            (
+                "rust/tests/tests/rows.rs",
+                "#[test]\nfn damaged_texts() {\n}\n",
+            ),
+            ("rust/felknost/src/lib.rs", "pub fn check(text: &[u8])\n"),
+            ("tests/c/check.c", "static void limits(void)\n"),
+            ("include/felknost.h", ""),
+        ])
     }
 
-    fn findings(name: &str, table: &str) -> Findings {
-        resolve_all(sample(name, table).root())
+    fn findings(table: &str) -> Findings {
+        resolve_all(sample(table).root())
     }
 
     #[test]
@@ -423,7 +423,7 @@ mod tests {
 | tests | `damaged_texts`, `rows::damaged_texts`, `limits` |
 | files of the model: `Limits` | `mostBytes` |
 ";
-        let findings = findings("found", table);
+        let findings = findings(table);
         assert_eq!(findings.lines, Vec::<String>::new());
         assert_eq!((findings.passed, findings.failed), (28, 0));
     }
@@ -439,7 +439,7 @@ mod tests {
 | `undamaged_texts`, `Nowhere.name` |
 | [one](RULES.md#no-such), [two](NONE.md) |
 ";
-        let findings = findings("missing", table);
+        let findings = findings(table);
         assert_eq!(
             findings.lines,
             [
@@ -463,7 +463,7 @@ mod tests {
 
     #[test]
     fn a_missing_document_fails() {
-        let sample = Sample::of("none", &[("crates/line/must-fail/one.edit", "")]);
+        let sample = Sample::of(&[("crates/line/must-fail/one.edit", "")]);
         let findings = resolve_all(sample.root());
         assert_eq!((findings.passed, findings.failed), (0, 1));
     }

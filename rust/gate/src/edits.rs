@@ -1,202 +1,111 @@
-//! Whether a must-fail edit was refused at a fact.
+//! Whether each must-fail edit was refused at a fact.
 //!
-//! `rt ci` counts an edit where the prover refuses it, whatever the reason. An edit shows something only where the first error is a goal that
-//! does not hold. Where the error is about a name, a need, the shape of a proof file or a form of the language, nothing is shown about the
-//! contract. An error of a form that is listed nowhere below counts as bad: read it, and list it.
+//! `rt ci` counts a file of edits where the prover refuses the crate with all of them, whatever the reason. Here each edit is judged by itself:
+//! - An edit that names its function is judged by the errors in the proof file of that function. The first of them that is not the consequence of another error
+//!   has to be about a fact. That a caller is not proved, or calls what is not proved, shows nothing. Outside the proof files of the functions that the check
+//!   makes wrong there are consequences only; any other error there says that an edit reaches further than its function.
+//! - Any other edit is alone in its check, and the first error of the log has to be about a fact.
 
 use std::path::Path;
 
-use crate::tree::{self, Edit};
+use crate::edit::{self, Edit};
+use crate::errors::{self, About, LogError};
 use crate::Findings;
 
-/// Errors that are about no fact, by a piece of their text in which each quoted part is written as two quotes.
-const NO_FACT: &[(&str, &str)] = &[
-    ("`` is not in scope", "a name that is not in scope"),
-    ("cannot find", "a name that is not in scope"),
-    (
-        "that can be named from here",
-        "a need that the function does not have",
-    ),
-    (
-        "record `` has no field ``",
-        "a proof that reads a path that is not there",
-    ),
-    (
-        "for this file to be the proof of",
-        "a proof file that no function has",
-    ),
-    (
-        "its type has room for only",
-        "a proof file that does not fit",
-    ),
-    (
-        "no occurrence of the path's",
-        "a rewriting that finds nothing to rewrite",
-    ),
-    (
-        "was not admitted",
-        "what follows from another error; a function that has no proof file",
-    ),
-    (
-        "expected an expression, found",
-        "a form that cannot be read",
-    ),
-    (
-        "expected a declaration, found",
-        "a form that cannot be read",
-    ),
-    ("expected a pattern, found", "a form that cannot be read"),
-    ("needs a type here", "a form that cannot be read"),
-    ("arguments are given", "a proof file that does not fit"),
-    ("too many arguments", "a proof file that does not fit"),
-];
-
-/// Errors that are about a fact, likewise.
-const FACT: &[&str] = &[
-    "``: the goal does not follow from what it read",
-    "``: the part `` of the goal does not follow from what it read",
-    "the two types differ only where",
-    "the two types first differ where",
-    "the two types are `` (expected)",
-    "the two values differ only where",
-    "the two values first differ where",
-    "`` ≟ `` does not hold",
-    "the two sides differ only where",
-    "the two sides first differ where",
-    "the two sides are",
-    "give a proof of that as the last argument",
-    "``: no proof of ``",
-    "``: the two sides of the goal are not joined",
-    "expected type ``",
-];
-
-/// How much of an error is looked at, in characters with the quoted parts left out.
-const HEAD: usize = 200;
-
-/// Judges every edit of the tree by its log.
+/// Judges every edit of the tree by the log of its check.
 pub fn judge_all(root: &Path, show: bool) -> Findings {
     let mut findings = Findings::default();
-    for edit in tree::edits(root) {
-        let path = format!("target/must-fail/{}/{}/.log", edit.krate, edit.name);
-        let log = tree::read(&root.join(path));
-        if show {
-            let error = log.as_deref().and_then(first_error);
-            let error = error.unwrap_or_else(|| "no error".to_string());
-            let side = if is_side_need(&error) {
-                " (side need)"
-            } else {
-                ""
-            };
-            findings
-                .lines
-                .push(format!("{edit}{side}: {}", cut(&error, 240)));
+    let edits = edit::all(root);
+    for edit in &edits {
+        let shares = |other: &&Edit| other.krate == edit.krate && other.file == edit.file;
+        let check: Vec<&Edit> = edits.iter().filter(shares).collect();
+        let judged = judge(edit, &check, edit.log(root).as_deref());
+        if let Ok(error) = &judged {
+            findings.lines.push(line(edit, error, show));
         }
-        findings.count(judge(&edit, log.as_deref()));
+        let nothing = |why| format!("{edit} SHOWS NOTHING: {why}");
+        findings.count(judged.map(|_| ()).map_err(nothing));
     }
     findings
 }
 
-/// Whether one edit shows something, by its log.
-fn judge(edit: &Edit, log: Option<&str>) -> Result<(), String> {
-    let nothing = |why: &str| Err(format!("{edit} shows nothing: {why}"));
+/// What is printed of an edit that was refused at this error.
+fn line(edit: &Edit, error: &LogError, show: bool) -> String {
+    let side = if error.is_side_need() {
+        " (side need)"
+    } else {
+        ""
+    };
+    let mut line = format!("{edit}: refused at {}{side}", error.need());
+    if edit.file != edit.label {
+        line.push_str(&format!(", with {}", edit.file));
+    }
+    if show {
+        line.push_str(&format!(": {}", errors::cut(&error.text, 240)));
+    }
+    line
+}
+
+/// The error at which an edit is refused, by the log of its check; else why it shows nothing.
+fn judge(edit: &Edit, check: &[&Edit], log: Option<&str>) -> Result<LogError, String> {
     let Some(log) = log else {
-        return nothing("it did not reach the prover, and there is no log of it");
+        return Err("it did not reach the prover, and there is no log of it".to_string());
     };
-    if log.lines().any(|line| line.starts_with("logic=proved")) {
-        return nothing("the crate is still proved with it");
+    let says = |word: &str| log.lines().any(|line| line.starts_with(word));
+    if says("logic=proved") {
+        return Err("the crate is still proved with it".to_string());
     }
-    let Some(error) = first_error(log) else {
-        return nothing("its log has no error");
-    };
-    if !log.lines().any(|line| line.starts_with("logic=not-proved")) {
-        let error = cut(&error, 160);
-        return nothing(&format!("it did not reach the prover: {error}"));
+    let errors = errors::of_log(log);
+    if !says("logic=not-proved") {
+        let first = errors.first().map(|error| errors::cut(&error.text, 160));
+        let first = first.unwrap_or_else(|| "its log has no error".to_string());
+        return Err(format!("it did not reach the prover: {first}"));
     }
-    match judge_error(&error) {
-        Ok(()) => Ok(()),
-        Err(why) => nothing(&format!("{why}: {}", cut(&error, 160))),
-    }
-}
-
-/// Whether an error is about what a call requires or a bound, and not about what a function ensures. Such an edit may stand for another fact
-/// than the one that refuses it first; whoever reads the list decides.
-fn is_side_need(error: &str) -> bool {
-    let need = error
-        .trim_start_matches('`')
-        .split('`')
-        .next()
-        .unwrap_or_default();
-    let starts = [
-        "add-",
-        "sub-",
-        "mul-",
-        "shl-",
-        "cast-",
-        "part-",
-        "shared-slice-",
-        "unique-slice-",
-    ];
-    need.ends_with("-requires") || starts.iter().any(|start| need.starts_with(start))
-}
-
-/// Whether an error is about a fact; else what it is about.
-fn judge_error(error: &str) -> Result<(), &'static str> {
-    let head = cut(&without_quoted(error), HEAD);
-    if error.starts_with('[') {
-        return Err("a form that the compiler refuses");
-    }
-    // What stands first says what the error is about; an advice that follows it may speak of names.
-    let fact = FACT.iter().filter_map(|text| head.find(text)).min();
-    let first = |(text, why): &(&str, &'static str)| Some((head.find(text)?, *why));
-    if let Some((place, why)) = NO_FACT.iter().filter_map(first).min() {
-        if fact.is_none_or(|fact| place < fact) {
-            return Err(why);
+    match edit.proof_file() {
+        None if check.len() > 1 => Err("it names no function, and is not alone".to_string()),
+        None => about_a_fact(errors.first(), "its log has no error"),
+        Some(own) => {
+            stays_inside(&errors, check)?;
+            let is_own = |error: &&LogError| is_in(error, &own) && error.about() != About::Other;
+            about_a_fact(
+                errors.iter().find(is_own),
+                &format!("no error of its own in {own}"),
+            )
         }
     }
-    // A proof file gives a proof for each need; one too few leaves a function that still asks.
-    if error.contains(".Lts.Closed ") && error.contains("but this has type `tie.Need-") {
-        return Err("a need that the proof file does not give");
-    }
-    if fact.is_some() {
-        return Ok(());
-    }
-    Err("an error of a form that rust/gate/src/edits.rs does not list")
 }
 
-/// The first error of a log: what follows `PLACE: error`, with the lines that belong to it. An error of the compiler's front end begins with
-/// its kind in brackets.
-fn first_error(log: &str) -> Option<String> {
-    let mut lines = log.lines();
-    let mut error = lines.by_ref().find_map(error_of)?.to_string();
-    for line in lines.take_while(|line| line.starts_with("  ")) {
-        error.push(' ');
-        error.push_str(line.trim());
+/// The error, if there is one and it is about a fact.
+fn about_a_fact(error: Option<&LogError>, none: &str) -> Result<LogError, String> {
+    let error = error.ok_or(none)?;
+    let text = errors::cut(&error.text, 160);
+    match error.about() {
+        About::Fact => Ok(error.clone()),
+        About::Other => Err(format!("what follows from another error: {text}")),
+        About::Nothing(why) => Err(format!("{why}: {text}")),
     }
-    Some(error)
 }
 
-/// The text of an error on a line `FILE:LINE:COLUMN: error: TEXT` or `.. error[KIND]: TEXT`.
-fn error_of(line: &str) -> Option<&str> {
-    let (place, text) = line.split_once(": error")?;
-    let mut numbers = place.rsplit(':');
-    let mut number = || numbers.next()?.parse::<u32>().ok();
-    number()?;
-    number()?;
-    Some(text.strip_prefix(": ").unwrap_or(text))
-}
-
-/// A text with each part between back quotes left out.
-fn without_quoted(text: &str) -> String {
-    let parts: Vec<&str> = text.split('`').step_by(2).collect();
-    parts.join("``")
-}
-
-/// The first `most` characters.
-fn cut(text: &str, most: usize) -> String {
-    match text.char_indices().nth(most) {
-        Some((end, _)) => format!("{} ..", &text[..end]),
-        None => text.to_string(),
+/// Whether the errors of a check are in the proof files of the functions that it makes wrong, but for consequences.
+fn stays_inside(errors: &[LogError], check: &[&Edit]) -> Result<(), String> {
+    let files: Vec<String> = check.iter().filter_map(|edit| edit.proof_file()).collect();
+    let inside = |error: &LogError| files.iter().any(|file| is_in(error, file));
+    let mut outside = errors.iter().filter(|error| !inside(error));
+    match outside.find(|error| error.about() != About::Other) {
+        Some(error) => {
+            let text = errors::cut(&error.text, 160);
+            let file = error.file.rsplit("/must-fail/").next().unwrap_or_default();
+            Err(format!(
+                "an error outside the proof of its function, in {file}: {text}"
+            ))
+        }
+        None => Ok(()),
     }
+}
+
+/// Whether an error is in a file of the crate.
+fn is_in(error: &LogError, file: &str) -> bool {
+    error.file.ends_with(&format!("/{file}"))
 }
 
 #[cfg(test)]
@@ -204,138 +113,177 @@ mod tests {
     use super::*;
     use crate::tree::Sample;
 
-    fn log(errors: &str) -> String {
-        format!("note: a word\n{errors}\nfn bits::top_of: not proved\nlogic=not-proved\n")
+    /// Logs of checks of `bits` with the edits of three functions, lines cut at 260 characters. `transfer_of` calls `union_of`.
+    const ALL: &str = include_str!("../logs/bits-all.log");
+    /// With an edit of `top_of` that changes nothing: a constant by its number.
+    const HARMLESS: &str = include_str!("../logs/bits-harmless.log");
+    /// With an edit of `transfer_of` that changes nothing in place of the one of `top_of`.
+    const CALLER: &str = include_str!("../logs/bits-caller.log");
+    /// With an edit of `lowest_of` that leaves out a branch, so that its proof file does not fit.
+    const SHAPE: &str = include_str!("../logs/bits-shape.log");
+    /// With an edit of `lowest_of` that names what there is not.
+    const FRONT: &str = include_str!("../logs/bits-front.log");
+
+    const NOT_PROVED: &str = "logic=not-proved\n";
+    const SCOPE: &str = "/kit/target/must-fail/bits/batch/proofs/lowest_of/Proof.antt:8:7: error: `returns`: `lowest-trailing` is not in scope\n";
+    const LAWS: &str = "/kit/target/must-fail/bits/batch/proofs/Laws.antt:8:7: error: `lowest-trailing`: `omega`: the goal does not follow from what it read.\n";
+
+    /// A file of edits of these functions of `bits`.
+    fn batch_of(functions: &[&str]) -> String {
+        let edit =
+            |f: &&str| format!("# edit: {f}\n# function: {f}\nfile: src/lib.rt\nold: a\nnew: b\n");
+        functions.iter().map(edit).collect()
     }
 
-    fn of(errors: &str) -> Result<(), String> {
-        let edit = Edit {
-            krate: "bits".to_string(),
-            name: "edit".to_string(),
-        };
-        judge(&edit, Some(&log(errors)))
+    fn tree(file: &str, text: &str, log: Option<&str>) -> Findings {
+        let edits = format!("crates/bits/must-fail/{file}.edit");
+        let path = format!("target/must-fail/bits/{file}/.log");
+        let mut files = vec![(&edits[..], text)];
+        files.extend(log.map(|log| (&path[..], log)));
+        judge_all(Sample::of(&files).root(), false)
     }
 
-    #[test]
-    fn facts() {
-        for error in [
-            "/a/Proof.antt:20:11: error: `packed-spec`: give a proof of that as the last argument, `rw L t` (`rw L ?` shows it)\n  `rw` has no last",
-            "/a/Proof.antt:21:69: error: `packed-spec`: `omega`: the goal does not follow from what it read. All of that holds",
-            "/a/Proof.antt:39:6: error: `requires`: `omega`: the part `.number` of the goal does not follow from what it read.",
-            "/a/Cases.antt:225:22: error: `turns`: as printed, the two types differ only where one has `x`\n  (expected)",
-            "/a/Examples.antt:123:3: error: `starred`: computed as far as they go, the two types are `Path ℕ 1 0` (expected) and `Path ℕ 1 1` (found)",
-            "/a/Proof.antt:9:3: error: `returns-2`: as printed, the two sides first differ where one has `x` (left)",
-            "/a/Proof.antt:9:3: error: `returns`: `search`: no proof of `Post (c .κs)` was found.",
-            "/a/Proof.antt:9:3: error: `returns-2`: expected type `_≡_ x y → Prim.⊥`\n  but this has type `_≡_ x z → Prim.⊥`",
-        ] {
-            assert_eq!(of(error), Ok(()), "{error}");
-        }
+    fn batch(functions: &[&str], log: &str) -> Findings {
+        tree("batch", &batch_of(functions), Some(log))
     }
 
-    #[test]
-    fn no_facts() {
-        for (error, why) in [
-            (
-                "/a/lib.rt:43:12: error[unknown-name]: cannot find value `kk` in this scope",
-                "a form that the compiler refuses",
-            ),
-            (
-                "/a/Limits.antt:6:3: error: `mostStack`: `sixtyfour` is not in scope",
-                "a name that is not in scope",
-            ),
-            (
-                "/a/Proof.antt:9:3: error: `returns-2`: `tie.Need-returns-2`: module `x.Tie` has no `Need-returns-2` that can be named from here",
-                "a need that the function does not have",
-            ),
-            (
-                "/a/Proof.antt:9:3: error: `returns`: record `x.Lts.Start` has no field `before`",
-                "a proof that reads a path that is not there",
-            ),
-            (
-                "/a/Proof.antt:9:3: error: `bits` has no function `union_of` for this file to be the proof of: help: delete the folder",
-                "a proof file that no function has",
-            ),
-            (
-                "/a/Proof.antt:9:3: error: `union-of-spec`: expected type `x.Lts.Closed x.Pre`\n  but this has type `tie.Need-returns-2 → x.Lts.Closed`",
-                "a need that the proof file does not give",
-            ),
-            (
-                "/a/Proof.antt:9:3: error: `packed-spec`: this λ has 2 binders, but its type has room for only 1: at `κs` the type is `x`",
-                "a proof file that does not fit",
-            ),
-            (
-                "/a/Proof.antt:9:3: error: `packed-spec`: `rw`: no occurrence of the path's left endpoint in the hypothesis's type: write",
-                "a rewriting that finds nothing to rewrite",
-            ),
-            (
-                "/a/Proof.antt:9:3: error: `number-spec`: `close` was not admitted (it has holes or undetermined implicits, or was rejected)",
-                "what follows from another error",
-            ),
-            (
-                "/a/Limits.antt:6:3: error: expected an expression, found `=`",
-                "a form that cannot be read",
-            ),
-            (
-                "/a/Proof.antt:9:3: error: `returns`: something that nobody has read yet",
-                "an error of a form that rust/gate/src/edits.rs does not list",
-            ),
-            ("no error here", "its log has no error"),
-        ] {
-            let line = of(error).expect_err(error);
-            let start = format!("bits/edit shows nothing: {why}");
-            assert!(line.starts_with(&start), "{line}");
-        }
-    }
+    const THREE: &[&str] = &["lowest_of", "top_of", "union_of"];
 
     #[test]
-    fn side_needs() {
-        assert!(is_side_need(
-            "`read-body-requires`: `omega`: the goal does not follow"
-        ));
-        assert!(is_side_need("`add-t12`: `omega`: the goal does not follow"));
-        assert!(!is_side_need(
-            "`returns`: `omega`: the goal does not follow"
-        ));
-    }
-
-    /// Only the first error counts, and what is quoted in it does not.
-    #[test]
-    fn first_error_decides() {
-        let fact = "/a/P.antt:1:1: error: `returns`: `omega`: the goal does not follow from what it read at `was not admitted`";
-        let none = "/a/P.antt:2:1: error: `spec`: `returns` was not admitted (it was rejected)";
-        assert_eq!(of(&format!("{fact}\n{none}")), Ok(()));
-        assert!(of(&format!("{none}\n{fact}")).is_err());
-    }
-
-    #[test]
-    fn logs_of_a_tree() {
-        let fact = log("/a/P.antt:1:1: error: `returns`: `search`: no proof of `x` was found");
-        let name = log("/a/P.antt:1:1: error: `returns`: `x` is not in scope");
-        let front = "/a/lib.rt:1:1: error[unsupported-tuple]: a tuple is not supported yet\n";
-        let sample = Sample::of(
-            "edits",
-            &[
-                ("crates/bits/must-fail/fact.edit", ""),
-                ("crates/bits/must-fail/front.edit", ""),
-                ("crates/bits/must-fail/name.edit", ""),
-                ("crates/bits/must-fail/proved.edit", ""),
-                ("crates/words/must-fail/lost.edit", ""),
-                ("target/must-fail/bits/fact/.log", &fact),
-                ("target/must-fail/bits/front/.log", front),
-                ("target/must-fail/bits/name/.log", &name),
-                ("target/must-fail/bits/proved/.log", "logic=proved\n"),
-                ("target/must-fail/bits/gone/.log", &name),
-            ],
-        );
-        let findings = judge_all(sample.root(), false);
-        assert_eq!((findings.passed, findings.failed), (1, 4));
-        let lines = findings.lines.join("\n");
+    fn all_refused() {
+        let found = batch(THREE, ALL);
         assert_eq!(
-            lines,
-            "bits/front shows nothing: it did not reach the prover: [unsupported-tuple]: a tuple is not supported yet\n\
-             bits/name shows nothing: a name that is not in scope: `returns`: `x` is not in scope\n\
-             bits/proved shows nothing: the crate is still proved with it\n\
-             words/lost shows nothing: it did not reach the prover, and there is no log of it"
+            found.lines,
+            [
+                "bits/lowest_of: refused at lowest-of-spec, with batch",
+                "bits/top_of: refused at top-of-spec, with batch",
+                "bits/union_of: refused at union-of-spec, with batch",
+            ]
         );
+        assert_eq!((found.passed, found.failed), (3, 0));
+    }
+
+    #[test]
+    fn one_of_three_is_harmless() {
+        let found = batch(THREE, HARMLESS);
+        assert_eq!((found.passed, found.failed), (2, 1));
+        assert_eq!(
+            found.lines[1],
+            "bits/top_of SHOWS NOTHING: no error of its own in proofs/top_of/Proof.antt"
+        );
+    }
+
+    /// That a function calls what is not proved shows nothing of the function.
+    #[test]
+    fn one_is_refused_only_in_a_caller() {
+        let found = batch(&["lowest_of", "union_of", "transfer_of"], CALLER);
+        assert_eq!((found.passed, found.failed), (2, 1));
+        assert_eq!(
+            found.lines[2],
+            "bits/transfer_of SHOWS NOTHING: no error of its own in proofs/transfer_of/Proof.antt"
+        );
+    }
+
+    /// A caller that is made wrong too has a fact of its own behind the consequence.
+    #[test]
+    fn a_caller_and_its_callee() {
+        let fact = "/kit/target/must-fail/bits/batch/proofs/transfer_of/Proof.antt:9:3: error: `returns`: `search`: no proof of `x` was found.\n";
+        let log = CALLER.replace(NOT_PROVED, &format!("{fact}{NOT_PROVED}"));
+        let found = batch(&["lowest_of", "union_of", "transfer_of"], &log);
+        assert_eq!((found.passed, found.failed), (3, 0));
+    }
+
+    #[test]
+    fn one_has_a_name_out_of_scope() {
+        let found = batch(THREE, SHAPE);
+        assert_eq!((found.passed, found.failed), (2, 1));
+        let start = "bits/lowest_of SHOWS NOTHING: a proof that reads a path that is not there: `lowest-of-spec`: record";
+        assert!(found.lines[0].starts_with(start), "{}", found.lines[0]);
+        // a fact behind it does not count
+        let found = batch(THREE, &format!("{SCOPE}{ALL}"));
+        assert_eq!((found.passed, found.failed), (2, 1));
+        assert_eq!(
+            found.lines[0],
+            "bits/lowest_of SHOWS NOTHING: a name that is not in scope: `returns`: `lowest-trailing` is not in scope"
+        );
+    }
+
+    /// An error in a law, or in the proof of a function that no edit names, says that an edit is not one of a body.
+    #[test]
+    fn one_reaches_further() {
+        for (functions, log) in [
+            (THREE, format!("{LAWS}{ALL}")),
+            (&THREE[..2], ALL.to_string()),
+        ] {
+            let found = batch(functions, &log);
+            assert_eq!((found.passed, found.failed), (0, functions.len()));
+            let start = "bits/top_of SHOWS NOTHING: an error outside the proof of its function, in bits/batch/proofs/";
+            assert!(found.lines[1].starts_with(start), "{}", found.lines[1]);
+        }
+    }
+
+    #[test]
+    fn a_whole_batch_that_shows_nothing() {
+        for (log, why) in [
+            (Some("logic=proved\n"), "the crate is still proved with it"),
+            (
+                None,
+                "it did not reach the prover, and there is no log of it",
+            ),
+            (
+                Some(FRONT),
+                "it did not reach the prover: [unknown-name]: cannot find value `zz` in this scope",
+            ),
+        ] {
+            let found = tree("batch", &batch_of(THREE), log);
+            assert_eq!((found.passed, found.failed), (0, 3));
+            assert_eq!(
+                found.lines[0],
+                format!("bits/lowest_of SHOWS NOTHING: {why}")
+            );
+        }
+    }
+
+    /// An edit that names no function is judged by the first error of the log.
+    #[test]
+    fn an_edit_alone() {
+        let alone = "file: specs/Bits.antt\nold: a\nnew: b\n";
+        let of = |errors: &[&str]| {
+            let log = format!("{}{NOT_PROVED}", errors.concat());
+            tree("lowest", alone, Some(&log))
+        };
+        let consequence = "/kit/target/must-fail/bits/lowest/proofs/top_of/Proof.antt:9:20: error: `top-of-spec`: `close` was not admitted (it has holes)\n";
+        let found = of(&[LAWS, consequence]);
+        assert_eq!(found.lines, ["bits/lowest: refused at lowest-trailing"]);
+        for (errors, why) in [
+            (
+                vec![consequence, LAWS],
+                "what follows from another error: `top-of-spec`",
+            ),
+            (vec![SCOPE, LAWS], "a name that is not in scope: `returns`"),
+            (vec![], "its log has no error"),
+        ] {
+            let found = of(&errors);
+            let start = format!("bits/lowest SHOWS NOTHING: {why}");
+            assert_eq!((found.passed, found.failed), (0, 1));
+            assert!(found.lines[0].starts_with(&start), "{}", found.lines[0]);
+        }
+    }
+
+    #[test]
+    fn an_edit_of_no_function_in_a_batch() {
+        let text = batch_of(THREE).replace("# function: top_of\n", "");
+        let found = tree("batch", &text, Some(ALL));
+        let line = "bits/top_of SHOWS NOTHING: it names no function, and is not alone";
+        assert!(found.lines.contains(&line.to_string()));
+    }
+
+    #[test]
+    fn side_needs_are_marked() {
+        let text = "# function: top_of\nfile: src/lib.rt\nold: a\nnew: b\n";
+        let error = "/kit/proofs/top_of/Proof.antt:9:3: error: `sub-t3`: `omega`: the goal does not follow from what it read.\n";
+        let found = tree("past", text, Some(&format!("{error}{NOT_PROVED}")));
+        assert_eq!(found.lines, ["bits/past: refused at sub-t3 (side need)"]);
+        assert_eq!((found.passed, found.failed), (1, 0));
     }
 }

@@ -1,12 +1,17 @@
-//! What the gate reads beside the proofs. Both commands are run at the top of the repository, and their last line counts.
+//! What the gate reads beside the proofs. The commands are run at the top of the repository, and their last line counts.
 //!
-//! - `gate edits [--show]`: after `rt ci`, whether each must-fail edit was refused at a fact. `--show` prints the first error of every edit.
+//! - `gate batches`: before `rt ci`, whether the must-fail edits of each file may share a check.
+//! - `gate edits [--show]`: after `rt ci`, whether each must-fail edit was refused at a fact. `--show` prints the error of every edit.
 //! - `gate claims`: whether what docs/CLAIMS.md names is there, and whether every edit has its row.
 
 #![forbid(unsafe_code)]
 
+mod batches;
 mod claims;
+mod edit;
 mod edits;
+mod errors;
+mod functions;
 mod names;
 mod tree;
 
@@ -39,11 +44,12 @@ fn main() -> ExitCode {
     let words: Vec<&str> = arguments.iter().map(String::as_str).collect();
     let root = Path::new(".");
     let findings = match words[..] {
+        ["batches"] => batches::judge_all(root),
         ["edits"] => edits::judge_all(root, false),
         ["edits", "--show"] => edits::judge_all(root, true),
         ["claims"] => claims::resolve_all(root),
         _ => {
-            eprintln!("usage, at the top of the repository: gate edits [--show] | gate claims");
+            eprintln!("usage, at the top of the repository: gate batches | gate edits [--show] | gate claims");
             return ExitCode::from(2);
         }
     };

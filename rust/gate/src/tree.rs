@@ -47,43 +47,18 @@ pub fn stem(path: &Path) -> String {
     stem.to_string_lossy().into_owned()
 }
 
-/// A must-fail edit.
-#[derive(Clone, Debug, PartialEq, Eq)]
-pub struct Edit {
-    pub krate: String,
-    pub name: String,
-}
-
-impl std::fmt::Display for Edit {
-    fn fmt(&self, out: &mut std::fmt::Formatter) -> std::fmt::Result {
-        write!(out, "{}/{}", self.krate, self.name)
-    }
-}
-
-/// All must-fail edits of the tree.
-pub fn edits(root: &Path) -> Vec<Edit> {
-    let mut edits = Vec::new();
-    for folder in entries(&root.join("crates")) {
-        let name = folder.file_name().unwrap_or_default();
-        let krate = name.to_string_lossy().into_owned();
-        for path in files(&folder.join("must-fail"), "edit") {
-            edits.push(Edit {
-                krate: krate.clone(),
-                name: stem(&path),
-            });
-        }
-    }
-    edits
-}
-
-/// A folder of files for a test.
+/// A folder of files for a test, one of its own for each sample.
 #[cfg(test)]
 pub struct Sample(PathBuf);
 
 #[cfg(test)]
+static SAMPLES: std::sync::atomic::AtomicUsize = std::sync::atomic::AtomicUsize::new(0);
+
+#[cfg(test)]
 impl Sample {
-    pub fn of(name: &str, files: &[(&str, &str)]) -> Self {
-        let folder = format!("felknost-gate-{}-{name}", std::process::id());
+    pub fn of(files: &[(&str, &str)]) -> Self {
+        let number = SAMPLES.fetch_add(1, std::sync::atomic::Ordering::Relaxed);
+        let folder = format!("felknost-gate-{}-{number}", std::process::id());
         let root = std::env::temp_dir().join(folder);
         for (path, text) in files {
             let path = root.join(path);
