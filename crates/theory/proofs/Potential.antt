@@ -152,8 +152,8 @@ module _ (t : Task) (s : Sheet) (w : WellFormed t) (r : Sound t s) where
       let k = func t (x .fn) .frame in
       let q = r .ground .next (x .fn) (x .at) in
       let j = closed (w .linked) (x .fn) (x .at) (suc (x .at)) (i .fn-in) (i .at-in) (rw e (List·Memᴰ·head refl)) in
-      ensure-sum _ _ _ (s .price (k - q)) _ _ _ _ (r .price .none)
-      (le-trans (r .price .more _ _ (fill-parts k n q)) (r .price .parts _ _))
+      ensure-sum _ (s .price (k - n)) (s .price (q - (n - 0))) (s .price (k - q)) _ _ _ _ (r .price .none)
+      (omega (arith, r .price .more _ _ (fill-parts k n q), r .price .parts (k - q) (q - (n - 0))))
       (rules x i .fill (rw e tt))
       (price-zero (r .price) _ (just-filled _ k n (r .at (x .fn) (suc (x .at)) (i .fn-in) j .next-frame)))
       (delayed-less n _ (max n k) _ fs (omega arith))

@@ -16,13 +16,19 @@ Inv-loop work s gens kills sets₀ changed₀ p₀ sets changed p =
 abbrev μ-loop : tie.MeasureT-loop
 μ-loop work s gens kills sets₀ changed₀ p₀ sets changed p = p
 
+loop-holds : tie.Need-loop-holds Inv-loop μ-loop
+loop-holds c = (omega arith, round-starts _ _ _ _ (c .before .before .before .before .pre .2))
+
+returns : tie.Need-returns Inv-loop μ-loop
+returns c = let e : c .before .loop .p ≡ 0 = omega arith in rw e at (c .before .loop .inv .1)
+
 pub round-spec : {M : Type 1} → statement M
 round-spec =
     tie.close
     (tie.spec
     Inv-loop
     μ-loop
-    (λ c. (omega arith, round-starts _ _ _ _ (c .before .before .before .before .pre .2)))
+    loop-holds
     (λ c. omega arith)
     (λ c κs. (c .before .before .before .before .before .before .before .pre .0, omega arith, omega arith))
     (λ c. omega arith)
@@ -42,4 +48,4 @@ round-spec =
     let l = c .before .before .before .before .before .loop in
     (omega arith, round-leaves _ _ _ _ (l .inv .1) (c .before .before .set-at .ensures) (c .if1 .left)))
     (λ c. c .before .loop .inv .1 .kept .size)
-    (λ c. let e : c .before .loop .p ≡ 0 = omega arith in rw e at (c .before .loop .inv .1)))
+    returns)

@@ -5,6 +5,9 @@ use Rattle.codes.proofs.packed.Statement.{statement}
 use Rattle.codes.proofs.packed.Tie as tie
 use Rattle.codes.proofs.Laws.{code-small}
 
+returns : tie.Need-returns
+returns c = rw (c .before .code-of .ensures)
+
 pub packed-spec : {M : Type 1} → statement M
 packed-spec =
     tie.close
@@ -12,4 +15,4 @@ packed-spec =
     (λ c κs. search needs)
     (λ c. omega (arith, c .code-of .ensures, code-small (c .before .args .r .row)))
     (λ c. let d = c .before in omega (arith, d .before .pre, d .code-of .ensures, code-small (d .before .args .r .row)))
-    (λ c. rw (c .before .code-of .ensures)))
+    returns)

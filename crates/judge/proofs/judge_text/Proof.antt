@@ -5,12 +5,18 @@ use borrow.Author.Needs.{needs}
 use Rattle.judge.proofs.judge_text.Statement.{statement}
 use Rattle.judge.proofs.judge_text.Tie as tie
 
+returns : tie.Need-returns
+returns c = too-long _ (omega (arith, c .if1 .taken))
+
+read-text-requires : tie.Need-read-text-requires
+read-text-requires c κs = omega arith
+
 pub judge-text-spec : {M : Type 1} → statement M
 judge-text-spec =
     tie.close
     (tie.spec
-    (λ c. too-long _ (omega (arith, c .if1 .taken)))
-    (λ c κs. omega arith)
+    returns
+    read-text-requires
     (λ c. search needs)
     (λ c. search needs)
     (λ c κs.

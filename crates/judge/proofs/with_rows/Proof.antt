@@ -4,6 +4,11 @@ use borrow.Author.Needs.{needs}
 use Rattle.judge.proofs.with_rows.Statement.{statement}
 use Rattle.judge.proofs.with_rows.Tie as tie
 
+returns-2 : tie.Need-returns-2
+returns-2 c =
+    let a = c .before .before .before .before in
+    rows-accept (a .pre .0) (a .pre .1) (c .before .before .task-rows .ensures) (c .enum-told .given .1)
+
 pub with-rows-spec : {M : Type 1} → statement M
 with-rows-spec =
     tie.close
@@ -14,4 +19,4 @@ with-rows-spec =
     (λ c.
     let a = c .before .before .before .before .before in
     rows-refuse (a .pre .0) (a .pre .1) (c .before .before .before .task-rows .ensures) (c .before .r .given .1))
-    (λ c. let a = c .before .before .before .before in rows-accept (a .pre .0) (a .pre .1) (c .before .before .task-rows .ensures) (c .enum-told .given .1)))
+    returns-2)

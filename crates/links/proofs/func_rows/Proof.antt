@@ -38,6 +38,11 @@ loop-again c =
           (c .if2 .came),
     )
 
+returns-3 : tie.Need-returns-3 Inv-loop μ-loop
+returns-3 c =
+    let l = c .before .before in
+    search-last _ _ _ (l .loop .inv .2) _ (c .link-row2 .ensures) (omega arith) (omega arith)
+
 pub func-rows-spec : {M : Type 1} → statement M
 func-rows-spec =
     tie.close
@@ -68,4 +73,4 @@ func-rows-spec =
     (λ c. omega arith)
     loop-again
     (λ c κs. search needs)
-    (λ c. let l = c .before .before in search-last _ _ _ (l .loop .inv .2) _ (c .link-row2 .ensures) (omega arith) (omega arith)))
+    returns-3)

@@ -6,6 +6,11 @@ use Rattle.ranks.proofs.Laws.{low-best, sunk-best}
 use Rattle.ranks.proofs.take_in.Statement.{statement}
 use Rattle.ranks.proofs.take_in.Tie as tie
 
+returns : tie.Need-returns
+returns c =
+    let s = c .before .before .before .before in
+    low-best (s .args .rank) (s .args .ranks .now) (s .pre) (omega arith) (omega arith)
+
 pub take-in-spec : {M : Type 1} → statement M
 take-in-spec =
     tie.close
@@ -13,7 +18,7 @@ take-in-spec =
     (λ c. search needs)
     (λ c. search needs)
     (λ c. search needs)
-    (λ c. let s = c .before .before .before .before in low-best (s .args .rank) (s .args .ranks .now) (s .pre) (omega arith) (omega arith))
+    returns
     (λ c κs. search needs)
     (λ c.
     let s = c .before .before .before .before .before .before in

@@ -13,6 +13,15 @@ Inv-loop text work₀ h k at most b a₀ m₀ work a m = Body text work₀ h k a
 abbrev μ-loop : tie.MeasureT-loop
 μ-loop text work₀ h k at most b a₀ m₀ work a m = length text - a
 
+returns-3 : tie.Need-returns-3 Inv-loop μ-loop
+returns-3 c =
+    let f = c .before .before in
+    let e = f .before .before .before in
+    let i = e .before .before in
+    let l = i .before .before .before in
+    let few = l .before .before .before .before .pre .2 in
+    body-close (l .loop .inv) (i .read-inside .ensures) (e .enum-told2 .given .1) (omega arith) few (f .close-func .ensures)
+
 pub read-points-spec : {M : Type 1} → statement M
 read-points-spec =
     tie.close
@@ -62,13 +71,7 @@ read-points-spec =
     (λ c. search needs)
     (λ c. search needs)
     (λ c. search needs)
-    (λ c.
-    let f = c .before .before in
-    let e = f .before .before .before in
-    let i = e .before .before in
-    let l = i .before .before .before in
-    let few = l .before .before .before .before .pre .2 in
-    body-close (l .loop .inv) (i .read-inside .ensures) (e .enum-told2 .given .1) (omega arith) few (f .close-func .ensures))
+    returns-3
     (λ c. search needs)
     (λ c. search needs)
     (λ c.

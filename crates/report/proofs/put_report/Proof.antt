@@ -8,16 +8,6 @@ use borrow.Author.Needs.{needs}
 use Rattle.report.proofs.put_report.Statement.{statement}
 use Rattle.report.proofs.put_report.Tie as tie
 
-returns : tie.Need-returns
-returns c =
-    let after = c .before .before .before .before .before .before .before .before .before .before .before .before .before in
-    let funcs = after .put-funcs .ensures in
-    let first = after .before .before .before .before in
-    let a = first .before .before .before .before .before .args in
-    let row = c .before .before .before .before .before .before .before .put-row .ensures in
-    let foot = rw (foot-row (a .price) (a .work .now) (a .h) _ (funcs .total)) at row in
-    report-wrote (a .price) (a .work .now) (a .h) (first .put .ensures) (funcs .wrote) foot (c .before .before .put2 .ensures)
-
 put-requires : tie.Need-put-requires
 put-requires c κs = let a = c .before .before .before .before .args in omega (arith, report-size (a .price) (a .work .now) (a .h))
 
@@ -40,6 +30,16 @@ put-requires-2 c κs =
     let funcs = after .put-funcs .ensures in
     let foot = ap length (foot-row (a .price) (a .work .now) (a .h) _ (funcs .total)) in
     omega (arith, foot, funcs .wrote .end, c .before .before .before .before .put-row .ensures .end, report-size (a .price) (a .work .now) (a .h))
+
+returns : tie.Need-returns
+returns c =
+    let after = c .before .before .before .before .before .before .before .before .before .before .before .before .before in
+    let funcs = after .put-funcs .ensures in
+    let first = after .before .before .before .before in
+    let a = first .before .before .before .before .before .args in
+    let row = c .before .before .before .before .before .before .before .put-row .ensures in
+    let foot = rw (foot-row (a .price) (a .work .now) (a .h) _ (funcs .total)) at row in
+    report-wrote (a .price) (a .work .now) (a .h) (first .put .ensures) (funcs .wrote) foot (c .before .before .put2 .ensures)
 
 pub put-report-spec : {M : Type 1} → statement M
 put-report-spec =

@@ -4,6 +4,11 @@ use Rattle.sheet.proofs.Laws.{report-answers, refusal-answers}
 use Rattle.sheet.proofs.answer.Statement.{statement}
 use Rattle.sheet.proofs.answer.Tie as tie
 
+returns : tie.Need-returns
+returns c =
+    let e = c .before .before .before .before .before .before .before .report .ensures in
+    report-answers _ _ _ (e .0) (e .1 .1) (e .1 .0) (c .before .enum-told .given .1)
+
 pub answer-spec : {M : Type 1} → statement M
 answer-spec =
     tie.close
@@ -15,9 +20,7 @@ answer-spec =
     (λ c κs. search needs)
     (λ c. search needs)
     (λ c. search needs)
-    (λ c.
-    let e = c .before .before .before .before .before .before .before .report .ensures in
-    report-answers _ _ _ (e .0) (e .1 .1) (e .1 .0) (c .before .enum-told .given .1))
+    returns
     (λ c. search needs)
     (λ c. search needs)
     (λ c.

@@ -11,7 +11,7 @@ use Rattle.turns.proofs.event_row.Tie as tie
 returns-5 : tie.Need-returns-5
 returns-5 c =
     let f = c .before .before .before .before in
-    let s = f .before .before .before .before .before .before .before in
+    let s = f .before .before .before .before .before .before in
     let e = placed-is (s .pre) (omega arith) _ _ (f .span-at .ensures) (c .before .before .point-at .ensures) in
     row-at _ _ (s .args .x) _ _ _ _ (omega arith)
     (row-choice _ _ _ _ (omega arith) (f .before .before .if3 .left) (omega arith) (ap isEither e ∙ sym (c .before .is-either .ensures) ∙ c .if5 .taken))
@@ -19,7 +19,7 @@ returns-5 c =
 returns-6 : tie.Need-returns-6
 returns-6 c =
     let f = c .before .before .before .before in
-    let s = f .before .before .before .before .before .before .before in
+    let s = f .before .before .before .before .before .before in
     let e = placed-is (s .pre) (omega arith) _ _ (f .span-at .ensures) (c .before .before .point-at .ensures) in
     row-at _ _ (s .args .x) _ _ _ _ (omega arith)
     (row-other _ _ _ _ (omega arith) (ap isEither e ∙ sym (c .before .is-either .ensures) ∙ c .if5 .left))
@@ -27,24 +27,24 @@ returns-6 c =
 point-at-requires : tie.Need-point-at-requires
 point-at-requires c κs =
     let f = c .before in
-    let s = f .before .before .before .before .before .before .before in
+    let s = f .before .before .before .before .before .before in
     (placed-point (s .pre) (omega arith) _ (f .span-at .ensures), placed-few (s .pre) (omega arith) .1)
 
 add-point-at : tie.Need-add-point-at
 add-point-at c =
     let f = c .before in
-    let s = f .before .before .before .before .before .before .before in
+    let s = f .before .before .before .before .before .before in
     let l = placed-point (s .pre) (omega arith) _ (f .span-at .ensures) in omega arith
 
 pub event-row-spec : {M : Type 1} → statement M
 event-row-spec =
     tie.close
     (tie.spec
-    (λ c. row-finished _ _ _ _ _ _ _ _ (c .if1 .taken))
-    (λ c. row-at _ _ (c .before .before .before .before .args .x) _ _ _ _ (omega arith) (row-kind _ _ _ _ (c .if2 .taken)))
-    (λ c. row-at _ _ (c .before .before .before .before .before .args .x) _ _ _ _ (omega arith) (row-preempts _ _ _ _ (c .if3 .taken)))
-    (λ c. row-at _ _ (c .before .before .before .before .before .before .args .x) _ _ _ _ (omega arith) (row-value _ _ _ _ (omega arith) (c .if4 .taken)))
-    (λ c κs. placed-few (c .before .before .before .before .before .before .pre) (omega arith))
+    (λ c. row-finished _ _ (c .before .before .args .x .depth) _ _ _ _ _ (omega arith))
+    (λ c. row-at _ _ (c .before .before .before .args .x) _ _ _ _ (omega arith) (row-kind _ _ _ _ (c .if2 .taken)))
+    (λ c. row-at _ _ (c .before .before .before .before .args .x) _ _ _ _ (omega arith) (row-preempts _ _ _ _ (c .if3 .taken)))
+    (λ c. row-at _ _ (c .before .before .before .before .before .args .x) _ _ _ _ (omega arith) (row-value _ _ _ _ (omega arith) (c .if4 .taken)))
+    (λ c κs. placed-few (c .before .before .before .before .before .pre) (omega arith))
     add-point-at
     point-at-requires
     (λ c κs. search needs)

@@ -15,6 +15,11 @@ sum x n s h e =
     let i = ap (λ (m : ℕ). m + x .each * n) e ∙ price-sum x n in
     (i, omega (arith, i, price-small x n s h))
 
+returns : tie.Need-returns
+returns c =
+    let a = c .before .before in
+    sum (a .args .self) (a .args .blocks) (a .pre .0) (a .pre .1) (c .before .start-of .ensures)
+
 pub of-move-spec : {M : Type 1} → statement M
 of-move-spec =
     tie.close
@@ -22,4 +27,4 @@ of-move-spec =
     (λ c κs. search needs)
     (λ c. let a = c .before .before in omega (arith, sum (a .args .self) (a .args .blocks) (a .pre .0) (a .pre .1) (c .before .start-of .ensures)))
     (λ c. let a = c .before .before in omega (arith, sum (a .args .self) (a .args .blocks) (a .pre .0) (a .pre .1) (c .before .start-of .ensures)))
-    (λ c. let a = c .before .before in sum (a .args .self) (a .args .blocks) (a .pre .0) (a .pre .1) (c .before .start-of .ensures)))
+    returns)
