@@ -77,7 +77,8 @@ pub fn event_row(work: &[u32], h: Header, x: State, i: u32, kind: u32, value: u3
     requires { ⌜ Placed (now work) h x ⌝ }
     ensures { λ r. ⌜ r ≡ rowVerdict (eventRows i kind value (runningPlace (taskOf (now (work .entry)) h) (framesOf (now (work .entry)) x))) ⌝ }
 {
-    if x.depth == 0 {
+    let depth = x.depth;
+    if depth == 0 {
         return Verdict::Refused(Refusal {
             row: Row::AfterFinish,
             place: i,
