@@ -1,10 +1,11 @@
 //! Whether each must-fail edit was refused at a fact.
 //!
 //! `rt ci` counts a file of edits where the prover refuses the crate with all of them, whatever the reason. Here each edit is judged by itself:
-//! - An edit that names its function is judged by the errors in the proof file of that function. The first of them that is not the consequence of another error
-//!   has to be about a fact. That a caller is not proved, or calls what is not proved, shows nothing. Outside the proof files of the functions that the check
-//!   makes wrong there are consequences only; any other error there says that an edit reaches further than its function.
-//! - Any other edit is alone in its check, and the first error of the log has to be about a fact.
+//! - Of an edit that is alone in its check, the first error of the log has to be about a fact.
+//! - Of an edit that names its function, alone or not, so has the first error in the proof file of that function that is not the consequence of another error.
+//!   That a caller is not proved, or calls what is not proved, shows nothing.
+//! - In a check that edits share, there are consequences only outside the proof files of their functions; any other error there says that an edit reaches
+//!   further than its function.
 
 use std::path::Path;
 
@@ -61,17 +62,21 @@ fn judge(edit: &Edit, check: &[&Edit], log: Option<&str>) -> Result<LogError, St
         let first = first.unwrap_or_else(|| "its log has no error".to_string());
         return Err(format!("it did not reach the prover: {first}"));
     }
+    let first = || about_a_fact(errors.first(), "its log has no error");
+    let alone = check.len() == 1;
+    if alone {
+        first()?;
+    } else {
+        stays_inside(&errors, check)?;
+    }
     match edit.proof_file() {
-        None if check.len() > 1 => Err("it names no function, and is not alone".to_string()),
-        None => about_a_fact(errors.first(), "its log has no error"),
         Some(own) => {
-            stays_inside(&errors, check)?;
             let is_own = |error: &&LogError| is_in(error, &own) && error.about() != About::Other;
-            about_a_fact(
-                errors.iter().find(is_own),
-                &format!("no error of its own in {own}"),
-            )
+            let none = format!("no error of its own in {own}");
+            about_a_fact(errors.iter().find(is_own), &none)
         }
+        None if alone => first(),
+        None => Err("it names no function, and is not alone".to_string()),
     }
 }
 
@@ -270,12 +275,39 @@ mod tests {
         }
     }
 
+    /// One that names its function needs a fact there too.
+    #[test]
+    fn an_edit_of_a_function_alone() {
+        let of = |log: &str| batch(&["top_of"], log);
+        let found = of(ALL);
+        assert_eq!(
+            found.lines,
+            ["bits/top_of: refused at top-of-spec, with batch"]
+        );
+        for (log, why) in [
+            (
+                HARMLESS.to_string(),
+                "no error of its own in proofs/top_of/Proof.antt",
+            ),
+            (
+                format!("{SCOPE}{ALL}"),
+                "a name that is not in scope: `returns`",
+            ),
+        ] {
+            let found = of(&log);
+            let start = format!("bits/top_of SHOWS NOTHING: {why}");
+            assert_eq!((found.passed, found.failed), (0, 1));
+            assert!(found.lines[0].starts_with(&start), "{}", found.lines[0]);
+        }
+    }
+
     #[test]
     fn an_edit_of_no_function_in_a_batch() {
-        let text = batch_of(THREE).replace("# function: top_of\n", "");
-        let found = tree("batch", &text, Some(ALL));
-        let line = "bits/top_of SHOWS NOTHING: it names no function, and is not alone";
-        assert!(found.lines.contains(&line.to_string()));
+        let text = batch_of(THREE).replace("# function: union_of\n", "");
+        let log = ALL.replace("/proofs/union_of/", "/proofs/top_of/");
+        let found = tree("batch", &text, Some(&log));
+        let line = "bits/union_of SHOWS NOTHING: it names no function, and is not alone";
+        assert!(found.lines.contains(&line.to_string()), "{:?}", found.lines);
     }
 
     #[test]

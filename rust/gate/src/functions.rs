@@ -142,7 +142,11 @@ fn indent(line: &str) -> usize {
 
 #[cfg(test)]
 mod tests {
+    use std::collections::BTreeSet;
+    use std::path::Path;
+
     use super::*;
+    use crate::tree;
 
     const SOURCE: &str = "\
 const MOST: usize = 4;
@@ -208,6 +212,32 @@ pub extern \"C\" fn felknost_check(text: &[u8]) -> u32
                 ("felknost_check", "{ 0 }"),
             ]
         );
+    }
+
+    /// Every proof file of the tree is that of a function which is found here.
+    #[test]
+    fn functions_of_the_tree() {
+        let crates = Path::new(env!("CARGO_MANIFEST_DIR")).join("../../crates");
+        let mut proofs = 0;
+        for krate in tree::entries(&crates) {
+            let mut found = BTreeSet::new();
+            for path in tree::files_below(&krate.join("src")) {
+                let file = path.strip_prefix(&krate).expect("a file of the crate");
+                let text = tree::read(&path).expect("a source");
+                let functions = of_source(&file.to_string_lossy(), &text);
+                found.extend(functions.into_iter().map(|f| f.path.replace("::", "/")));
+            }
+            for path in tree::files_below(&krate.join("proofs")) {
+                if path.ends_with("Proof.antt") {
+                    let folder = path.parent().expect("a folder");
+                    let name = folder.strip_prefix(krate.join("proofs"));
+                    let name = name.expect("a function").to_string_lossy();
+                    assert!(found.contains(&*name), "{}", path.display());
+                    proofs += 1;
+                }
+            }
+        }
+        assert!(proofs > 100, "{proofs}");
     }
 
     #[test]
