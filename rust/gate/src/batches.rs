@@ -81,8 +81,8 @@ fn edited_function(root: &Path, edit: &Edit) -> Result<Option<String>, String> {
     let (Some(Some(path)), None) = (paths.next(), paths.next()) else {
         return Ok(None);
     };
-    let proof = format!("proofs/{}/Proof.antt", path.replace("::", "/"));
-    Ok(folder.join(proof).exists().then_some(path))
+    let proved = folder.join(edit::proof_of(&path)).exists();
+    Ok(proved.then_some(path))
 }
 
 /// Whether the edits of one file may share its check.

@@ -40,10 +40,9 @@ impl std::fmt::Display for Edit {
 }
 
 impl Edit {
-    /// Where the proof file of its function is, in the folder of the crate.
+    /// The proof file of its function.
     pub fn proof_file(&self) -> Option<String> {
-        let function = self.function.as_ref()?;
-        Some(format!("proofs/{}/Proof.antt", function.replace("::", "/")))
+        self.function.as_deref().map(proof_of)
     }
 
     /// The log that `rt` leaves of its check.
@@ -51,6 +50,11 @@ impl Edit {
         let path = format!("target/must-fail/{}/{}/.log", self.krate, self.file);
         tree::read(&root.join(path))
     }
+}
+
+/// Where the proof file of a function is, in the folder of the crate.
+pub fn proof_of(function: &str) -> String {
+    format!("proofs/{}/Proof.antt", function.replace("::", "/"))
 }
 
 /// All must-fail edits of the tree, crate by crate and file by file.

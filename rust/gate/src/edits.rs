@@ -249,56 +249,50 @@ mod tests {
         }
     }
 
+    /// Requires that the one edit shows nothing, for this reason.
+    fn assert_nothing(found: &Findings, edit: &str, why: &str) {
+        let start = format!("{edit} SHOWS NOTHING: {why}");
+        assert_eq!((found.passed, found.failed), (0, 1));
+        assert!(found.lines[0].starts_with(&start), "{}", found.lines[0]);
+    }
+
     /// An edit that names no function is judged by the first error of the log.
     #[test]
     fn an_edit_alone() {
-        let alone = "file: specs/Bits.antt\nold: a\nnew: b\n";
         let of = |errors: &[&str]| {
             let log = format!("{}{NOT_PROVED}", errors.concat());
-            tree("lowest", alone, Some(&log))
+            tree(
+                "lowest",
+                "file: specs/Bits.antt\nold: a\nnew: b\n",
+                Some(&log),
+            )
         };
-        let consequence = "/kit/target/must-fail/bits/lowest/proofs/top_of/Proof.antt:9:20: error: `top-of-spec`: `close` was not admitted (it has holes)\n";
+        let consequence = "/kit/proofs/top_of/Proof.antt:9:20: error: `top-of-spec`: `close` was not admitted (it has holes)\n";
         let found = of(&[LAWS, consequence]);
         assert_eq!(found.lines, ["bits/lowest: refused at lowest-trailing"]);
-        for (errors, why) in [
-            (
-                vec![consequence, LAWS],
-                "what follows from another error: `top-of-spec`",
-            ),
-            (vec![SCOPE, LAWS], "a name that is not in scope: `returns`"),
-            (vec![], "its log has no error"),
-        ] {
-            let found = of(&errors);
-            let start = format!("bits/lowest SHOWS NOTHING: {why}");
-            assert_eq!((found.passed, found.failed), (0, 1));
-            assert!(found.lines[0].starts_with(&start), "{}", found.lines[0]);
-        }
+        let nothing = |errors: &[&str], why: &str| assert_nothing(&of(errors), "bits/lowest", why);
+        nothing(
+            &[consequence, LAWS],
+            "what follows from another error: `top-of-spec`",
+        );
+        nothing(&[SCOPE, LAWS], "a name that is not in scope: `returns`");
+        nothing(&[], "its log has no error");
     }
 
     /// One that names its function needs a fact there too.
     #[test]
     fn an_edit_of_a_function_alone() {
         let of = |log: &str| batch(&["top_of"], log);
-        let found = of(ALL);
         assert_eq!(
-            found.lines,
+            of(ALL).lines,
             ["bits/top_of: refused at top-of-spec, with batch"]
         );
-        for (log, why) in [
-            (
-                HARMLESS.to_string(),
-                "no error of its own in proofs/top_of/Proof.antt",
-            ),
-            (
-                format!("{SCOPE}{ALL}"),
-                "a name that is not in scope: `returns`",
-            ),
-        ] {
-            let found = of(&log);
-            let start = format!("bits/top_of SHOWS NOTHING: {why}");
-            assert_eq!((found.passed, found.failed), (0, 1));
-            assert!(found.lines[0].starts_with(&start), "{}", found.lines[0]);
-        }
+        let nothing = |log: &str, why: &str| assert_nothing(&of(log), "bits/top_of", why);
+        nothing(HARMLESS, "no error of its own in proofs/top_of/Proof.antt");
+        nothing(
+            &format!("{SCOPE}{ALL}"),
+            "a name that is not in scope: `returns`",
+        );
     }
 
     #[test]
