@@ -1,5 +1,6 @@
-// Runs check over working spaces that are not zero, longer than asked for and one number short, and says what it returned and what they hold then. The other services
-// are lent such buffers by the C and Rust tests, through the archive; felknost_check has a working space of its own, so services::check is run here.
+// Runs check over a working space that is longer than asked for and over one that is one number short, neither of them zero before, and says what it returned and
+// what they hold then. The C and Rust tests lend such buffers to the other services, through the archive. felknost_check has a working space of its own, so
+// services::check is run here.
 use libc::STDOUT_FILENO;
 use model::Limits;
 use model::Verdict;

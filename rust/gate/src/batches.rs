@@ -2,7 +2,8 @@
 //!
 //! The proof of a function rests on the contracts of what it calls and on no body but its own. So edits of the bodies of different functions do not touch each
 //! other's proof, and each of them is judged by the proof file of its own function (edits.rs). What changes more than one body, as a contract, a constant or a
-//! definition does, has a check of its own.
+//! definition does, has a check of its own. So has an edit of one of several functions that call each other: they are proved in one file, and none of them has
+//! a file by its name.
 //!
 //! Held here, of every edit:
 //! - An edit of the body of one function that has a proof file names that function; an edit of anything else names none.

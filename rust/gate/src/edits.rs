@@ -124,13 +124,15 @@ mod tests {
     const HARMLESS: &str = include_str!("../logs/bits-harmless.log");
     /// With an edit of `transfer_of` that changes nothing in place of the one of `top_of`.
     const CALLER: &str = include_str!("../logs/bits-caller.log");
+    /// With an edit of `clear_marks` that makes an `if` of its loop, in place of the one of `top_of`: the proof file names what there is not.
+    const SCOPE: &str = include_str!("../logs/bits-scope.log");
     /// With an edit of `lowest_of` that leaves out a branch, so that its proof file does not fit.
     const SHAPE: &str = include_str!("../logs/bits-shape.log");
-    /// With an edit of `lowest_of` that names what there is not.
+    /// With an edit of `lowest_of` that names what there is not, so that nothing is proved.
     const FRONT: &str = include_str!("../logs/bits-front.log");
 
     const NOT_PROVED: &str = "logic=not-proved\n";
-    const SCOPE: &str = "/kit/target/must-fail/bits/batch/proofs/lowest_of/Proof.antt:8:7: error: `returns`: `lowest-trailing` is not in scope\n";
+    const SCOPE_LINE: &str = "/kit/target/must-fail/bits/batch/proofs/lowest_of/Proof.antt:8:7: error: `returns`: `lowest-trailing` is not in scope\n";
     const LAWS: &str = "/kit/target/must-fail/bits/batch/proofs/Laws.antt:8:7: error: `lowest-trailing`: `omega`: the goal does not follow from what it read.\n";
 
     /// A file of edits of these functions of `bits`.
@@ -200,17 +202,26 @@ mod tests {
 
     #[test]
     fn one_has_a_name_out_of_scope() {
-        let found = batch(THREE, SHAPE);
+        let found = batch(&["clear_marks", "lowest_of", "union_of"], SCOPE);
         assert_eq!((found.passed, found.failed), (2, 1));
-        let start = "bits/lowest_of SHOWS NOTHING: a proof that reads a path that is not there: `lowest-of-spec`: record";
+        let start =
+            "bits/clear_marks SHOWS NOTHING: a need that the function does not have: `Inv-loop`";
         assert!(found.lines[0].starts_with(start), "{}", found.lines[0]);
         // a fact behind it does not count
-        let found = batch(THREE, &format!("{SCOPE}{ALL}"));
+        let found = batch(THREE, &format!("{SCOPE_LINE}{ALL}"));
         assert_eq!((found.passed, found.failed), (2, 1));
         assert_eq!(
             found.lines[0],
             "bits/lowest_of SHOWS NOTHING: a name that is not in scope: `returns`: `lowest-trailing` is not in scope"
         );
+    }
+
+    #[test]
+    fn one_has_a_proof_file_that_does_not_fit() {
+        let found = batch(THREE, SHAPE);
+        assert_eq!((found.passed, found.failed), (2, 1));
+        let start = "bits/lowest_of SHOWS NOTHING: a proof that reads a path that is not there: `lowest-of-spec`: record";
+        assert!(found.lines[0].starts_with(start), "{}", found.lines[0]);
     }
 
     /// An error in a law, or in the proof of a function that no edit names, says that an edit is not one of a body.
@@ -275,7 +286,10 @@ mod tests {
             &[consequence, LAWS],
             "what follows from another error: `top-of-spec`",
         );
-        nothing(&[SCOPE, LAWS], "a name that is not in scope: `returns`");
+        nothing(
+            &[SCOPE_LINE, LAWS],
+            "a name that is not in scope: `returns`",
+        );
         nothing(&[], "its log has no error");
     }
 
@@ -290,7 +304,7 @@ mod tests {
         let nothing = |log: &str, why: &str| assert_nothing(&of(log), "bits/top_of", why);
         nothing(HARMLESS, "no error of its own in proofs/top_of/Proof.antt");
         nothing(
-            &format!("{SCOPE}{ALL}"),
+            &format!("{SCOPE_LINE}{ALL}"),
             "a name that is not in scope: `returns`",
         );
     }
