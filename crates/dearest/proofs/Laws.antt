@@ -1,18 +1,19 @@
 -- The rank of a record keeps the order of the list and says the record's line; the ranks of a task's points, and the list that is printed from the
 -- highest of them.
-use Prim.Native.Nat.{ℕ, zero, suc, _+_, _≤_, _<_, min}
+use Prim.Native.Nat.{ℕ, zero, suc, _+_, _-_, _*_, _≤_, _<_, min}
 use mathlib.Core.Bool.{Bool, true, false}
 use mathlib.Core.List.{List, [], _∷_, _++_, map, map-map, map-append, List·Memᴰ}
-use mathlib.Core.Logic.{inl, inr, ⊎-elim}
+use mathlib.Core.Logic.{_⊎_, inl, inr, ⊎-elim}
 use mathlib.Core.Path.{_≡_, refl, sym, ap, subst, _∙_}
 use native.Mathlib.Decide.{decLt}
+use native.Mathlib.Nat.{mul-le-mul-right, suc-mul}
 use native.Mathlib.Numerals.{add-one}
 use native.Mathlib.Omega.{arith}
 use lib.Dec.{T, ltb, ltb→lt, lt→ltb}
 use lib.ListN.{length, take, getD, replicate, length-append, length-map, length-take}
 use lib.Seq.{take-suc, getD-take}
 use Rattle.model.specs.Limits.{mostFuncs, mostPoints, mostDearest}
-use Rattle.model.specs.Basic.{joined, countFrom, upTo, sorted}
+use Rattle.model.specs.Basic.{joined, smallerFirst, countFrom, upTo, sorted}
 use Rattle.model.specs.Text.{bytes}
 use Rattle.model.specs.Task.{Task, size, count, func}
 use Rattle.model.specs.Sheet.{Record, recordAt, recordsIn, recordsOf, row}
@@ -28,20 +29,15 @@ use Rattle.tables.proofs.Laws.{size-is, count-is, points-all}
 use Rattle.prices.specs.declared.Price.{Price}
 use Rattle.prices.specs.Prices.{priceOf, Small}
 use Rattle.figures.specs.Figured.{Figured, sheetAt}
-use Rattle.figures.proofs.Limits.{cost-low}
+use Rattle.figures.proofs.Limits.{save-low, cost-low}
 use Rattle.print.proofs.Laws.{none-length}
 use Rattle.print.proofs.Digits.{taken, digits-row}
 use Rattle.ranks.specs.Ranks.{higher, best}
 use Rattle.ranks.proofs.Laws.{best-append, best-zeros, length-best}
 use Rattle.dearest.specs.Ranking.{rankOf, rankAt, pointRanks, funcRanks, rankedFunc, rankedPoint, rankedCost, rankRow, lineAt}
-use Rattle.dearest.specs.Ranking.{costEnd, rankEnd, mostLine, Listing, listed}
+use Rattle.dearest.specs.Ranking.{saveEnd, costEnd, rankEnd, mostLine, Listing, listed}
 
--- ---- the rank of a record
-
--- its function and point have room
-pub record Fits (x : Record) : Type 0 where
-  pub fn : x .fn < mostFuncs
-  pub at : x .at < mostPoints
+-- ---- an order of digits
 
 same-tests : (a b : Bool) → (T a → T b) → (T b → T a) → a ≡ b
 same-tests true true g h = refl
@@ -49,44 +45,83 @@ same-tests true false g h = absurd (g tt)
 same-tests false true g h = absurd (h tt)
 same-tests false false g h = refl
 
-module _ (x y : Record) (i : Fits x) (j : Fits y) where
-  ranks-higher : T (dearer x y) → T (higher (rankOf x) (rankOf y))
-  unfolding dearer rankOf
-  ranks-higher h =
-      lt→ltb (rankOf y) (rankOf x)
-      (⊎-elim
-      (λ (k : y .figures .cost < x .figures .cost). omega (arith, i .fn, i .at, j .fn, j .at))
-      (λ k.
-      ⊎-elim
-      (λ (l : x .fn < y .fn). omega (arith, k .0, i .fn, i .at, j .fn, j .at))
-      (λ l. omega (arith, k .0, l .0, ltb→lt (x .at) (y .at) (l .1), i .at, j .at))
-      (first-holds (x .fn) (y .fn) (ltb (x .at) (y .at)) .0 (k .1)))
-      (first-holds (y .figures .cost) (x .figures .cost) (placedBefore x y) .0 h))
+digit-less : (n a b c d : ℕ) → b < n → a < c → a * n + b < c * n + d
+digit-less n a b c d i h = omega (arith, i, mul-le-mul-right n h, suc-mul a n)
 
-  comes-earlier : T (higher (rankOf x) (rankOf y)) → T (dearer x y)
-  unfolding dearer rankOf
-  comes-earlier h =
-      let l : rankOf y < rankOf x = ltb→lt (rankOf y) (rankOf x) h in
-      first-holds (y .figures .cost) (x .figures .cost) (placedBefore x y) .1
-      (elim (decLt (y .figures .cost) (x .figures .cost)) [
-        | yes k ↦ inl k
-        | no k ↦
-            let e : y .figures .cost ≡ x .figures .cost = omega (arith, l, i .fn, i .at, j .fn, j .at) in
-            inr (
-              e,
-              first-holds (x .fn) (y .fn) (ltb (x .at) (y .at)) .1
-                  (elim (decLt (x .fn) (y .fn)) [
-                    | yes m ↦ inl m
-                    | no m ↦
-                        let d : x .fn ≡ y .fn = omega (arith, l, e, i .fn, i .at, j .fn, j .at) in
-                        inr (d, lt→ltb (x .at) (y .at) (omega (arith, l, e, d, i .at, j .at)))
-                  ]),
-            )
-      ])
+-- of numbers with a last digit b or d below n, what stands before it decides first
+first-digit : (n a b c d : ℕ) (r : Bool) → b < n → d < n → smallerFirst a c (smallerFirst b d r) ≡ smallerFirst (a * n + b) (c * n + d) r
+first-digit n a b c d r i j =
+    same-tests (smallerFirst a c (smallerFirst b d r)) (smallerFirst (a * n + b) (c * n + d) r)
+    (λ h. first-holds (a * n + b) (c * n + d) r .1
+    (⊎-elim (λ k. inl (digit-less n a b c d i k)) (λ k. together (k .0) (first-holds b d r .0 (k .1))) (first-holds a c (smallerFirst b d r) .0 h)))
+    (λ h. first-holds a c (smallerFirst b d r) .1 (apart (first-holds (a * n + b) (c * n + d) r .0 h)))
+  where
+    together : a ≡ c → (b < d) ⊎ ((b ≡ d) × T r) → (a * n + b < c * n + d) ⊎ ((a * n + b ≡ c * n + d) × T r)
+    together e h =
+        let m = ap (λ z. z * n) e in
+        ⊎-elim (λ (k : b < d). inl (omega (arith, m))) (λ k. inr (omega (arith, m, k .0), k .1)) h
+
+    apart : (a * n + b < c * n + d) ⊎ ((a * n + b ≡ c * n + d) × T r) → (a < c) ⊎ ((a ≡ c) × T (smallerFirst b d r))
+    apart h =
+        elim (decLt a c) [
+          | yes k ↦ inl k
+          | no k ↦ elim (decLt c a) [
+            | yes l ↦
+                let m = digit-less n c d a b j l in
+                absurd (⊎-elim (λ (g : a * n + b < c * n + d). omega (arith, m)) (λ g. omega (arith, m, g .0)) h)
+            | no l ↦
+                let e : a ≡ c = omega arith in
+                let m = ap (λ z. z * n) e in
+                inr (
+                  e,
+                  first-holds b d r .1
+                      (⊎-elim (λ (g : a * n + b < c * n + d). inl (omega (arith, m))) (λ g. inr (omega (arith, m, g .0), g .1)) h),
+                )
+          ]
+        ]
+
+-- a digit that counts down: the smaller number is the larger digit
+digit-down : (n a b : ℕ) (r : Bool) → a < n → b < n → smallerFirst a b r ≡ smallerFirst (n - 1 - b) (n - 1 - a) r
+digit-down n a b r i j =
+    same-tests (smallerFirst a b r) (smallerFirst (n - 1 - b) (n - 1 - a) r)
+    (λ h. first-holds (n - 1 - b) (n - 1 - a) r .1
+    (⊎-elim (λ (k : a < b). inl (omega arith)) (λ k. inr (omega (arith, k .0), k .1)) (first-holds a b r .0 h)))
+    (λ h. first-holds a b r .1
+    (⊎-elim (λ (k : n - 1 - b < n - 1 - a). inl (omega arith)) (λ k. inr (omega (arith, k .0), k .1)) (first-holds (n - 1 - b) (n - 1 - a) r .0 h)))
+
+-- the last digit
+first-last : (a b : ℕ) → ltb a b ≡ smallerFirst a b false
+first-last a b =
+    same-tests (ltb a b) (smallerFirst a b false)
+    (λ h. first-holds a b false .1 (inl (ltb→lt a b h)))
+    (λ h. ⊎-elim (λ k. lt→ltb a b k) (λ k. absurd (k .1)) (first-holds a b false .0 h))
+
+-- ---- the rank of a record
+
+-- what it saves, its function and its point have room
+pub record Fits (x : Record) : Type 0 where
+  pub save : x .figures .save < saveEnd
+  pub fn : x .fn < mostFuncs
+  pub at : x .at < mostPoints
+
+module _ (x y : Record) (i : Fits x) (j : Fits y) where
+  -- function and point count down
+  placed-digits :
+      placedBefore x y
+      ≡ smallerFirst (mostFuncs - 1 - y .fn) (mostFuncs - 1 - x .fn) (smallerFirst (mostPoints - 1 - y .at) (mostPoints - 1 - x .at) false)
+  placed-digits =
+      ap (smallerFirst (x .fn) (y .fn)) (first-last (x .at) (y .at) ∙ digit-down mostPoints (x .at) (y .at) false (i .at) (j .at))
+      ∙ digit-down mostFuncs (x .fn) (y .fn) _ (i .fn) (j .fn)
 
   -- it is higher where the record comes earlier
   pub rank-order : dearer x y ≡ higher (rankOf x) (rankOf y)
-  rank-order = same-tests (dearer x y) (higher (rankOf x) (rankOf y)) ranks-higher comes-earlier
+  unfolding dearer rankOf
+  rank-order =
+      ap (λ r. smallerFirst (y .figures .cost) (x .figures .cost) (smallerFirst (y .figures .save) (x .figures .save) r)) placed-digits
+      ∙ first-digit saveEnd (y .figures .cost) (y .figures .save) (x .figures .cost) (x .figures .save) _ (j .save) (i .save)
+      ∙ first-digit mostFuncs _ (mostFuncs - 1 - y .fn) _ (mostFuncs - 1 - x .fn) _ (omega arith) (omega arith)
+      ∙ first-digit mostPoints _ (mostPoints - 1 - y .at) _ (mostPoints - 1 - x .at) _ (omega arith) (omega arith)
+      ∙ sym (first-last (rankOf y) (rankOf x))
 
 -- it says the record's line
 pub rank-row : (x : Record) → Fits x → rankRow (rankOf x) ≡ dearRow x
@@ -95,12 +130,12 @@ rank-row x i =
     let r = rankOf x in
     let f : rankedFunc r ≡ x .fn = omega (arith, i .fn, i .at) in
     let p : rankedPoint r ≡ x .at = omega (arith, i .at) in
-    let c : rankedCost r ≡ x .figures .cost = omega (arith, i .fn, i .at) in
+    let c : rankedCost r ≡ x .figures .cost = omega (arith, i .save, i .fn, i .at) in
     λ z. row (bytes "(dear") (f z ∷ p z ∷ c z ∷ [])
 
 pub rank-low : (x : Record) → Fits x → x .figures .cost < costEnd → rankOf x < rankEnd
 unfolding rankOf
-rank-low x i h = omega (arith, i .fn, i .at)
+rank-low x i h = omega (arith, i .save, i .fn, i .at)
 
 -- a line is short
 pub line-most : (r : ℕ) → r < rankEnd → length (rankRow r) ≤ mostLine
@@ -160,7 +195,8 @@ module _ {price : Price} {t : Task} (s : Shaped t) (small : Small price) where
       let r = record-is (sheetAt price t) t m in
       let f = s .few in
       let c = cost-low s price small (r .0) (r .1) (omega arith) in
-      rw (r .4) (record { fn = omega arith; at = omega (arith, s .small (r .0) (r .2)) }, omega arith)
+      let v = save-low s price small (r .0) (r .1) in
+      rw (r .4) (record { save = omega arith; fn = omega arith; at = omega (arith, s .small (r .0) (r .2)) }, omega arith)
 
   -- so do those that are listed
   listed-fits : (x : Record) → List·Memᴰ x (dearest (recordsOf t (sheetAt price t))) → Fits x × (x .figures .cost < costEnd)

@@ -15,9 +15,14 @@ use Rattle.prices.specs.Prices.{priceOf}
 use Rattle.figures.specs.declared.PointFigures.{PointFigures}
 use Rattle.figures.specs.Figured.{figuredOf, sheetAt}
 
--- the cost decides first, then the function and then the point, of which the lower numbers rank higher
+-- what is saved costs less than this: it is the price of one move, at most 16,575
+abbrev pub saveEnd : ℕ
+saveEnd = 32768
+
+-- the cost decides first, then what is saved, then the function and then the point, of which the lower numbers rank higher
 unfoldable pub rankOf : Record → ℕ
-rankOf x = (x .figures .cost * mostFuncs + (mostFuncs - 1 - x .fn)) * mostPoints + (mostPoints - 1 - x .at)
+rankOf x =
+    ((x .figures .cost * saveEnd + x .figures .save) * mostFuncs + (mostFuncs - 1 - x .fn)) * mostPoints + (mostPoints - 1 - x .at)
 
 -- of point p of function f with these figures
 abbrev pub rankWith : PointFigures → ℕ → ℕ → ℕ
@@ -41,7 +46,7 @@ abbrev pub rankedPoint : ℕ → ℕ
 rankedPoint r = mostPoints - 1 - r % mostPoints
 
 abbrev pub rankedCost : ℕ → ℕ
-rankedCost r = r / mostPoints / mostFuncs
+rankedCost r = r / mostPoints / mostFuncs / saveEnd
 
 -- the line of a rank, and the lines of the first n of these ranks
 unfoldable pub rankRow : ℕ → List ℕ
@@ -58,7 +63,7 @@ abbrev pub costEnd : ℕ
 costEnd = 10000000
 
 abbrev pub rankEnd : ℕ
-rankEnd = costEnd * mostFuncs * mostPoints
+rankEnd = costEnd * saveEnd * mostFuncs * mostPoints
 
 abbrev pub mostLine : ℕ
 mostLine = 22

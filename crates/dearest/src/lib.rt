@@ -11,7 +11,7 @@ ghost use Rattle.tables.specs.Tables.{taskOf};
 ghost use Rattle.figures.specs.Figured.{Figured, InFunc};
 ghost use Rattle.ranks.specs.Ranks.{Falling, best};
 ghost use Rattle.print.specs.Print.{Wrote};
-ghost use Rattle.dearest.specs.Ranking.{rankWith, rankAt, pointRanks, funcRanks, rankRow, listText, rankEnd, mostLine, mostList};
+ghost use Rattle.dearest.specs.Ranking.{saveEnd, rankWith, rankAt, pointRanks, funcRanks, rankRow, listText, rankEnd, mostLine, mostList};
 ghost use Rattle.dearest.specs.Ranking.{Printable, Listing, listed as listed·spec};
 use figures::PointFigures;
 use model::Limits;
@@ -19,10 +19,12 @@ use prices::Price;
 use tables::Header;
 use tables::Span;
 
-// The functions of a task and the points of a function that a rank has room for.
+// How many prices of what is saved, functions of a task and points of a function a rank has room for.
 struct Rank;
 
 impl Rank {
+    const SAVES: u64 = 32768;
+
     const FUNCS: u64 = Limits::FUNCS as u64;
 
     const POINTS: u64 = Limits::POINTS as u64;
@@ -30,12 +32,12 @@ impl Rank {
 
 // The rank of point p of function f with these figures.
 fn rank_with(x: PointFigures, f: usize, p: usize) -> u64
-    requires { ⌜ (f < mostFuncs) × (p < mostPoints) ⌝ }
+    requires { ⌜ (f < mostFuncs) × (p < mostPoints) × (x .save < saveEnd) ⌝ }
     ensures { λ r. ⌜ r ≡ rankWith x f p ⌝ }
 {
     let func = (Limits::FUNCS - 1 - f) as u64;
     let point = (Limits::POINTS - 1 - p) as u64;
-    (x.cost as u64 * Rank::FUNCS + func) * Rank::POINTS + point
+    ((x.cost as u64 * Rank::SAVES + x.save as u64) * Rank::FUNCS + func) * Rank::POINTS + point
 }
 
 // The rank of point p of function f, which is s.
@@ -109,7 +111,7 @@ fn rank_numbers(rank: u64) -> [u32; 3]
     let rest = rank / Rank::POINTS;
     let func = Rank::FUNCS - 1 - rest % Rank::FUNCS;
     let point = Rank::POINTS - 1 - rank % Rank::POINTS;
-    let cost = rest / Rank::FUNCS;
+    let cost = rest / Rank::FUNCS / Rank::SAVES;
     [func as u32, point as u32, cost as u32]
 }
 

@@ -104,13 +104,18 @@ module _ {t : Task} (s : Shaped t) where
   unfolding entryWith
   entry-low f = entry-to f f
 
+  -- the save: one move
+  pub save-low : (price : Price) → Small price → (f p : ℕ) → pricedSheet (priceOf price) t .at f p .save ≤ mostPrice
+  unfolding costed
+  save-low price small f p = price-small price (high t f p - dead (func t f) p) small (omega (arith, high-low f p))
+
   -- the cost: three moves, and a chain of at most 63 callers
   pub cost-low : (price : Price) → Small price → (f p : ℕ) → f < mostFuncs → pricedSheet (priceOf price) t .at f p .cost ≤ mostPrice * (mostFuncs + 2)
   unfolding costed
   cost-low price small f p l =
       let x = func t f in
       let frame = frame-low s f in
-      let save = price-small price (high t f p - dead x p) small (omega (arith, high-low f p)) in
+      let save = save-low price small f p in
       let reload = price-small price (need x p - dead x p) small (omega (arith, need-frame x p, s .stack-high)) in
       let later = price-small price (keptNext t f p - need x p) small (omega (arith, next-low f p)) in
       omega (arith, chain-low price small f)

@@ -341,3 +341,16 @@ pub dearestTies :
     ∷ "(dear 1 6 1)" ∷ "(dear 0 0 0)" ∷ "(dear 0 1 0)" ∷ "(dear 0 2 0)" ∷ [])
 unfolding opened lines
 dearestTies = refl
+
+-- document 02, request 10: of two points that cost 6, the one that saves 4 blocks comes before the one that saves 3; a point that costs 6 and saves 3
+-- comes before one that costs 5 and saves 4
+pub dearestSaves :
+    (dearestText inBlocks (the (judged (lines ("(stack 8)" ∷ "(func 4" ∷ "  (store 1)" ∷ "  (store 3)" ∷ "  (store 2)" ∷ "  (store 0)"
+    ∷ "  (load 0)" ∷ "  (goto 6)" ∷ "  (load 1)" ∷ "  (return)" ∷ ")" ∷ []))))
+    ≡ lines ("(dear 0 4 6)" ∷ "(dear 0 1 6)" ∷ "(dear 0 2 5)" ∷ "(dear 0 3 4)" ∷ "(dear 0 5 4)" ∷ "(dear 0 6 4)" ∷ "(dear 0 0 0)" ∷ "(dear 0 7 0)"
+    ∷ []))
+    × (dearestText inBlocks (the (judged (lines ("(stack 8)" ∷ "(func 4" ∷ "  (store 1)" ∷ "  (store 3)" ∷ "  (load 1)" ∷ "  (store 0)"
+    ∷ "  (load 0)" ∷ "  (return)" ∷ ")" ∷ []))))
+    ≡ lines ("(dear 0 1 6)" ∷ "(dear 0 4 5)" ∷ "(dear 0 2 4)" ∷ "(dear 0 0 0)" ∷ "(dear 0 3 0)" ∷ "(dear 0 5 0)" ∷ []))
+unfolding opened lines
+dearestSaves = (refl, refl)

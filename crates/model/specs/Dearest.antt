@@ -15,9 +15,13 @@ use Rattle.model.specs.Sheet.{Sheet, pricedSheet, Record, recordsOf, row
 abbrev pub placedBefore : Record → Record → Bool
 placedBefore x y = smallerFirst (x .fn) (y .fn) (ltb (x .at) (y .at))
 
--- the order of the list: by falling cost, equal costs by function, then by point
+-- the order of equal costs: by falling save, then that of the report (document 02, request 10)
+abbrev pub savedBefore : Record → Record → Bool
+savedBefore x y = largerFirst (x .figures .save) (y .figures .save) (placedBefore x y)
+
+-- the order of the list: by falling cost, then that of equal costs
 unfoldable pub dearer : Record → Record → Bool
-dearer x y = largerFirst (x .figures .cost) (y .figures .cost) (placedBefore x y)
+dearer x y = largerFirst (x .figures .cost) (y .figures .cost) (savedBefore x y)
 
 -- the first ten in that order, or all if there are fewer
 unfoldable pub dearest : List Record → List Record

@@ -68,8 +68,8 @@ pub fn report(
     write(Print::Report, text, start, each, output, work)
 }
 
-// The dearest points: the first ten of the sheet's points by falling cost, then by function and by point, or all if there are fewer, a line each over the
-// first bytes of the output, and the working space cleared. Prices are as for the report.
+// The dearest points: the first ten of the sheet's points by falling cost, then by falling save, by function and by point, or all if there are fewer, a
+// line each over the first bytes of the output, and the working space cleared. Prices are as for the report.
 //
 //     dearest_points(b"(stack 65)\n", 0, 1, &mut output, &mut work) is a refusal in row StackSize at place 1, with 0 bytes written
 pub fn dearest_points(

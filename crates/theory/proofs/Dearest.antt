@@ -11,7 +11,7 @@ use Rattle.model.specs.Limits.{mostDearest}
 use Rattle.model.specs.Basic.{joined, countFrom, upTo}
 use Rattle.model.specs.Task.{Task, size, count, func}
 use Rattle.model.specs.Sheet.{Sheet, Record, recordAt, recordsIn, recordsOf}
-use Rattle.model.specs.Dearest.{placedBefore, dearer, dearest}
+use Rattle.model.specs.Dearest.{placedBefore, savedBefore, dearer, dearest}
 use Rattle.theory.specs.Order.{Pairs, StrictOrder, Firsts, Apart}
 use Rattle.theory.proofs.Lists.{mem-joined, mem-countFrom, mem-upTo, mem-map}
 use Rattle.theory.proofs.Sorting.{first-holds, by-smaller, by-larger, pairs-by, pairs-append, firsts}
@@ -34,7 +34,7 @@ placed-order =
 
 pub dearer-order : StrictOrder Apart dearer
 unfolding dearer
-dearer-order = by-larger Apart (λ x. x .figures .cost) placedBefore placed-order
+dearer-order = by-larger Apart (λ x. x .figures .cost) savedBefore (by-larger Apart (λ x. x .figures .save) placedBefore placed-order)
 
 -- ---- the records of a task are in the order of the report
 

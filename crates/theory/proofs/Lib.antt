@@ -48,5 +48,6 @@ pub mod Before
 pub mod Prices
 pub mod Sorting
 pub mod Dearest
+pub mod Costs
 pub mod Total
 pub mod Faithful

@@ -247,7 +247,7 @@ module _ {A : Type 0} {Apart : A → A → Type 0} {before : A → A → Bool} (
 
 -- ---- from one sorted list to another
 
-map-take : {A B : Type 0} (g : A → B) (n : ℕ) (l : List A) → map g (take n l) ≡ take n (map g l)
+pub map-take : {A B : Type 0} (g : A → B) (n : ℕ) (l : List A) → map g (take n l) ≡ take n (map g l)
 map-take g zero l = refl
 map-take g (suc n) [] = refl
 map-take g (suc n) (x ∷ l) = ap (λ k. g x ∷ k) (map-take g n l)

@@ -6,7 +6,9 @@ use mathlib.Core.Logic.{_⊎_}
 use mathlib.Core.Path.{_≡_}
 use lib.Dec.{T}
 use lib.ListN.{length}
+use Rattle.model.specs.Basic.{largerFirst}
 use Rattle.model.specs.Sheet.{Record}
+use Rattle.model.specs.Dearest.{placedBefore}
 
 -- a relation holds between each element of a list and every later one
 abbrev pub Pairs : {A : Type 0} → (A → A → Type 0) → List A → Type 0
@@ -33,3 +35,7 @@ pub record Firsts {A : Type 0} (Apart : A → A → Type 0) (before : A → A �
 -- records of different points
 abbrev pub Apart : Record → Record → Type 0
 Apart x y = x .fn ≡ y .fn → x .at ≡ y .at → ⊥
+
+-- the order that document 02 gives the dearest points in request 2: equal costs by function, then by point
+abbrev pub dearerBefore : Record → Record → Bool
+dearerBefore x y = largerFirst (x .figures .cost) (y .figures .cost) (placedBefore x y)

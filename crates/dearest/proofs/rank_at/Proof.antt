@@ -2,6 +2,7 @@
 use native.Mathlib.Omega.{arith}
 use mathlib.Core.Path.{ap, _∙_}
 use Rattle.model.specs.Sheet as sheet
+use Rattle.figures.proofs.Limits.{save-low}
 use Rattle.figures.proofs.Read.{size-low}
 use Rattle.dearest.specs.Ranking.{rankOf}
 use borrow.Author.Needs.{needs}
@@ -10,8 +11,13 @@ use Rattle.dearest.proofs.rank_at.Tie as tie
 
 rank-with-requires : tie.Need-rank-with-requires
 rank-with-requires c κs =
+    let a = c .before .before .args in
     let k = c .before .before .pre .0 in
-    (omega (arith, k .low, k .figured .settled .holds .few), omega (arith, size-low k))
+    let e = ap (λ (x : sheet.PointSheet). x .save) (c .point-figures .ensures) in (
+      omega (arith, k .low, k .figured .settled .holds .few),
+      omega (arith, size-low k),
+      omega (arith, e, save-low (k .figured .settled .formed .shaped) (a .price) (k .figured .small) (a .f) (a .p)),
+    )
 
 returns : tie.Need-returns
 returns c =
