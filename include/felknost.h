@@ -71,7 +71,8 @@ uint32_t felknost_report(const uint8_t *text, size_t text_length, uint32_t start
 /*
  * Writes a list of the ten dearest points of a task text to the front of output, or of all points where there are fewer. Each has one line,
  * "(dear F P COST)" and a line feed: the number of the function, the number of the point in it, and the cost that the sheet at the same start and each
- * gives for it. Higher costs come first. Equal costs go by rising function, and in one function by rising point. There are no other lines.
+ * gives for it. Higher costs come first. Equal costs go by falling save, then by rising function, and in one function by rising point. There are no
+ * other lines.
  *
  * All else is as for felknost_report: what is lent and what it holds afterwards, start and each, result, the refusals and their order, NULL, overlap and
  * the return value. With 14 PLACE is the number of bytes of the list.

@@ -1,6 +1,6 @@
 /*
- * Tests of felknost_dearest_points, built as C and as C++: those of writer.h, equal costs, fewer and more points than a list has lines, and the longest
- * lines. The last line counts them.
+ * Tests of felknost_dearest_points, built as C and as C++: those of writer.h, equal costs with equal saves and with different ones, fewer and more points
+ * than a list has lines, and the longest lines. The last line counts them.
  */
 #ifndef _GNU_SOURCE
 #define _GNU_SOURCE 1
@@ -47,6 +47,39 @@ static void equal_costs(struct price price, int cost)
     for (i = 0; i < 10; i++)
         put_dear(1 + i / 6, 1 + i % 6, cost);
     built_gives("equal costs", price);
+}
+
+/* Two points cost 6: point 4 saves four blocks and point 1 three. Of those that cost 4 each saves three. */
+static void by_save(void)
+{
+    static const int listed_points[][2] = {{4, 6}, {1, 6}, {2, 5}, {3, 4}, {5, 4}, {6, 4}, {0, 0}, {7, 0}};
+    size_t i;
+    put("(stack 8)\n(func 4\n  (store 1)\n  (store 3)\n  (store 2)\n  (store 0)\n  (load 0)\n  (goto 6)\n  (load 1)\n  (return)\n)\n");
+    for (i = 0; i < sizeof listed_points / sizeof *listed_points; i++)
+        put_dear(0, listed_points[i][0], listed_points[i][1]);
+    built_gives("equal costs by save", in_blocks);
+}
+
+/*
+ * Twelve points cost 6. Points 1 to 10 save three blocks, points 12 and 13 four; so points 9 and 10 are left out, and the list is a byte longer than one
+ * in which they are listed. In outputs of every length up to some bytes too many.
+ */
+static void saves_at_the_tenth_place(struct price price, int cost)
+{
+    int point;
+    size_t output;
+    put("(stack 8)\n(func 4\n  (store 1)\n");
+    put_many("  (store 3)\n", 10);
+    put("  (store 0)\n  (load 0)\n  (load 0)\n  (load 1)\n  (return)\n)\n");
+    put_dear(0, 12, cost);
+    put_dear(0, 13, cost);
+    for (point = 1; point < 9; point++)
+        put_dear(0, point, cost);
+    for (output = 0; output <= listed + 8; output++) {
+        int whole = output >= listed;
+        expect_at("saves at the tenth place", built, used, price, output, FELKNOST_WORK, whole ? 0 : 14, whole ? 0 : listed, list, whole ? listed : 0);
+    }
+    used = listed = 0;
 }
 
 /* A store and a return, which cost nothing, and loads between them, which cost two blocks each. */
@@ -99,6 +132,9 @@ int main(void)
     common_cases();
     equal_costs(in_blocks, 2);
     equal_costs(start_of_10, 22);
+    by_save();
+    saves_at_the_tenth_place(in_blocks, 6);
+    saves_at_the_tenth_place(start_of_10, 26);
     one_point();
     for (number = 2; number <= 13; number++)
         points(number);

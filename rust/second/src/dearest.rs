@@ -10,19 +10,21 @@ use crate::written::{write, WriteResult};
 /// The most points of a list.
 const MOST: usize = 10;
 
-/// A point of a function, and its cost.
+/// A point of a function, its cost, and what a preemption there saves.
 struct Record {
     func: usize,
     point: usize,
     cost: u32,
+    save: u32,
 }
 
 impl Record {
-    /// Falling cost, equal costs by rising function, then by rising point.
+    /// Falling cost, equal costs by falling save, then by rising function, then by rising point.
     fn order(&self, other: &Record) -> Ordering {
         other
             .cost
             .cmp(&self.cost)
+            .then(other.save.cmp(&self.save))
             .then(self.func.cmp(&other.func))
             .then(self.point.cmp(&other.point))
     }
@@ -44,7 +46,8 @@ pub fn print(task: &Task, figures: &Figures) -> String {
     let mut records = records(task, figures);
     records.sort_by(Record::order);
     let mut list = String::new();
-    for Record { func, point, cost } in records.iter().take(MOST) {
+    for record in records.iter().take(MOST) {
+        let (func, point, cost) = (record.func, record.point, record.cost);
         // Writing to a string does not fail.
         let _ = writeln!(list, "(dear {func} {point} {cost})");
     }
@@ -60,6 +63,7 @@ fn records(task: &Task, figures: &Figures) -> Vec<Record> {
             func: number,
             point,
             cost: figure.cost,
+            save: figure.save,
         }));
     }
     records

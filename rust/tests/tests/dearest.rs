@@ -1,8 +1,8 @@
-//! The ten dearest points: as the report itself gives them, on the vectors and on generated texts, with equal costs, few points and many, outputs of every
-//! length around the one wanted, any price, and the refusals of the report.
+//! The ten dearest points: as the report itself gives them, on the vectors and on generated texts, with equal costs, whose saves differ or not, few points
+//! and many, outputs of every length around the one wanted, any price, and the refusals of the report. Their costs are those by cost and place alone.
 
 use std::cmp::Reverse;
-use std::collections::BTreeSet;
+use std::collections::{BTreeMap, BTreeSet};
 use std::fmt::Display;
 
 use generate::Price;
@@ -16,26 +16,33 @@ const PRICED: u64 = 8_000;
 const DAMAGED: u64 = 20_000;
 const COMPARED: u64 = 10_000;
 
+/// A price at which a move of 3 blocks costs 97, and one of 4 blocks 127.
+const PRICE: Price = Price { start: 7, each: 30 };
+
 /// The most lines and bytes of a list.
 const MOST: usize = 10;
 const MOST_BYTES: usize = 220;
 
-/// A record of a report, or a line of a list. The order of the fields makes the order of the list.
+/// A line of a list: function, point and cost.
+type Line = [u32; 3];
+
+/// A record of a report. The order of the fields makes the order of the list.
 #[derive(Clone, Copy, Debug, PartialEq, Eq, PartialOrd, Ord)]
 struct Record {
     cost: Reverse<u32>,
+    save: Reverse<u32>,
     func: u32,
     point: u32,
 }
 
 impl Record {
-    fn of(func: u32, point: u32, cost: u32) -> Self {
-        let cost = Reverse(cost);
-        Record { cost, func, point }
+    fn line(&self) -> Line {
+        [self.func, self.point, self.cost.0]
     }
 
-    fn line(&self) -> String {
-        format!("(dear {} {} {})\n", self.func, self.point, self.cost.0)
+    /// The order of a list in which saves do not count.
+    fn by_place(&self) -> (Reverse<u32>, u32, u32) {
+        (self.cost, self.func, self.point)
     }
 }
 
@@ -46,9 +53,12 @@ fn report_records(report: &[u8]) -> Vec<Record> {
     for (word, numbers) in rows(report) {
         match (word, &numbers[..]) {
             ("func", &[number, _, _, _, _, _]) => func = number,
-            ("at", &[point, _, _, _, _, _, _, _, cost, _]) => {
-                records.push(Record::of(func, point, cost));
-            }
+            ("at", &[point, _, _, _, save, _, _, _, cost, _]) => records.push(Record {
+                cost: Reverse(cost),
+                save: Reverse(save),
+                func,
+                point,
+            }),
             ("total", &[_]) => {}
             _ => panic!("a line {word} {numbers:?}"),
         }
@@ -56,17 +66,26 @@ fn report_records(report: &[u8]) -> Vec<Record> {
     records
 }
 
-fn printed(records: &[Record]) -> Vec<u8> {
-    let lines: String = records.iter().map(Record::line).collect();
-    lines.into_bytes()
+fn printed(lines: &[Line]) -> Vec<u8> {
+    let line = |[func, point, cost]: &Line| format!("(dear {func} {point} {cost})\n");
+    lines.iter().map(line).collect::<String>().into_bytes()
 }
 
-/// The first ten of a report's records in the order of the list, printed.
-fn list_of(report: &[u8]) -> Vec<u8> {
+/// The lines of the first ten of a report's records in an order.
+fn first_by<K: Ord>(order: fn(&Record) -> K, report: &[u8]) -> Vec<Line> {
     let mut records = report_records(report);
-    records.sort();
-    records.truncate(MOST);
-    printed(&records)
+    records.sort_by_key(order);
+    records.iter().take(MOST).map(Record::line).collect()
+}
+
+/// The first ten of a report's records in the order of the list.
+fn first_of(report: &[u8]) -> Vec<Line> {
+    first_by(|record| *record, report)
+}
+
+/// The same, printed.
+fn list_of(report: &[u8]) -> Vec<u8> {
+    printed(&first_of(report))
 }
 
 /// Lists a text, and requires this list.
@@ -170,30 +189,33 @@ fn lists_at_any_price() {
     }
 }
 
-/// The records of a list, each of whose lines has to be of the form.
-fn list_records(list: &[u8]) -> Vec<Record> {
-    let list = std::str::from_utf8(list).expect("a list is text");
-    let record = |line: &str| {
+/// Lists an accepted text. Each line has to be of the form.
+fn listed_lines(text: &[u8], price: Price, case: &impl Display) -> Vec<Line> {
+    let written = dearest_points_at(text, price, MOST_BYTES, WORK_MIN);
+    assert_eq!(written.result.verdict, Ok(()), "{case}");
+    let list = &written.output[..written.result.written as usize];
+    let text = std::str::from_utf8(list).expect("a list is text");
+    let line = |line: &str| -> Option<Line> {
         let numbers = line.strip_prefix("(dear ")?.strip_suffix(')')?.split(' ');
         let numbers: Vec<u32> = numbers.map_while(|number| number.parse().ok()).collect();
-        let &[func, point, cost] = &numbers[..] else {
-            return None;
-        };
-        Some(Record::of(func, point, cost))
+        numbers.try_into().ok()
     };
-    let records = list.lines().map(|line| record(line).expect("a line"));
-    let records: Vec<Record> = records.collect();
-    assert_eq!(printed(&records), list.as_bytes());
-    records
+    let lines: Vec<Line> = text.lines().map(|of| line(of).expect("a line")).collect();
+    assert_eq!(printed(&lines), list);
+    lines
 }
 
-/// Requires the rules of a list by the report's records alone. Gives the record that the list leaves out first.
-fn assert_first(case: &impl Display, list: &[Record], records: &[Record]) -> Option<Record> {
-    assert_eq!(list.len(), records.len().min(MOST), "{case}");
-    let known: BTreeSet<Record> = records.iter().copied().collect();
+/// Requires the rules of a list by the report's records alone. Gives the records listed, and the one that the list leaves out first.
+fn assert_first(
+    case: &impl Display,
+    lines: &[Line],
+    records: &[Record],
+) -> (Vec<Record>, Option<Record>) {
+    assert_eq!(lines.len(), records.len().min(MOST), "{case}");
+    let known: BTreeMap<Line, Record> = records.iter().map(|at| (at.line(), *at)).collect();
     assert_eq!(known.len(), records.len(), "{case}");
-    let in_report = list.iter().all(|record| known.contains(record));
-    assert!(in_report, "{case}: {list:?}");
+    // Each line is that of a record.
+    let list: Vec<Record> = lines.iter().map(|line| known[line]).collect();
     // This rules out too that a record is listed twice.
     let ordered = list.windows(2).all(|pair| pair[0] < pair[1]);
     assert!(ordered, "{case}: {list:?}");
@@ -203,7 +225,7 @@ fn assert_first(case: &impl Display, list: &[Record], records: &[Record]) -> Opt
         first.is_none_or(|other| list.last() < Some(&other)),
         "{case}: {first:?}"
     );
-    first
+    (list, first)
 }
 
 /// In blocks and at prices. Most lists leave points out, and most leave one out that has the cost of the tenth.
@@ -216,21 +238,62 @@ fn lists_keep_to_the_report() {
             0 => Price::BLOCKS,
             _ => generate::price(seed),
         };
-        let written = dearest_points_at(&case.text, price, MOST_BYTES, WORK_MIN);
-        assert_eq!(written.result.verdict, Ok(()), "{case}");
-        let list = list_records(&written.output[..written.result.written as usize]);
+        let lines = listed_lines(&case.text, price, &case);
         let records = report_records(&whole_report(&case.text, price));
-        let next = assert_first(&case, &list, &records);
+        let (list, next) = assert_first(&case, &lines, &records);
         cut += u64::from(next.is_some());
         tied += u64::from(next.is_some_and(|next| next.cost == list[MOST - 1].cost));
     }
     assert!(cut > COMPARED / 2 && tied > COMPARED / 2, "{cut} {tied}");
 }
 
-/// Requires a list of these records, in outputs around its length.
-fn lists(text: &str, price: Price, records: &[[u32; 3]]) {
-    let record = |&[func, point, cost]: &[u32; 3]| Record::of(func, point, cost);
-    let wanted = printed(&records.iter().map(record).collect::<Vec<_>>());
+/// How many lists have other lines than those in which saves do not count, how many list other points, and how many have another length.
+#[derive(Default, Debug)]
+struct Differ {
+    lines: u64,
+    points: u64,
+    lengths: u64,
+}
+
+impl Differ {
+    /// Requires that a text's list has the costs of the list in which saves do not count, in their sequence.
+    fn assert_costs(&mut self, text: &[u8], price: Price, case: &impl Display) {
+        let by_save = listed_lines(text, price, case);
+        let by_place = first_by(Record::by_place, &whole_report(text, price));
+        let costs = |list: &[Line]| list.iter().map(|&[.., cost]| cost).collect::<Vec<_>>();
+        assert_eq!(costs(&by_save), costs(&by_place), "{case}");
+        let points = |list: &[Line]| list.iter().copied().collect::<BTreeSet<_>>();
+        self.lines += u64::from(by_save != by_place);
+        self.points += u64::from(points(&by_save) != points(&by_place));
+        self.lengths += u64::from(printed(&by_save).len() != printed(&by_place).len());
+    }
+}
+
+#[test]
+fn vectors_have_the_costs_by_place() {
+    let mut differ = Differ::default();
+    for path in tasks("report") {
+        let text = read(&path);
+        for price in prices().filter(Price::fits) {
+            differ.assert_costs(&text, price, &format!("{} {price:?}", path.display()));
+        }
+    }
+    println!("{differ:?}");
+}
+
+#[test]
+fn generated_texts_have_the_costs_by_place() {
+    let mut differ = Differ::default();
+    for seed in 0..COMPARED {
+        let case = generate::valid(seed + 15_000_000);
+        differ.assert_costs(&case.text, generate::price(seed), &case);
+    }
+    println!("{differ:?}");
+}
+
+/// Requires a list of these lines, in outputs around its length.
+fn lists(text: &str, price: Price, lines: &[Line]) {
+    let wanted = printed(lines);
     for output in [wanted.len() - 1, wanted.len(), felknost::DEAREST_OUTPUT] {
         assert_list(text.as_bytes(), price, output, &wanted, &text);
     }
@@ -239,7 +302,7 @@ fn lists(text: &str, price: Price, records: &[[u32; 3]]) {
 /// 64 functions without frames: no point costs anything.
 #[test]
 fn equal_costs_go_by_function_and_then_by_point() {
-    let first: Vec<[u32; 3]> = (0..10).map(|index| [index / 3, index % 3, 0]).collect();
+    let first: Vec<Line> = (0..10).map(|index| [index / 3, index % 3, 0]).collect();
     for price in [Price::BLOCKS, generate::price(1)] {
         lists(&deep(0, &["return"]), price, &first);
     }
@@ -255,8 +318,115 @@ fn equal_costs_across_the_tenth_place() {
     let text = called(8, &[callee; 3]);
     let listed = |cost| (0..10).map(move |index| [1 + index / 4, 1 + index % 4, cost]);
     lists(&text, Price::BLOCKS, &listed(2).collect::<Vec<_>>());
-    let price = Price { start: 7, each: 30 };
-    lists(&text, price, &listed(74).collect::<Vec<_>>());
+    lists(&text, PRICE, &listed(74).collect::<Vec<_>>());
+}
+
+/// A case of the model, which proves the same list. Two points cost 6: point 4 saves 4 blocks and point 1 saves 3. Of those that cost 4 each saves 3.
+#[test]
+fn equal_costs_go_by_save() {
+    let points = [
+        "store 1", "store 3", "store 2", "store 0", "load 0", "goto 6", "load 1", "return",
+    ];
+    let text = text(8, &[(4, &points)]);
+    let wanted = [
+        (4, 6),
+        (1, 6),
+        (2, 5),
+        (3, 4),
+        (5, 4),
+        (6, 4),
+        (0, 0),
+        (7, 0),
+    ];
+    lists(
+        &text,
+        Price::BLOCKS,
+        &wanted.map(|(point, cost)| [0, point, cost]),
+    );
+}
+
+/// A case of the model too. Point 1 costs 6 and saves 3 blocks, and point 4 costs 5 and saves 4.
+#[test]
+fn the_cost_decides_before_the_save() {
+    let points = [
+        "store 1", "store 3", "load 1", "store 0", "load 0", "return",
+    ];
+    let text = text(8, &[(4, &points)]);
+    let wanted = [(1, 6), (4, 5), (2, 4), (0, 0), (3, 0), (5, 0)];
+    lists(
+        &text,
+        Price::BLOCKS,
+        &wanted.map(|(point, cost)| [0, point, cost]),
+    );
+}
+
+/// Requires this list, written whole or refused with its length, in outputs of every length up to some bytes too many.
+fn lists_at_every_length(text: &str, price: Price, lines: &[Line], length: usize) {
+    let wanted = printed(lines);
+    assert_eq!(wanted.len(), length);
+    for output in 0..length + 8 {
+        assert_list(text.as_bytes(), price, output, &wanted, &text);
+    }
+}
+
+/// Twelve points of one function cost 6. Points 1 to 10 save 3 blocks, and points 12 and 13 save 4; so 9 and 10 are left out, and the list is longer by the
+/// one digit that point 9 has less.
+#[test]
+fn saves_across_the_tenth_place_make_a_list_longer() {
+    let mut points = vec!["store 3"; 11];
+    points[0] = "store 1";
+    points.extend(["store 0", "load 0", "load 0", "load 1", "return"]);
+    let text = text(8, &[(4, &points)]);
+    for (price, cost, length) in [(Price::BLOCKS, 6, 132), (PRICE, 194, 152)] {
+        let listed = [12, 13].into_iter().chain(1..9);
+        let wanted: Vec<Line> = listed.map(|point| [0, point, cost]).collect();
+        lists_at_every_length(&text, price, &wanted, length);
+    }
+}
+
+/// Twelve points cost 6. Points 10 to 19 of function 1 save 3 blocks, and points 1 and 2 of function 2 save 4.
+#[test]
+fn saves_across_the_tenth_place_make_a_list_shorter() {
+    let mut first = vec!["store 1"; 10];
+    first.extend(["store 3"; 10]);
+    first.extend(["load 1", "return"]);
+    let second = ["store 0", "store 1", "load 0", "load 1", "return"];
+    let text = called(8, &[(4, &first), (4, &second)]);
+    for (price, cost, length) in [(Price::BLOCKS, 6, 138), (PRICE, 194, 158)] {
+        let mut wanted = vec![[2, 1, cost], [2, 2, cost]];
+        wanted.extend((10..18).map(|point| [1, point, cost]));
+        lists_at_every_length(&text, price, &wanted, length);
+    }
+}
+
+/// Points 1 and 3 cost the same at the highest price. Point 3 saves 64 blocks, the most that any point saves, and point 1 saves 63.
+#[test]
+fn the_largest_saves() {
+    let points = [
+        "store 1", "store 63", "store 0", "load 0", "store 61", "load 1", "return",
+    ];
+    let text = text(64, &[(64, &points)]);
+    let highest = Price {
+        start: 255,
+        each: 255,
+    };
+    let report = whole_report(text.as_bytes(), highest);
+    let most = report_records(&report).iter().map(|at| at.save.0).max();
+    assert_eq!(most, Some(16_575));
+    let wanted = [
+        (3, 32_640),
+        (1, 32_640),
+        (2, 32_130),
+        (4, 32_130),
+        (5, 16_830),
+        (0, 0),
+        (6, 0),
+    ];
+    lists(
+        &text,
+        highest,
+        &wanted.map(|(point, cost)| [0, point, cost]),
+    );
 }
 
 /// The two dearest points are in function 2. Of those that cost 2, the eight of function 1 come before one of function 2 and two of function 3.
@@ -317,7 +487,7 @@ fn two_to_thirteen_points() {
         points[0] = "store 0";
         points[count - 1] = "return";
         let last = count as u32 - 1;
-        let mut wanted: Vec<[u32; 3]> = (1..last).map(|point| [0, point, 2]).collect();
+        let mut wanted: Vec<Line> = (1..last).map(|point| [0, point, 2]).collect();
         wanted.extend([[0, 0, 0], [0, last, 0]]);
         wanted.truncate(MOST);
         assert_eq!(wanted.len(), count.min(MOST));
@@ -381,7 +551,7 @@ fn a_list_of_200_bytes() {
         start: 255,
         each: 255,
     };
-    let wanted: Vec<[u32; 3]> = (101..111).map(|point| [63, point, 49_215]).collect();
+    let wanted: Vec<Line> = (101..111).map(|point| [63, point, 49_215]).collect();
     lists(&text, dearest, &wanted);
     let list = Wanted::dearest_points(text.as_bytes(), dearest);
     assert_eq!(list.bytes.len(), 200);
