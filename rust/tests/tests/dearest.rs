@@ -247,48 +247,87 @@ fn lists_keep_to_the_report() {
     assert!(cut > COMPARED / 2 && tied > COMPARED / 2, "{cut} {tied}");
 }
 
-/// How many lists have other lines than those in which saves do not count, how many list other points, and how many have another length.
-#[derive(Default, Debug)]
-struct Differ {
-    lines: u64,
-    points: u64,
-    lengths: u64,
+/// The list of a text, and the one in which saves do not count.
+struct Lists {
+    by_save: Vec<Line>,
+    by_place: Vec<Line>,
 }
 
-impl Differ {
-    /// Requires that a text's list has the costs of the list in which saves do not count, in their sequence.
-    fn assert_costs(&mut self, text: &[u8], price: Price, case: &impl Display) {
+impl Lists {
+    /// Requires that both have the same costs, in the same sequence.
+    fn of(text: &[u8], price: Price, case: &impl Display) -> Self {
         let by_save = listed_lines(text, price, case);
         let by_place = first_by(Record::by_place, &whole_report(text, price));
         let costs = |list: &[Line]| list.iter().map(|&[.., cost]| cost).collect::<Vec<_>>();
-        assert_eq!(costs(&by_save), costs(&by_place), "{case}");
-        let points = |list: &[Line]| list.iter().copied().collect::<BTreeSet<_>>();
-        self.lines += u64::from(by_save != by_place);
-        self.points += u64::from(points(&by_save) != points(&by_place));
-        self.lengths += u64::from(printed(&by_save).len() != printed(&by_place).len());
+        assert_eq!(costs(&by_save), costs(&by_place), "{case} {price:?}");
+        Lists { by_save, by_place }
+    }
+
+    fn differ(&self) -> bool {
+        self.by_save != self.by_place
+    }
+
+    /// Whether some point is on one of them only.
+    fn points_differ(&self) -> bool {
+        self.by_save
+            .iter()
+            .any(|line| !self.by_place.contains(line))
+    }
+
+    /// How many bytes they have.
+    fn lengths(&self) -> [usize; 2] {
+        [&self.by_place, &self.by_save].map(|list| printed(list).len())
     }
 }
+
+/// The cases whose two lists differ in blocks, with the bytes of the one in which saves do not count and of the other.
+const DIFFERENT: [(&str, [usize; 2]); 7] = [
+    ("012", [132, 132]),
+    ("018", [130, 130]),
+    ("019", [132, 132]),
+    ("022", [131, 130]),
+    ("058", [131, 130]),
+    ("065", [141, 140]),
+    ("072", [144, 144]),
+];
 
 #[test]
 fn vectors_have_the_costs_by_place() {
-    let mut differ = Differ::default();
+    let mut different = Vec::new();
     for path in tasks("report") {
         let text = read(&path);
-        for price in prices().filter(Price::fits) {
-            differ.assert_costs(&text, price, &format!("{} {price:?}", path.display()));
+        for price in prices().filter(|price| price.fits()) {
+            let lists = Lists::of(&text, price, &path.display());
+            if price == Price::BLOCKS && lists.differ() {
+                let name = path.file_stem().and_then(|name| name.to_str());
+                different.push((name.expect("a name").to_string(), lists.lengths()));
+            }
         }
     }
-    println!("{differ:?}");
+    let wanted = DIFFERENT.map(|(name, lengths)| (name.to_string(), lengths));
+    assert_eq!(different, wanted);
 }
 
+/// In blocks and at prices. Some lists differ, some list other points, and some have another length.
 #[test]
 fn generated_texts_have_the_costs_by_place() {
-    let mut differ = Differ::default();
+    let (mut lines, mut points, mut lengths) = (0, 0, 0);
     for seed in 0..COMPARED {
         let case = generate::valid(seed + 15_000_000);
-        differ.assert_costs(&case.text, generate::price(seed), &case);
+        let price = match seed % 2 {
+            0 => Price::BLOCKS,
+            _ => generate::price(seed),
+        };
+        let lists = Lists::of(&case.text, price, &case);
+        let [by_place, by_save] = lists.lengths();
+        lines += u64::from(lists.differ());
+        points += u64::from(lists.points_differ());
+        lengths += u64::from(by_place != by_save);
     }
-    println!("{differ:?}");
+    assert!(
+        lines > COMPARED / 20 && points > COMPARED / 40 && lengths > COMPARED / 200,
+        "{lines} {points} {lengths}"
+    );
 }
 
 /// Requires a list of these lines, in outputs around its length.
