@@ -48,7 +48,7 @@ same-tests false false g h = refl
 digit-less : (n a b c d : ℕ) → b < n → a < c → a * n + b < c * n + d
 digit-less n a b c d i h = omega (arith, i, mul-le-mul-right n h, suc-mul a n)
 
--- of numbers with a last digit b or d below n, what stands before it decides first
+-- of two numbers whose last digits b and d are below n, what stands before the digits decides first
 first-digit : (n a b c d : ℕ) (r : Bool) → b < n → d < n → smallerFirst a c (smallerFirst b d r) ≡ smallerFirst (a * n + b) (c * n + d) r
 first-digit n a b c d r i j =
     same-tests (smallerFirst a c (smallerFirst b d r)) (smallerFirst (a * n + b) (c * n + d) r)
@@ -89,7 +89,7 @@ digit-down n a b r i j =
     (λ h. first-holds a b r .1
     (⊎-elim (λ (k : n - 1 - b < n - 1 - a). inl (omega arith)) (λ k. inr (omega (arith, k .0), k .1)) (first-holds (n - 1 - b) (n - 1 - a) r .0 h)))
 
--- the last digit
+-- behind the last digit nothing decides
 first-last : (a b : ℕ) → ltb a b ≡ smallerFirst a b false
 first-last a b =
     same-tests (ltb a b) (smallerFirst a b false)

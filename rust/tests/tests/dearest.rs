@@ -423,7 +423,8 @@ fn saves_across_the_tenth_place_make_a_list_longer() {
     }
 }
 
-/// Twelve points cost 6. Points 10 to 19 of function 1 save 3 blocks, and points 1 and 2 of function 2 save 4.
+/// Twelve points cost 6. Points 10 to 19 of function 1 save 3 blocks, and points 1 and 2 of function 2 save 4; so two points of two digits are left out for
+/// two of one.
 #[test]
 fn saves_across_the_tenth_place_make_a_list_shorter() {
     let mut first = vec!["store 1"; 10];
