@@ -61,7 +61,7 @@ static void by_save(void)
 }
 
 /*
- * Twelve points cost 6. Points 1 to 10 save three blocks, points 12 and 13 four; so points 9 and 10 are left out, and the list is a byte longer than one
+ * Twelve points cost the same. Points 1 to 10 save three blocks, points 12 and 13 four; so points 9 and 10 are left out, and the list is a byte longer than one
  * in which they are listed. In outputs of every length up to some bytes too many.
  */
 static void saves_at_the_tenth_place(struct price price, int cost)

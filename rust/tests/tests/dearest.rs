@@ -408,8 +408,8 @@ fn lists_at_every_length(text: &str, price: Price, lines: &[Line], length: usize
     }
 }
 
-/// Twelve points of one function cost 6. Points 1 to 10 save 3 blocks, and points 12 and 13 save 4; so 9 and 10 are left out, and the list is longer by the
-/// one digit that point 9 has less.
+/// Twelve points of one function cost the same. Points 1 to 10 save 3 blocks, and points 12 and 13 save 4; so 9 and 10 are left out, and the list is longer
+/// by the one digit that point 9 has less.
 #[test]
 fn saves_across_the_tenth_place_make_a_list_longer() {
     let mut points = vec!["store 3"; 11];
@@ -423,8 +423,8 @@ fn saves_across_the_tenth_place_make_a_list_longer() {
     }
 }
 
-/// Twelve points cost 6. Points 10 to 19 of function 1 save 3 blocks, and points 1 and 2 of function 2 save 4; so two points of two digits are left out for
-/// two of one.
+/// Twelve points cost the same. Points 10 to 19 of function 1 save 3 blocks, and points 1 and 2 of function 2 save 4; so two points of two digits are left
+/// out for two of one.
 #[test]
 fn saves_across_the_tenth_place_make_a_list_shorter() {
     let mut first = vec!["store 1"; 10];
