@@ -62,12 +62,11 @@ static void by_save(void)
 
 /*
  * Twelve points cost the same. Points 1 to 10 save three blocks, points 12 and 13 four; so points 9 and 10 are left out, and the list is a byte longer than one
- * in which they are listed. In outputs of every length up to some bytes too many.
+ * in which they are listed.
  */
 static void saves_at_the_tenth_place(struct price price, int cost)
 {
     int point;
-    size_t output;
     put("(stack 8)\n(func 4\n  (store 1)\n");
     put_many("  (store 3)\n", 10);
     put("  (store 0)\n  (load 0)\n  (load 0)\n  (load 1)\n  (return)\n)\n");
@@ -75,10 +74,7 @@ static void saves_at_the_tenth_place(struct price price, int cost)
     put_dear(0, 13, cost);
     for (point = 1; point < 9; point++)
         put_dear(0, point, cost);
-    for (output = 0; output <= listed + 8; output++) {
-        int whole = output >= listed;
-        expect_at("saves at the tenth place", built, used, price, output, FELKNOST_WORK, whole ? 0 : 14, whole ? 0 : listed, list, whole ? listed : 0);
-    }
+    at_every_length("saves at the tenth place", built, used, price, list, listed);
     used = listed = 0;
 }
 

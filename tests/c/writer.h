@@ -66,12 +66,13 @@ static void expect(const char *name, const char *text, size_t length, size_t out
 
 /* ---- cases */
 
-static void lengths(void)
+/* In outputs of every length up to some bytes too many. */
+static void at_every_length(const char *name, const char *text, size_t length, struct price price, const char *bytes, size_t wanted)
 {
     size_t output;
-    for (output = 0; output <= WANTED + 8; output++) {
-        int whole = output >= WANTED;
-        expect("an output length", TASK, sizeof TASK - 1, output, FELKNOST_WORK, whole ? 0 : 14, whole ? 0 : WANTED, BYTES, whole ? WANTED : 0);
+    for (output = 0; output <= wanted + 8; output++) {
+        int whole = output >= wanted;
+        expect_at(name, text, length, price, output, FELKNOST_WORK, whole ? 0 : 14, whole ? 0 : wanted, bytes, whole ? wanted : 0);
     }
 }
 
@@ -181,7 +182,7 @@ static void prepare(void)
 
 static void common_cases(void)
 {
-    lengths();
+    at_every_length("an output length", TASK, sizeof TASK - 1, in_blocks, BYTES, WANTED);
     refusals();
     prices();
     short_results();

@@ -1,7 +1,7 @@
 -- The rank of a record keeps the order of the list and says the record's line; the ranks of a task's points, and the list that is printed from the
 -- highest of them.
 use Prim.Native.Nat.{ℕ, zero, suc, _+_, _-_, _*_, _≤_, _<_, min}
-use mathlib.Core.Bool.{Bool, true, false}
+use mathlib.Core.Bool.{Bool, false}
 use mathlib.Core.List.{List, [], _∷_, _++_, map, map-map, map-append, List·Memᴰ}
 use mathlib.Core.Logic.{_⊎_, inl, inr, ⊎-elim}
 use mathlib.Core.Path.{_≡_, refl, sym, ap, subst, _∙_}
@@ -19,7 +19,7 @@ use Rattle.model.specs.Task.{Task, size, count, func}
 use Rattle.model.specs.Sheet.{Record, recordAt, recordsIn, recordsOf, row}
 use Rattle.model.specs.Dearest.{placedBefore, dearer, dearest, dearRow, dearestWith, dearestText}
 use Rattle.model.specs.WellFormed.{Shaped}
-use Rattle.theory.proofs.Lists.{mem-map, map-joined, joined-map, upTo-next, joined-next, length-upTo}
+use Rattle.theory.proofs.Lists.{same-test, mem-map, map-joined, joined-map, upTo-next, joined-next, length-upTo}
 use Rattle.theory.proofs.Between.{mem-getD}
 use Rattle.theory.proofs.Sorting.{first-holds, map-first}
 use Rattle.theory.proofs.Dearest.{record-is, ten-dearest}
@@ -39,19 +39,13 @@ use Rattle.dearest.specs.Ranking.{saveEnd, costEnd, rankEnd, mostLine, L
 
 -- ---- an order of digits
 
-same-tests : (a b : Bool) → (T a → T b) → (T b → T a) → a ≡ b
-same-tests true true g h = refl
-same-tests true false g h = absurd (g tt)
-same-tests false true g h = absurd (h tt)
-same-tests false false g h = refl
-
 digit-less : (n a b c d : ℕ) → b < n → a < c → a * n + b < c * n + d
 digit-less n a b c d i h = omega (arith, i, mul-le-mul-right n h, suc-mul a n)
 
 -- of two numbers whose last digits b and d are below n, what stands before the digits decides first
 first-digit : (n a b c d : ℕ) (r : Bool) → b < n → d < n → smallerFirst a c (smallerFirst b d r) ≡ smallerFirst (a * n + b) (c * n + d) r
 first-digit n a b c d r i j =
-    same-tests (smallerFirst a c (smallerFirst b d r)) (smallerFirst (a * n + b) (c * n + d) r)
+    same-test (smallerFirst a c (smallerFirst b d r)) (smallerFirst (a * n + b) (c * n + d) r)
     (λ h. first-holds (a * n + b) (c * n + d) r .1
     (⊎-elim (λ k. inl (digit-less n a b c d i k)) (λ k. together (k .0) (first-holds b d r .0 (k .1))) (first-holds a c (smallerFirst b d r) .0 h)))
     (λ h. first-holds a c (smallerFirst b d r) .1 (apart (first-holds (a * n + b) (c * n + d) r .0 h)))
@@ -83,7 +77,7 @@ first-digit n a b c d r i j =
 -- a digit that counts down: the smaller number is the larger digit
 digit-down : (n a b : ℕ) (r : Bool) → a < n → b < n → smallerFirst a b r ≡ smallerFirst (n - 1 - b) (n - 1 - a) r
 digit-down n a b r i j =
-    same-tests (smallerFirst a b r) (smallerFirst (n - 1 - b) (n - 1 - a) r)
+    same-test (smallerFirst a b r) (smallerFirst (n - 1 - b) (n - 1 - a) r)
     (λ h. first-holds (n - 1 - b) (n - 1 - a) r .1
     (⊎-elim (λ (k : a < b). inl (omega arith)) (λ k. inr (omega (arith, k .0), k .1)) (first-holds a b r .0 h)))
     (λ h. first-holds a b r .1
@@ -92,7 +86,7 @@ digit-down n a b r i j =
 -- behind the last digit nothing decides
 first-last : (a b : ℕ) → ltb a b ≡ smallerFirst a b false
 first-last a b =
-    same-tests (ltb a b) (smallerFirst a b false)
+    same-test (ltb a b) (smallerFirst a b false)
     (λ h. first-holds a b false .1 (inl (ltb→lt a b h)))
     (λ h. ⊎-elim (λ k. lt→ltb a b k) (λ k. absurd (k .1)) (first-holds a b false .0 h))
 

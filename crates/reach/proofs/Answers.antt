@@ -3,7 +3,7 @@ use Prim.Native.Nat.{ℕ, zero, suc, _+_, _≤_, _<_}
 use native.Mathlib.Decide.{ℕ-discrete}
 use native.Mathlib.Omega.{arith}
 use mathlib.Core.Path.{_≡_, refl, ap}
-use mathlib.Core.Bool.{Bool, true, false, not}
+use mathlib.Core.Bool.{not}
 use mathlib.Core.List.{List, List·Memᴰ}
 use mathlib.Core.Logic.{_↔_, inl, inr}
 use mathlib.Core.Option.{Option, none, some}
@@ -16,6 +16,7 @@ use Rattle.model.specs.Figures as figure
 use Rattle.model.specs.Refusal.{storedBefore}
 use Rattle.model.specs.Task.{Func, size, point}
 use Rattle.model.specs.Walk.{Walk, leads, loaded, stored, is, stores, never}
+use Rattle.theory.proofs.Lists.{same-test}
 use Rattle.theory.proofs.Links.{lead-inside}
 use Rattle.theory.proofs.Figures.{Closed, reached-walk, uninitialised-walk}
 use Rattle.theory.proofs.Walks.{walk-trans}
@@ -28,13 +29,6 @@ use Rattle.tables.proofs.Valid.{fits-in}
 use Rattle.reach.specs.Reach.{HoldsLinked, Clean, has, seen, Tells}
 use Rattle.reach.specs.Sweep.{Most}
 use Rattle.reach.proofs.Theory.{Has, Sweeping}
-
--- tests that hold together are the same
-same-test : (a b : Bool) → (T a → T b) → (T b → T a) → a ≡ b
-same-test true true f g = refl
-same-test true false f g = absurd (f tt)
-same-test false true f g = absurd (g tt)
-same-test false false f g = refl
 
 -- every walk stores an offset before it is loaded, by what is so of each walk with no store
 stored-as : (x : Func) (p : ℕ) (o : Option ℕ) → ((j : ℕ) → o ≡ some j → T (figure.uninitialised x j p) → ⊥) → T (storedBefore x p o)

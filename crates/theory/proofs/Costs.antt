@@ -1,7 +1,7 @@
 -- Two orders that both go by falling cost list the same costs, in the same sequence, whatever else they ask (document 02, request 10).
 use Prim.Native.Nat.{ℕ, _≤_, _<_}
 use mathlib.Core.Bool.{Bool, not}
-use mathlib.Core.List.{List, [], _∷_, map, List·Memᴰ, List·Memᴰ·head, List·Memᴰ·tail, List·Memᴰ·not-nil, List·Memᴰ·cases-cons}
+use mathlib.Core.List.{List, [], _∷_, map, List·Memᴰ, List·Memᴰ·head, List·Memᴰ·tail, List·Memᴰ·cases-cons}
 use mathlib.Core.Logic.{inl, ⊎-elim}
 use mathlib.Core.Path.{_≡_, refl, sym, ap, _∙_}
 use native.Mathlib.Decide.{decLt}
@@ -9,20 +9,17 @@ use native.Mathlib.Omega.{arith}
 use lib.Dec.{T, T-not, ltb, ltb→lt, nltb→le}
 use lib.ListN.{take}
 use Rattle.model.specs.Limits.{mostDearest}
-use Rattle.model.specs.Basic.{largerFirst, inserted, sortedOnto, sorted}
+use Rattle.model.specs.Basic.{largerFirst, inserted, sorted}
 use Rattle.model.specs.Sheet.{Record}
 use Rattle.model.specs.Dearest.{placedBefore, savedBefore, dearer, dearest}
 use Rattle.theory.specs.Order.{Pairs, dearerBefore}
-use Rattle.theory.proofs.Lists.{by-test}
-use Rattle.theory.proofs.Sorting.{first-holds, mem-inserted, map-take}
+use Rattle.theory.proofs.Lists.{by-test, mem-map}
+use Rattle.theory.proofs.Sorting.{first-holds, pairs-inserted, map-sorted}
 
 -- ---- numbers by falling size
 
 abbrev larger : ℕ → ℕ → Bool
 larger a b = ltb b a
-
-abbrev Falling : List ℕ → Type 0
-Falling l = Pairs (λ a b. b ≤ a) l
 
 -- a number that none is above is put in first
 first-inserted : (c : ℕ) (l : List ℕ) → ((z : ℕ) → List·Memᴰ z l → z ≤ c) → inserted larger c l ≡ c ∷ l
@@ -40,19 +37,9 @@ unfolding inserted
 next-inserted c d l h =
     by-test (λ (k : List ℕ). k ≡ d ∷ inserted larger c l) (ltb d c) (λ k. absurd (omega (arith, ltb→lt d c k))) (λ k. refl)
 
-falls-inserted : (c : ℕ) (l : List ℕ) → Falling l → Falling (inserted larger c l)
-unfolding inserted
-falls-inserted c [] p = (λ z m. absurd (List·Memᴰ·not-nil m), tt)
-falls-inserted c (d ∷ l) p =
-    by-test Falling (ltb d c)
-    (λ h. (λ z m. ⊎-elim (λ (e : z ≡ d). omega (arith, ltb→lt d c h)) (λ k. omega (arith, ltb→lt d c h, p .0 z k)) (List·Memᴰ·cases-cons m), p))
-    (λ h. (
-      λ z m. ⊎-elim (λ (e : z ≡ c). omega (arith, nltb→le d c h)) (λ k. p .0 z k) (List·Memᴰ·cases-cons (mem-inserted larger c l .0 m)),
-      falls-inserted c l (p .1),
-    ))
-
 -- ---- orders that go by a number first
 
+-- no element comes before one with a larger number
 pub record ByFirst {A : Type 0} (before : A → A → Bool) (cost : A → ℕ) : Type 0 where
   pub before-falls : (x y : A) → T (before x y) → cost y ≤ cost x
   pub other-falls : (x y : A) → T (not (before x y)) → cost x ≤ cost y
@@ -67,28 +54,33 @@ by-first cost rest = record {
 }
 
 module _ {A : Type 0} {before : A → A → Bool} {cost : A → ℕ} (o : ByFirst before cost) where
+  -- no number in the list is above an earlier one
+  abbrev Falling : List A → Type 0
+  Falling l = Pairs (λ x y. cost y ≤ cost x) l
+
   -- where an element is put in, so is its number; among equal numbers the place does not show
-  costs-inserted : (x : A) (l : List A) → Falling (map cost l) → map cost (inserted before x l) ≡ inserted larger (cost x) (map cost l)
+  costs-inserted : (x : A) (l : List A) → Falling l → map cost (inserted before x l) ≡ inserted larger (cost x) (map cost l)
   unfolding inserted
   costs-inserted x [] p = refl
   costs-inserted x (y ∷ l) p =
       by-test (λ (k : List A). map cost k ≡ inserted larger (cost x) (map cost (y ∷ l))) (before x y)
-      (λ h.
-      let c = o .before-falls x y h in
-      sym (first-inserted (cost x) (map cost (y ∷ l))
-      (λ z m. ⊎-elim (λ (e : z ≡ cost y). omega (arith, c)) (λ k. omega (arith, c, p .0 z k)) (List·Memᴰ·cases-cons m))))
+      (λ h. sym (first-inserted (cost x) (map cost (y ∷ l)) (λ z m. all-below h (mem-map cost (y ∷ l) m))))
       (λ h. ap (λ k. cost y ∷ k) (costs-inserted x l (p .1)) ∙ sym (next-inserted (cost x) (cost y) (map cost l) (o .other-falls x y h)))
-
-  costs-sortedOnto : (l r : List A) → Falling (map cost l) → map cost (sortedOnto before l r) ≡ sortedOnto larger (map cost l) (map cost r)
-  unfolding sortedOnto
-  costs-sortedOnto l [] p = refl
-  costs-sortedOnto l (x ∷ r) p =
-      let e = costs-inserted x l p in
-      costs-sortedOnto (inserted before x l) r (rw e (falls-inserted (cost x) (map cost l) p)) ∙ rw e refl
+    where
+      all-below : T (before x y) → {z : ℕ} → (w : A) × List·Memᴰ w (y ∷ l) × (z ≡ cost w) → z ≤ cost x
+      all-below h r =
+          let c = o .before-falls x y h in
+          ⊎-elim (λ (e : r .0 ≡ y). omega (arith, c, ap cost e, r .2)) (λ k. omega (arith, c, p .0 (r .0) k, r .2)) (List·Memᴰ·cases-cons (r .1))
 
   -- the numbers of the first n are the first n of the numbers
   pub costs-first : (n : ℕ) (l : List A) → map cost (take n (sorted before l)) ≡ take n (sorted larger (map cost l))
-  costs-first n l = map-take cost n (sorted before l) ∙ ap (take n) (costs-sortedOnto [] l tt)
+  costs-first n l =
+      map-sorted cost before larger (λ x. Unit {0}) Falling
+      (λ x k u p. (
+        costs-inserted x k p,
+        pairs-inserted (λ x y. cost y ≤ cost x) before (λ x y z a b. omega arith) x k (λ y m h. o .before-falls x y h) (λ y m h. o .other-falls x y h) p,
+      ))
+      tt n l (λ x m. tt)
 
 -- ---- two such orders
 

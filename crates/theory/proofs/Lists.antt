@@ -20,6 +20,13 @@ pub by-test {ℓ} : {X : Type ℓ} (P : X → Type 0) (t : Bool) {x y : X} → (
 by-test P true f g = f tt
 by-test P false f g = g tt
 
+-- tests that hold together are the same
+pub same-test : (a b : Bool) → (T a → T b) → (T b → T a) → a ≡ b
+same-test true true f g = refl
+same-test true false f g = absurd (f tt)
+same-test false true f g = absurd (g tt)
+same-test false false f g = refl
+
 -- what holds of two numbers holds of the larger one
 pub by-max : (P : ℕ → Type 0) (a b : ℕ) → P a → P b → P (max a b)
 by-max P a b x y =

@@ -200,6 +200,23 @@ module _ {A : Type 0} (before : A → A → Bool) where
 
 -- ---- its sequence
 
+-- a list is still in the sequence of R where an element is put in: R leads from the element to those that it comes before, and to it from the others
+pub pairs-inserted : {A : Type 0} (R : A → A → Type 0) (before : A → A → Bool) → ((x y z : A) → R x y → R y z → R x z) → (x : A) (l : List A)
+    → ((y : A) → List·Memᴰ y l → T (before x y) → R x y)
+    → ((y : A) → List·Memᴰ y l → T (not (before x y)) → R y x)
+    → Pairs R l → Pairs R (inserted before x l)
+unfolding inserted
+pairs-inserted R before t x [] a b p = (λ y m. absurd (List·Memᴰ·not-nil m), tt)
+pairs-inserted R before t x (y ∷ l) a b p =
+    by-test (Pairs R) (before x y)
+    (λ h.
+    let i = a y (List·Memᴰ·head refl) h in
+    (λ z m. ⊎-elim (λ e. rw e i) (λ k. t x y z i (p .0 z k)) (List·Memᴰ·cases-cons m), p))
+    (λ h. (
+      λ z m. ⊎-elim (λ e. rw e (b y (List·Memᴰ·head refl) h)) (λ k. p .0 z k) (List·Memᴰ·cases-cons (mem-inserted before x l .0 m)),
+      pairs-inserted R before t x l (λ z m. a z (List·Memᴰ·tail m)) (λ z m. b z (List·Memᴰ·tail m)) (p .1),
+    ))
+
 module _ {A : Type 0} {Apart : A → A → Type 0} {before : A → A → Bool} (o : StrictOrder Apart before) where
   -- of two that are apart, the one that does not come first comes last
   other : (x y : A) → Apart x y → T (not (before y x)) → T (before x y)
@@ -207,15 +224,8 @@ module _ {A : Type 0} {Apart : A → A → Type 0} {before : A → A → Bool} (
 
   rising-inserted : (x : A) (l : List A) → Pairs (λ x y. T (before x y)) l → ((y : A) → List·Memᴰ y l → Apart y x)
       → Pairs (λ x y. T (before x y)) (inserted before x l)
-  unfolding inserted
-  rising-inserted x [] p a = (λ y m. absurd (List·Memᴰ·not-nil m), tt)
-  rising-inserted x (y ∷ l) p a =
-      by-test (Pairs (λ x y. T (before x y))) (before x y)
-      (λ h. (λ z m. ⊎-elim (λ e. rw e h) (λ k. o .transitive x y z h (p .0 z k)) (List·Memᴰ·cases-cons m), p))
-      (λ h. (
-        λ z m. ⊎-elim (λ e. rw e (other y x (a y (List·Memᴰ·head refl)) h)) (λ k. p .0 z k) (List·Memᴰ·cases-cons (mem-inserted before x l .0 m)),
-        rising-inserted x l (p .1) (λ z m. a z (List·Memᴰ·tail m)),
-      ))
+  rising-inserted x l p a =
+      pairs-inserted (λ x y. T (before x y)) before (o .transitive) x l (λ y m h. h) (λ y m h. other y x (a y m) h) p
 
   rising-sortedOnto : (l r : List A) → Pairs (λ x y. T (before x y)) l → Pairs Apart r → ((x y : A) → List·Memᴰ x l → List·Memᴰ y r → Apart x y)
       → Pairs (λ x y. T (before x y)) (sortedOnto before l r)
@@ -247,34 +257,43 @@ module _ {A : Type 0} {Apart : A → A → Type 0} {before : A → A → Bool} (
 
 -- ---- from one sorted list to another
 
-pub map-take : {A B : Type 0} (g : A → B) (n : ℕ) (l : List A) → map g (take n l) ≡ take n (map g l)
+map-take : {A B : Type 0} (g : A → B) (n : ℕ) (l : List A) → map g (take n l) ≡ take n (map g l)
 map-take g zero l = refl
 map-take g (suc n) [] = refl
 map-take g (suc n) (x ∷ l) = ap (λ k. g x ∷ k) (map-take g n l)
 
--- g keeps the order of the elements of which P holds
-module _ {A B : Type 0} (g : A → B) (one : A → A → Bool) (two : B → B → Bool) (P : A → Type 0)
-    (keeps : (x y : A) → P x → P y → one x y ≡ two (g x) (g y)) where
-  map-inserted : (x : A) (l : List A) → P x → ((y : A) → List·Memᴰ y l → P y) → map g (inserted one x l) ≡ inserted two (g x) (map g l)
-  unfolding inserted
-  map-inserted x [] h k = refl
-  map-inserted x (y ∷ l) h k =
-      go (one x y) (two (g x) (g y)) (keeps x y h (k y (List·Memᴰ·head refl))) (map-inserted x l h (λ z m. k z (List·Memᴰ·tail m)))
-    where
-      go : (a b : Bool) → a ≡ b → map g (inserted one x l) ≡ inserted two (g x) (map g l)
-          → map g (if a then x ∷ y ∷ l else y ∷ inserted one x l) ≡ (if b then g x ∷ g y ∷ map g l else g y ∷ inserted two (g x) (map g l))
-      go true b d i = rw (← d) refl
-      go false b d i = rw (← d) (ap (λ k. g y ∷ k) i)
+module _ {A B : Type 0} (g : A → B) (one : A → A → Bool) (two : B → B → Bool) (P : A → Type 0) where
+  -- where an element of which P holds is put into a list of which Good holds, so is what g makes of it, and Good holds of the longer list
+  module _ (Good : List A → Type 0)
+      (puts : (x : A) (l : List A) → P x → Good l → (map g (inserted one x l) ≡ inserted two (g x) (map g l)) × Good (inserted one x l)) where
+    map-sortedOnto : (l r : List A) → Good l → ((x : A) → List·Memᴰ x r → P x) → map g (sortedOnto one l r) ≡ sortedOnto two (map g l) (map g r)
+    unfolding sortedOnto
+    map-sortedOnto l [] h k = refl
+    map-sortedOnto l (x ∷ r) h k =
+        let i = puts x l (k x (List·Memᴰ·head refl)) h in
+        map-sortedOnto (inserted one x l) r (i .1) (λ y m. k y (List·Memᴰ·tail m)) ∙ ap (λ q. sortedOnto two q (map g r)) (i .0)
 
-  map-sortedOnto : (l r : List A) → ((x : A) → List·Memᴰ x l → P x) → ((x : A) → List·Memᴰ x r → P x)
-      → map g (sortedOnto one l r) ≡ sortedOnto two (map g l) (map g r)
-  unfolding sortedOnto
-  map-sortedOnto l [] h k = refl
-  map-sortedOnto l (x ∷ r) h k =
-      map-sortedOnto (inserted one x l) r
-      (λ y m. ⊎-elim (λ e. rw e (k x (List·Memᴰ·head refl))) (λ j. h y j) (List·Memᴰ·cases-cons (mem-inserted one x l .0 m)))
-      (λ y m. k y (List·Memᴰ·tail m))
-      ∙ ap (λ q. sortedOnto two q (map g r)) (map-inserted x l (k x (List·Memᴰ·head refl)) h)
+    pub map-sorted : Good [] → (n : ℕ) (r : List A) → ((x : A) → List·Memᴰ x r → P x) → map g (take n (sorted one r)) ≡ take n (sorted two (map g r))
+    map-sorted h n r k = map-take g n (sorted one r) ∙ ap (take n) (map-sortedOnto [] r h k)
 
-  pub map-first : (n : ℕ) (r : List A) → ((x : A) → List·Memᴰ x r → P x) → map g (take n (sorted one r)) ≡ take n (sorted two (map g r))
-  map-first n r k = map-take g n (sorted one r) ∙ ap (take n) (map-sortedOnto [] r (λ x m. absurd (List·Memᴰ·not-nil m)) k)
+  -- g keeps the order of the elements of which P holds
+  module _ (keeps : (x y : A) → P x → P y → one x y ≡ two (g x) (g y)) where
+    map-inserted : (x : A) (l : List A) → P x → ((y : A) → List·Memᴰ y l → P y) → map g (inserted one x l) ≡ inserted two (g x) (map g l)
+    unfolding inserted
+    map-inserted x [] h k = refl
+    map-inserted x (y ∷ l) h k =
+        go (one x y) (two (g x) (g y)) (keeps x y h (k y (List·Memᴰ·head refl))) (map-inserted x l h (λ z m. k z (List·Memᴰ·tail m)))
+      where
+        go : (a b : Bool) → a ≡ b → map g (inserted one x l) ≡ inserted two (g x) (map g l)
+            → map g (if a then x ∷ y ∷ l else y ∷ inserted one x l) ≡ (if b then g x ∷ g y ∷ map g l else g y ∷ inserted two (g x) (map g l))
+        go true b d i = rw (← d) refl
+        go false b d i = rw (← d) (ap (λ k. g y ∷ k) i)
+
+    pub map-first : (n : ℕ) (r : List A) → ((x : A) → List·Memᴰ x r → P x) → map g (take n (sorted one r)) ≡ take n (sorted two (map g r))
+    map-first n r k =
+        map-sorted (λ l. (x : A) → List·Memᴰ x l → P x)
+        (λ x l h j. (
+          map-inserted x l h j,
+          λ y m. ⊎-elim (λ e. rw e h) (λ i. j y i) (List·Memᴰ·cases-cons (mem-inserted one x l .0 m)),
+        ))
+        (λ x m. absurd (List·Memᴰ·not-nil m)) n r k

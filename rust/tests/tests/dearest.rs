@@ -593,11 +593,7 @@ fn a_list_of_200_bytes() {
     };
     let wanted: Vec<Line> = (101..111).map(|point| [63, point, 49_215]).collect();
     lists(&text, dearest, &wanted);
-    let list = Wanted::dearest_points(text.as_bytes(), dearest);
-    assert_eq!(list.bytes.len(), 200);
-    for output in 0..260 {
-        list.write_into(&"200 bytes", output, WORK_MIN);
-    }
+    lists_at_every_length(&text, dearest, &wanted, 200);
 }
 
 /// What only the archive can show.
