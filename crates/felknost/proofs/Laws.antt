@@ -5,6 +5,7 @@ use mathlib.Core.List.{List, [], _∷_}
 use native.Mathlib.Omega.{arith}
 use lib.ListN.{length, set}
 use borrow.Author.Tests.{lt-ltb, le-ltb}
+use Rattle.model.specs.declared.Eviction.{Eviction}
 use Rattle.model.specs.declared.Refusal.{Refusal}
 use Rattle.model.specs.declared.WriteResult.{WriteResult}
 use Rattle.model.specs.declared.RunResult.{RunResult}
@@ -75,36 +76,38 @@ five-over a b c d e (v ∷ w ∷ x ∷ []) h = absurd (omega arith)
 five-over a b c d e (v ∷ w ∷ x ∷ y ∷ []) h = absurd (omega arith)
 five-over a b c d e (v ∷ w ∷ x ∷ y ∷ z ∷ l) h = refl
 
--- run as C calls it: what it answers and leaves
-abbrev pub runCalled : ℕ → (result work answers cache memory : List ℕ) → AfterRunCall
+-- run as C calls it, on either core: what it answers and leaves, and each part of that as the contract has them
+abbrev runCalled : ℕ → (result work answers cache memory : List ℕ) → AfterRunCall
 runCalled n result work answers cache memory =
     record { answer = n; result = result; work = work; answers = answers; cache = cache; memory = memory }
 
-module _ (text : List ℕ) (start each : ℕ) (work events answers cache memory result : List ℕ) where
-  pub run-too-few : length result < 5
-      → runCalled 0 result work answers cache memory ≡ runNumbers text start each work events answers cache memory result
-  unfolding runNumbers
-  run-too-few h = rw (lt-ltb (length result) 5 h)
-
-  pub run-enough : {r : RunResult} {result′ work′ answers′ cache′ memory′ : List ℕ} → 5 ≤ length result
-      → r ≡ runOf text start each work events answers cache memory .result
-      → work′ ≡ runOf text start each work events answers cache memory .work
-      → answers′ ≡ runOf text start each work events answers cache memory .answers
-      → cache′ ≡ runOf text start each work events answers cache memory .cache
-      → memory′ ≡ runOf text start each work events answers cache memory .memory
-      → result′ ≡ over (runResultNumbers r) result
-      → runCalled 1 result′ work′ answers′ cache′ memory′ ≡ runNumbers text start each work events answers cache memory result
-  unfolding runNumbers
-  run-enough h a b c d e f =
-      let g = f ∙ ap (λ (x : RunResult). over (runResultNumbers x) result) a in
-      rw (le-ltb (length result) 5 h) (λ i. runCalled 1 (g i) (b i) (c i) (d i) (e i))
-
--- each part of what is left, as the contract has them
-pub run-parts : {x y : AfterRunCall} → x ≡ y
-    → (x .answer ≡ y .answer)
+abbrev pub RunParts : AfterRunCall → AfterRunCall → Type 0
+RunParts x y =
+    (x .answer ≡ y .answer)
     × ((x .result ≡ y .result)
     × ((x .work ≡ y .work) × ((x .answers ≡ y .answers) × ((x .cache ≡ y .cache) × (x .memory ≡ y .memory)))))
+
+run-parts : {x y : AfterRunCall} → x ≡ y → RunParts x y
 run-parts e = (
   λ i. e i .answer,
   (λ i. e i .result, (λ i. e i .work, (λ i. e i .answers, (λ i. e i .cache, λ i. e i .memory)))),
 )
+
+module _ (x : Eviction) (text : List ℕ) (start each : ℕ) (work events answers cache memory result : List ℕ) where
+  pub run-too-few : length result < 5
+      → RunParts (runCalled 0 result work answers cache memory) (runNumbers x text start each work events answers cache memory result)
+  unfolding runNumbers
+  run-too-few h = run-parts (rw (lt-ltb (length result) 5 h))
+
+  pub run-enough : {r : RunResult} {result′ work′ answers′ cache′ memory′ : List ℕ} → 5 ≤ length result
+      → r ≡ runOf x text start each work events answers cache memory .result
+      → work′ ≡ runOf x text start each work events answers cache memory .work
+      → answers′ ≡ runOf x text start each work events answers cache memory .answers
+      → cache′ ≡ runOf x text start each work events answers cache memory .cache
+      → memory′ ≡ runOf x text start each work events answers cache memory .memory
+      → result′ ≡ over (runResultNumbers r) result
+      → RunParts (runCalled 1 result′ work′ answers′ cache′ memory′) (runNumbers x text start each work events answers cache memory result)
+  unfolding runNumbers
+  run-enough h a b c d e f =
+      let g = f ∙ ap (λ (z : RunResult). over (runResultNumbers z) result) a in
+      run-parts (rw (le-ltb (length result) 5 h) (λ i. runCalled 1 (g i) (b i) (c i) (d i) (e i)))

@@ -2,6 +2,7 @@
 ghost use mathlib.Core.Path.{_≡_};
 ghost use Prim.Native.Nat.{_≤_};
 ghost use lib.ListN.{length};
+ghost use Rattle.model.specs.declared.Eviction.the-variants.{Eager, Lazy};
 ghost use Rattle.model.specs.Rows.{verdictCode, verdictPlace, endingCode, endingPlace};
 ghost use Rattle.model.specs.Services.{over, checkNumber, resultNumbers, reportNumbers, dearestNumbers, runResultNumbers, runNumbers};
 use judge::Judgement;
@@ -180,23 +181,57 @@ pub extern "C" fn felknost_run(
     work: &mut [u32],
     result: &mut [u64],
 ) -> u32
-    ensures answer { λ n. ⌜ n ≡ runNumbers (now (text .entry)) start each (now (work .entry)) (now (events .entry)) (now (answers .entry))
+    ensures answer { λ n. ⌜ n ≡ runNumbers Eager (now (text .entry)) start each (now (work .entry)) (now (events .entry)) (now (answers .entry))
         (now (cache .entry)) (now (memory .entry)) (now (result .entry)) .answer ⌝ }
-    ensures result { λ n. ⌜ now (result .exit) ≡ runNumbers (now (text .entry)) start each (now (work .entry)) (now (events .entry)) (now (answers .entry))
+    ensures result { λ n. ⌜ now (result .exit) ≡ runNumbers Eager (now (text .entry)) start each (now (work .entry)) (now (events .entry)) (now (answers .entry))
         (now (cache .entry)) (now (memory .entry)) (now (result .entry)) .result ⌝ }
-    ensures work { λ n. ⌜ now (work .exit) ≡ runNumbers (now (text .entry)) start each (now (work .entry)) (now (events .entry)) (now (answers .entry))
+    ensures work { λ n. ⌜ now (work .exit) ≡ runNumbers Eager (now (text .entry)) start each (now (work .entry)) (now (events .entry)) (now (answers .entry))
         (now (cache .entry)) (now (memory .entry)) (now (result .entry)) .work ⌝ }
-    ensures answers { λ n. ⌜ now (answers .exit) ≡ runNumbers (now (text .entry)) start each (now (work .entry)) (now (events .entry)) (now (answers .entry))
+    ensures answers { λ n. ⌜ now (answers .exit) ≡ runNumbers Eager (now (text .entry)) start each (now (work .entry)) (now (events .entry)) (now (answers .entry))
         (now (cache .entry)) (now (memory .entry)) (now (result .entry)) .answers ⌝ }
-    ensures cache { λ n. ⌜ now (cache .exit) ≡ runNumbers (now (text .entry)) start each (now (work .entry)) (now (events .entry)) (now (answers .entry))
+    ensures cache { λ n. ⌜ now (cache .exit) ≡ runNumbers Eager (now (text .entry)) start each (now (work .entry)) (now (events .entry)) (now (answers .entry))
         (now (cache .entry)) (now (memory .entry)) (now (result .entry)) .cache ⌝ }
-    ensures memory { λ n. ⌜ now (memory .exit) ≡ runNumbers (now (text .entry)) start each (now (work .entry)) (now (events .entry)) (now (answers .entry))
+    ensures memory { λ n. ⌜ now (memory .exit) ≡ runNumbers Eager (now (text .entry)) start each (now (work .entry)) (now (events .entry)) (now (answers .entry))
         (now (cache .entry)) (now (memory .entry)) (now (result .entry)) .memory ⌝ }
 {
     if result.len() < RunNumbers::ALL {
         return 0;
     }
     let ran = services::run(text, start, each, events, answers, cache, memory, work);
+    put_run_numbers(result, ran);
+    1
+}
+
+// Run on the core with a lazy pointer, with the result as for run.
+#[no_mangle]
+pub extern "C" fn felknost_run_lazy(
+    text: &[u8],
+    start: u32,
+    each: u32,
+    events: &[u32],
+    answers: &mut [u32],
+    cache: &mut [u32],
+    memory: &mut [u32],
+    work: &mut [u32],
+    result: &mut [u64],
+) -> u32
+    ensures answer { λ n. ⌜ n ≡ runNumbers Lazy (now (text .entry)) start each (now (work .entry)) (now (events .entry)) (now (answers .entry))
+        (now (cache .entry)) (now (memory .entry)) (now (result .entry)) .answer ⌝ }
+    ensures result { λ n. ⌜ now (result .exit) ≡ runNumbers Lazy (now (text .entry)) start each (now (work .entry)) (now (events .entry)) (now (answers .entry))
+        (now (cache .entry)) (now (memory .entry)) (now (result .entry)) .result ⌝ }
+    ensures work { λ n. ⌜ now (work .exit) ≡ runNumbers Lazy (now (text .entry)) start each (now (work .entry)) (now (events .entry)) (now (answers .entry))
+        (now (cache .entry)) (now (memory .entry)) (now (result .entry)) .work ⌝ }
+    ensures answers { λ n. ⌜ now (answers .exit) ≡ runNumbers Lazy (now (text .entry)) start each (now (work .entry)) (now (events .entry)) (now (answers .entry))
+        (now (cache .entry)) (now (memory .entry)) (now (result .entry)) .answers ⌝ }
+    ensures cache { λ n. ⌜ now (cache .exit) ≡ runNumbers Lazy (now (text .entry)) start each (now (work .entry)) (now (events .entry)) (now (answers .entry))
+        (now (cache .entry)) (now (memory .entry)) (now (result .entry)) .cache ⌝ }
+    ensures memory { λ n. ⌜ now (memory .exit) ≡ runNumbers Lazy (now (text .entry)) start each (now (work .entry)) (now (events .entry)) (now (answers .entry))
+        (now (cache .entry)) (now (memory .entry)) (now (result .entry)) .memory ⌝ }
+{
+    if result.len() < RunNumbers::ALL {
+        return 0;
+    }
+    let ran = services::run_lazy(text, start, each, events, answers, cache, memory, work);
     put_run_numbers(result, ran);
     1
 }

@@ -8,11 +8,13 @@ use native.Mathlib.Omega.{arith}
 use lib.ListN.{length, getD, set, take, drop, length-drop, take-append-drop, replicate, length-replicate}
 use lib.Seq.{take-all, drop-length, take-set-le, drop-set-add}
 use borrow.Rule.Slice.PartMut.{midOf, putMid}
+use Rattle.model.specs.declared.Eviction.{Eviction}
+use Rattle.model.specs.declared.Eviction.the-variants.{Eager}
 use Rattle.model.specs.Core as core
-use Rattle.model.specs.Core.{Core, spilled, filled, reserved, resumeMoves, reserve, save, withCache, filledWith, resume}
+use Rattle.model.specs.Core.{Core, written, spilled, filled, reserved, resumeMoves, reserve, save, withCache, filledWith, resume}
 use Rattle.machine.specs.declared.Machine.{Machine}
 use Rattle.machine.specs.declared.Moved.{Moved}
-use Rattle.machine.specs.Moves.{coreOf, Good, Does, Preempts, Entered, spilledArea}
+use Rattle.machine.specs.Moves.{evictionOf, withEviction, coreOf, Good, Does, Preempts, Entered, spilledArea}
 use Rattle.machine.proofs.Kept.{start-memory, save-good, between-good}
 
 -- ---- blocks
@@ -97,25 +99,57 @@ fill-back memory cache₀ cache st from k from′ k′ f g h = h ∙ (λ i. fill
 -- ---- what a move returns
 
 pub does : (r : Moved) (cache memory : List ℕ) (to : core.Moved) → r .machine .st ≡ to .core .st → r .machine .occupancy ≡ to .core .occupancy
-    → cache ≡ to .core .cache → memory ≡ to .core .memory → r .blocks ≡ to .blocks → Does r cache memory to
-does r cache memory to a b c d e =
+    → r .machine .pointer ≡ to .core .pointer → evictionOf (r .machine .lazy) ≡ to .core .eviction → cache ≡ to .core .cache → memory ≡ to .core .memory → r .blocks ≡ to .blocks → Does r cache memory to
+does r cache memory to a b p x c d e =
     record {
-      core = λ i. record { st = a i; occupancy = b i; cache = c i; memory = d i };
+      core = λ i. record { st = a i; occupancy = b i; pointer = p i; eviction = x i; cache = c i; memory = d i };
       blocks = e;
     }
 
+-- a machine with 0 writes back all
+pub zero-eager : evictionOf 0 ≡ Eager
+unfolding evictionOf
+zero-eager = refl
+
 -- a fresh machine, whose entry moves nothing
-pub entered : (m : Machine) (stack frame numbers : ℕ) → frame ≤ stack → m .st ≡ numbers - frame → m .occupancy ≡ reserved stack frame 0
-    → Entered stack frame numbers m
+pub entered : (m : Machine) (x : Eviction) (stack frame numbers : ℕ) → frame ≤ stack → m .st ≡ numbers - frame → m .occupancy ≡ reserved stack frame 0
+    → m .pointer ≡ reserved stack frame 0 → evictionOf (m .lazy) ≡ x → Entered x stack frame numbers m
 unfolding reserve
-entered m stack frame numbers h a b cache memory e g =
+entered m x stack frame numbers h a b p y cache memory e g =
     λ i.
     record {
       st = (a ∙ ap (λ (n : ℕ). n - frame) (sym g)) i;
       occupancy = (b ∙ ap (λ (s : ℕ). reserved s frame 0) (sym e)) i;
+      pointer = (p ∙ ap (λ (s : ℕ). reserved s frame 0) (sym e)) i;
+      eviction = y i;
       cache = cache;
-      memory = sym (start-memory cache memory frame (omega arith)) i;
+      memory = sym (start-memory x cache memory frame (omega arith)) i;
     }
+
+-- and one that writes back otherwise
+pub entered-with : (m r : Machine) (x y : Eviction) (stack frame numbers : ℕ) → frame ≤ stack → Entered y stack frame numbers m
+    → ((cache memory : List ℕ) → coreOf r cache memory ≡ withEviction x (coreOf m cache memory)) → Entered x stack frame numbers r
+unfolding reserve
+entered-with m r x y stack frame numbers h a b cache memory e g =
+    b cache memory ∙ ap (withEviction x) (a cache memory e g)
+    ∙ (λ i. record {
+      st = length memory - frame;
+      occupancy = reserved (length cache) frame 0;
+      pointer = reserved (length cache) frame 0;
+      eviction = x;
+      cache = cache;
+      memory = (start-memory y cache memory frame (omega arith) ∙ sym (start-memory x cache memory frame (omega arith))) i;
+    })
+
+-- what is written back, by the number that the machine has
+pub written-all : (n m : ℕ) → (n ≡ written (evictionOf 0) n m) × (n ≤ n)
+unfolding written evictionOf
+written-all n m = (refl, omega arith)
+
+pub written-below : (z n m : ℕ) → (z ≡ 0 → ⊥) → m ≤ n → (m ≡ written (evictionOf z) n m) × (m ≤ n)
+unfolding written evictionOf
+written-below zero n m h k = absurd (h refl)
+written-below (suc z) n m h k = (refl, k)
 
 -- a cache filled to its end
 pub all-filled : (cache₀ cache : List ℕ) (v i : ℕ) → cache ≡ replicate i v ++ drop i cache₀ → i ≡ length cache₀

@@ -1,16 +1,21 @@
-// The core with a stack cache: what each move does to ST, the occupancy, the cache and the memory, and how many blocks it moves.
+// The core with a stack cache, with or without a lazy pointer LP: what each move does to ST, the occupancy, LP, the cache and the memory, and how
+// many blocks it moves.
 ghost use mathlib.Core.Path.{_≡_};
 ghost use mathlib.Core.List.{List};
 ghost use Prim.Native.Nat.{ℕ, _+_, _%_, _-_, _<_, _≤_, min, max};
 ghost use lib.ListN.{length, replicate};
 ghost use Rattle.model.specs.Core as core;
-ghost use Rattle.machine.specs.Moves.{coreOf, mostAddress, Good, Does, Preempts, Entered, spilledArea};
+ghost use Rattle.model.specs.declared.Eviction.the-variants.{Eager};
+ghost use Rattle.machine.specs.Moves.{evictionOf, withEviction, coreOf, mostAddress, Good, Does, Preempts, Entered, spilledArea};
 use model::Limits;
 
-// Where the stack stands: the stack top ST, and how many blocks from ST up are cached.
+// Where the stack stands: the stack top ST, how many blocks from ST up are cached, and how many of them lie below LP. lazy: which of them are
+// written back, all where it is 0, else those below LP. A number as the others are, and no enum, for speed.
 pub struct Machine {
     pub st: usize,
     pub occupancy: usize,
+    pub pointer: usize,
+    pub lazy: usize,
 }
 
 // A machine after a move, and how many blocks moved.
@@ -26,7 +31,7 @@ pub struct Preempted {
     pub back: usize,
 }
 
-// ---- the rules on numbers: s blocks in the cache, n of them occupied
+// ---- the rules on numbers: s blocks in the cache, n of them occupied, m of them to be written back
 
 fn lesser(a: usize, b: usize) -> usize
     ensures { λ r. ⌜ r ≡ min a b ⌝ }
@@ -45,6 +50,14 @@ fn excess(a: usize, b: usize) -> usize
     ensures { λ r. ⌜ r ≡ a - b ⌝ }
 {
     if b < a { a - b } else { 0 }
+}
+
+// How many are written back when they leave the cache, of n that are cached and m below LP.
+fn written(lazy: usize, n: usize, m: usize) -> usize
+    requires { ⌜ m ≤ n ⌝ }
+    ensures { λ r. ⌜ (r ≡ core.written (evictionOf lazy) n m) × (r ≤ n) ⌝ }
+{
+    if lazy == 0 { n } else { m }
 }
 
 fn reserved(s: usize, k: usize, n: usize) -> usize
@@ -91,10 +104,10 @@ fn resumed(dead: usize, need: usize, n: usize) -> usize
     lesser(n, greater(dead, need))
 }
 
-fn save_moves(dead: usize, n: usize) -> usize
-    ensures { λ r. ⌜ r ≡ core.saveMoves dead n ⌝ }
+fn save_moves(dead: usize, n: usize, m: usize) -> usize
+    ensures { λ r. ⌜ r ≡ core.saveMoves dead n m ⌝ }
 {
-    n - saved_from(dead, n)
+    excess(m, saved_from(dead, n))
 }
 
 fn resume_moves(dead: usize, need: usize, n: usize) -> usize
@@ -168,14 +181,30 @@ impl Machine {
     // Blocks of a cache.
     pub const MOST_BLOCKS: usize = Limits::STACK as usize;
 
-    // The state after function 0 with this frame has been entered on a memory of this length, with nothing cached before. Nothing moves.
+    // The state after function 0 with this frame has been entered on a memory of this length, with nothing cached before. Nothing moves. It writes back
+    // all that leaves the cache.
     pub fn fresh(stack: u32, frame: u32, length: usize) -> Machine
         requires { ⌜ (frame ≤ stack) × (frame ≤ length) ⌝ }
-        ensures { λ r. ⌜ Entered stack frame length r ⌝ }
+        ensures { λ r. ⌜ Entered Eager stack frame length r ⌝ }
     {
+        let cached = reserved(stack as usize, frame as usize, 0);
         Machine {
             st: length - frame as usize,
-            occupancy: reserved(stack as usize, frame as usize, 0),
+            occupancy: cached,
+            pointer: cached,
+            lazy: 0,
+        }
+    }
+
+    // The same, but for which blocks are written back.
+    pub fn evicting(self, lazy: usize) -> Machine
+        ensures { λ r. ⌜ ((cache memory : List ℕ) → coreOf r cache memory ≡ withEviction (evictionOf lazy) (coreOf self cache memory)) ⌝ }
+    {
+        Machine {
+            st: self.st,
+            occupancy: self.occupancy,
+            pointer: self.pointer,
+            lazy: lazy,
         }
     }
 
@@ -187,13 +216,17 @@ impl Machine {
         let s = cache.len();
         let frame = k as usize;
         let st = self.st - frame;
-        let blocks = reserve_moves(s, frame, self.occupancy);
+        let lazy = self.lazy;
+        let blocks = reserve_moves(s, frame, written(lazy, self.occupancy, self.pointer));
         let occupancy = reserved(s, frame, self.occupancy);
+        let pointer = reserved(s, frame, self.pointer);
         spill(&mut memory[st..], cache, block_of(s, st), s, blocks);
         Moved {
             machine: Machine {
                 st: st,
                 occupancy: occupancy,
+                pointer: pointer,
+                lazy: lazy,
             },
             blocks: blocks,
         }
@@ -207,10 +240,12 @@ impl Machine {
         Machine {
             st: self.st + k as usize,
             occupancy: freed(k as usize, self.occupancy),
+            pointer: freed(k as usize, self.pointer),
+            lazy: self.lazy,
         }
     }
 
-    // Fills upward from MT, until at least k blocks are cached.
+    // Fills upward from MT, until at least k blocks are cached. LP stays.
     pub fn ensure(self, cache: &mut [u32], memory: &[u32], k: u32) -> Moved
         requires { ⌜ Good (coreOf self (now cache) (now memory)) × (self .st + k ≤ length (now memory)) ⌝ }
         ensures { λ r. ⌜ Does r (now (cache .exit)) (now (memory .entry)) (core.ensure k (coreOf self (now (cache .entry)) (now (memory .entry)))) ⌝ }
@@ -222,6 +257,8 @@ impl Machine {
             machine: Machine {
                 st: self.st,
                 occupancy: ensured_to(frame, self.occupancy),
+                pointer: self.pointer,
+                lazy: self.lazy,
             },
             blocks: blocks,
         }
@@ -236,17 +273,24 @@ impl Machine {
         cache[block]
     }
 
-    pub fn store(self, cache: &mut [u32], o: u32, v: u32)
+    // Sets the number at offset o, and lifts LP past it if below.
+    pub fn store(self, cache: &mut [u32], o: u32, v: u32) -> Machine
         requires { ⌜ (0 < length (now cache)) × (self .st + o ≤ mostAddress) ⌝ }
-        ensures { λ r. ⌜ ((memory : List ℕ) → coreOf self (now (cache .exit)) memory ≡ core.store o v (coreOf self (now (cache .entry)) memory)) ⌝ }
+        ensures { λ r. ⌜ ((memory : List ℕ) → coreOf r (now (cache .exit)) memory ≡ core.store o v (coreOf self (now (cache .entry)) memory)) ⌝ }
     {
         let s = cache.len();
         let a = self.st + o as usize;
         let block = block_of(s, a);
         cache[block] = v;
+        Machine {
+            st: self.st,
+            occupancy: self.occupancy,
+            pointer: greater(o as usize + 1, self.pointer),
+            lazy: self.lazy,
+        }
     }
 
-    // The first half of a preemption: the blocks from the lowest live offset up go out.
+    // The first half of a preemption: the blocks from the lowest live offset up go out, on a lazy core those below LP.
     pub fn save(self, cache: &[u32], memory: &mut [u32], dead: u32) -> Moved
         requires { ⌜ Good (coreOf self (now cache) (now memory)) ⌝ }
         ensures { λ r. ⌜ Does r (now (cache .entry)) (now (memory .exit)) (core.save dead (coreOf self (now (cache .entry)) (now (memory .entry)))) ⌝ }
@@ -254,7 +298,12 @@ impl Machine {
         let s = cache.len();
         let st = self.st;
         let live = saved_from(dead as usize, self.occupancy);
-        let blocks = save_moves(dead as usize, self.occupancy);
+        let lazy = self.lazy;
+        let blocks = save_moves(
+            dead as usize,
+            self.occupancy,
+            written(lazy, self.occupancy, self.pointer),
+        );
         spill(&mut memory[st..], cache, block_of(s, st), live, blocks);
         Moved {
             machine: self,
@@ -262,7 +311,7 @@ impl Machine {
         }
     }
 
-    // Its second half: as many of them come back as the point needs, whatever the cache holds.
+    // Its second half: as many of them come back as the point needs, whatever the cache holds. LP is where they begin.
     pub fn resume(self, cache: &mut [u32], memory: &[u32], dead: u32, need: u32) -> Moved
         requires { ⌜ Good (coreOf self (now cache) (now memory)) ⌝ }
         ensures { λ r. ⌜ Does r (now (cache .exit)) (now (memory .entry)) (core.resume dead need (coreOf self (now (cache .entry)) (now (memory .entry)))) ⌝ }
@@ -274,6 +323,8 @@ impl Machine {
             machine: Machine {
                 st: self.st,
                 occupancy: resumed(dead as usize, need as usize, self.occupancy),
+                pointer: live,
+                lazy: self.lazy,
             },
             blocks: blocks,
         }

@@ -7,6 +7,7 @@ use lib.ListN.{replicate}
 use Rattle.model.specs.declared.Row.the-variants.{WorkTooSmall, PriceRange, TextTooLong, Form, StackSize, FrameSize, Offset, TooMany, Callee, Pairing}
 use Rattle.model.specs.declared.Row.the-variants.{Target, LastPoint, Unreachable, Uncalled, Uninitialised, EventList, AnswersTooSmall}
 use Rattle.model.specs.declared.Row.the-variants.{OutputTooSmall, CacheSize, MemoryTooSmall, AfterFinish, Kind, Choice}
+use Rattle.model.specs.declared.Eviction.the-variants.{Eager}
 use Rattle.model.specs.declared.Verdict.the-variants as verdict
 use Rattle.model.specs.declared.Ending.the-variants.{AllDone, Refused}
 use Rattle.model.specs.Text.{bytes}
@@ -28,7 +29,7 @@ abbrev spaceAfter : List ℕ
 spaceAfter = replicate 16384 0
 
 -- the task of an accepted text
-abbrev the : Judged → Task
+abbrev pub the : Judged → Task
 the (task t) = t
 the (refused r) = record { stack = 0; funcs = [] }
 
@@ -101,7 +102,7 @@ reports = (refl, refl, refl)
 
 -- runs: a step after the finish; preemptions in a loop-free task; calls and ensures with preemptions; refusals 16 and 18
 pub runs :
-    (runOf (lines ("(stack 5)" ∷ "(func 1" ∷ "  (store 0)" ∷ "  (goto 2)" ∷ "  (return)" ∷ ")" ∷ [])) 0 1 space (0 ∷ 2934011270 ∷ 0
+    (runOf Eager (lines ("(stack 5)" ∷ "(func 1" ∷ "  (store 0)" ∷ "  (goto 2)" ∷ "  (return)" ∷ ")" ∷ [])) 0 1 space (0 ∷ 2934011270 ∷ 0
     ∷ 589427096 ∷ 0 ∷ 3997777106 ∷ 0 ∷ 0 ∷ 0 ∷ 0 ∷ []) (373894995 ∷ 2968548144 ∷ 886888172 ∷ 3830429940 ∷ 3190996365
     ∷ []) (898285158 ∷ 1500554193 ∷ 2598987744 ∷ 1007897788 ∷ 1265440252 ∷ []) (858584284 ∷ [])
     ≡ record {
@@ -113,7 +114,7 @@ pub runs :
           ∷ [];
       memory = 858584284 ∷ [];
     })
-    × (runOf (lines ("(stack 4)" ∷ "(func 1" ∷ "  (goto 1)" ∷ "  (goto 2)" ∷ "  (store 0)" ∷ "  (goto 4)" ∷ "  (load 0)"
+    × (runOf Eager (lines ("(stack 4)" ∷ "(func 1" ∷ "  (goto 1)" ∷ "  (goto 2)" ∷ "  (store 0)" ∷ "  (goto 4)" ∷ "  (load 0)"
     ∷ "  (goto 6)" ∷ "  (load 0)" ∷ "  (return)" ∷ ")" ∷ [])) 0 1 space (0 ∷ 2895956331 ∷ 0 ∷ 909425933 ∷ 0 ∷ 1896762787 ∷ 1
     ∷ 2804987225 ∷ 0 ∷ 1839070548 ∷ 0 ∷ 3101506463 ∷ 0 ∷ 3370136954 ∷ 1 ∷ 1911718603 ∷ 1 ∷ 2495569231 ∷ 1 ∷ 1025133807 ∷ 0
     ∷ 3222885024 ∷ 0 ∷ 4274936422 ∷ []) (2953963103 ∷ 774874867 ∷ 1597049441 ∷ 1054608902 ∷ 3584791696 ∷ 2295094126 ∷ 254103220
@@ -128,7 +129,7 @@ pub runs :
           ∷ [];
       memory = 2414184793 ∷ 3897494404 ∷ 3591637451 ∷ 1488934572 ∷ 3163266442 ∷ 1896762787 ∷ [];
     })
-    × (runOf (lines ("(stack 8)" ∷ "(func 8" ∷ "  (store 1)" ∷ "  (store 5)" ∷ "  (store 3)" ∷ "  (store 6)" ∷ "  (load 1)"
+    × (runOf Eager (lines ("(stack 8)" ∷ "(func 8" ∷ "  (store 1)" ∷ "  (store 5)" ∷ "  (store 3)" ∷ "  (store 6)" ∷ "  (load 1)"
     ∷ "  (call 1)" ∷ "  (ensure 8)" ∷ "  (call 1)" ∷ "  (ensure 8)" ∷ "  (store 6)" ∷ "  (call 1)" ∷ "  (ensure 8)"
     ∷ "  (either 12 2)" ∷ ")" ∷ "(func 3" ∷ "  (store 0)" ∷ "  (store 1)" ∷ "  (store 2)" ∷ "  (store 1)" ∷ "  (goto 5)"
     ∷ "  (return)" ∷ ")" ∷ [])) 0 1 space (0 ∷ 343548935 ∷ 0 ∷ 1382360379 ∷ 0 ∷ 2831718133 ∷ 0 ∷ 4244988237 ∷ 0 ∷ 1184329595 ∷ 0
@@ -150,7 +151,7 @@ pub runs :
           ∷ 443744283 ∷ 2510779550 ∷ 1305496735 ∷ 1745604338 ∷ 1557541568 ∷ 2026975510 ∷ 3727233847 ∷ 343548935 ∷ 2130549762
           ∷ 2831718133 ∷ 1810988266 ∷ 1382360379 ∷ 4244988237 ∷ 1221336634 ∷ [];
     })
-    × (runOf (lines ("(stack 2)" ∷ "(func 2" ∷ "  (store 0)" ∷ "  (store 1)" ∷ "  (call 1)" ∷ "  (ensure 2)" ∷ "  (call 1)"
+    × (runOf Eager (lines ("(stack 2)" ∷ "(func 2" ∷ "  (store 0)" ∷ "  (store 1)" ∷ "  (call 1)" ∷ "  (ensure 2)" ∷ "  (call 1)"
     ∷ "  (ensure 2)" ∷ "  (goto 1)" ∷ ")" ∷ "(func 0" ∷ "  (either 1 3)" ∷ "  (goto 2)" ∷ "  (goto 4)" ∷ "  (goto 4)"
     ∷ "  (goto 5)" ∷ "  (goto 7)" ∷ "  (return)" ∷ "  (either 5 8)" ∷ "  (goto 6)" ∷ ")" ∷ [])) 0 1 space (7 ∷ []) ([]) (1138740478
     ∷ 3583472818 ∷ []) (670524004 ∷ 1676998962 ∷ [])
@@ -162,7 +163,7 @@ pub runs :
           ∷ 3583472818 ∷ [];
       memory = 670524004 ∷ 1676998962 ∷ [];
     })
-    × (runOf (lines ("(stack 5)" ∷ "(func 3" ∷ "  (store 2)" ∷ "  (store 1)" ∷ "  (store 0)" ∷ "  (load 2)" ∷ "  (either 5 5)"
+    × (runOf Eager (lines ("(stack 5)" ∷ "(func 3" ∷ "  (store 2)" ∷ "  (store 1)" ∷ "  (store 0)" ∷ "  (load 2)" ∷ "  (either 5 5)"
     ∷ "  (return)" ∷ ")" ∷ [])) 0 1 space (0 ∷ 3400196418 ∷ 0 ∷ 3513183446 ∷ 0 ∷ 476545124 ∷ 0 ∷ 2604493378 ∷ 0 ∷ 1 ∷ []) (344260931
     ∷ 4174468066 ∷ 2193317402 ∷ 3117858009 ∷ 69215398 ∷ []) (3996965014 ∷ 2450955901 ∷ 4248015098 ∷ 371480247 ∷ 2559686712 ∷ 1
     ∷ []) (2908766338 ∷ 935844569 ∷ 3984743703 ∷ 2776743189 ∷ [])
@@ -217,16 +218,16 @@ pub turns :
     ∷ "  (goto 4)" ∷ "  (load 0)" ∷ "  (return)" ∷ ")" ∷ [])))) ≡ lines ("(report" ∷ "  (func 0 1 1 1 0 0)"
     ∷ "  (at 0 1 1 1 0 0 0 0 0 0)" ∷ "  (at 1 1 0 1 1 1 0 0 2 0)" ∷ "  (at 2 1 1 1 0 0 0 0 0 0)" ∷ "  (at 3 1 0 1 1 1 0 0 2 0)"
     ∷ "  (at 4 1 0 1 1 1 0 0 2 0)" ∷ "  (at 5 1 1 0 0 0 0 0 0 0)" ∷ "  (total 6)" ∷ ")" ∷ []))
-    × (runOf (lines ("(stack 2)" ∷ "(func 1" ∷ "  (store 0)" ∷ "  (either 2 4)" ∷ "  (store 0)" ∷ "  (goto 4)" ∷ "  (load 0)"
+    × (runOf Eager (lines ("(stack 2)" ∷ "(func 1" ∷ "  (store 0)" ∷ "  (either 2 4)" ∷ "  (store 0)" ∷ "  (goto 4)" ∷ "  (load 0)"
     ∷ "  (return)" ∷ ")" ∷ [])) 0 1 space (0 ∷ 5 ∷ 0 ∷ 2 ∷ []) (replicate 2 0) (replicate 2 0) (replicate 1 0) .result .ending
     ≡ Refused (refuse Choice 1))
-    × (runOf (lines ("(stack 2)" ∷ "(func 1" ∷ "  (store 0)" ∷ "  (either 2 4)" ∷ "  (store 0)" ∷ "  (goto 4)" ∷ "  (load 0)"
+    × (runOf Eager (lines ("(stack 2)" ∷ "(func 1" ∷ "  (store 0)" ∷ "  (either 2 4)" ∷ "  (store 0)" ∷ "  (goto 4)" ∷ "  (load 0)"
     ∷ "  (return)" ∷ ")" ∷ [])) 0 1 space (0 ∷ 5 ∷ 1 ∷ 2 ∷ 0 ∷ 1 ∷ 2 ∷ 0
     ∷ []) (replicate 4 0) (replicate 2 0) (replicate 1 0) .result .ending ≡ Refused (refuse Kind 3))
-    × (runOf (sample) 0 1 space (0 ∷ 0 ∷ 0 ∷ 0 ∷ 0 ∷ 0 ∷ 0 ∷ 0 ∷ 0 ∷ 0 ∷ 0 ∷ 0 ∷ 0 ∷ 0 ∷ 0 ∷ 0 ∷ 9 ∷ 9
+    × (runOf Eager (sample) 0 1 space (0 ∷ 0 ∷ 0 ∷ 0 ∷ 0 ∷ 0 ∷ 0 ∷ 0 ∷ 0 ∷ 0 ∷ 0 ∷ 0 ∷ 0 ∷ 0 ∷ 0 ∷ 0 ∷ 9 ∷ 9
     ∷ []) (replicate 9 0) (replicate 5 0) (replicate 6 0) .result .ending ≡ Refused (refuse AfterFinish 8))
-    × (runOf (sample) 0 1 space (0 ∷ 0 ∷ []) (replicate 0 0) (replicate 5 0) (replicate 6 0) .result .ending ≡ Refused (refuse AnswersTooSmall 1))
-    × (runOf (sample) 0 1 space (0 ∷ 0 ∷ []) (replicate 1 0) (replicate 5 0) (replicate 5 0) .result .ending ≡ Refused (refuse MemoryTooSmall 6))
+    × (runOf Eager (sample) 0 1 space (0 ∷ 0 ∷ []) (replicate 0 0) (replicate 5 0) (replicate 6 0) .result .ending ≡ Refused (refuse AnswersTooSmall 1))
+    × (runOf Eager (sample) 0 1 space (0 ∷ 0 ∷ []) (replicate 1 0) (replicate 5 0) (replicate 5 0) .result .ending ≡ Refused (refuse MemoryTooSmall 6))
 unfolding opened lines sample
 turns = (refl, refl, refl, refl, refl, refl, refl, refl)
 
@@ -255,11 +256,11 @@ pub prices :
     ∷ "  (at 2 1 1 0 0 0 11 0 11 11)" ∷ "  (at 3 2 1 2 11 11 0 0 22 0)" ∷ "  (at 4 2 2 0 0 0 0 0 0 0)"
     ∷ "  (func 1 4 4 4 11 11)" ∷ "  (at 0 5 4 1 11 0 0 11 22 0)" ∷ "  (at 1 5 0 1 15 11 0 11 37 0)"
     ∷ "  (at 2 5 4 0 11 0 0 11 22 0)" ∷ "  (total 136)" ∷ ")" ∷ []))
-    × (runOf sample 10 1 space sevenSteps (replicate 7 0) (replicate 5 0) (replicate 6 0) .result
+    × (runOf Eager sample 10 1 space sevenSteps (replicate 7 0) (replicate 5 0) (replicate 6 0) .result
     ≡ record { ending = AllDone; done = 7; moved = 22; allowed = 22 })
-    × (runOf sample 10 1 space withPreemption (replicate 8 0) (replicate 5 0) (replicate 6 0) .result
+    × (runOf Eager sample 10 1 space withPreemption (replicate 8 0) (replicate 5 0) (replicate 6 0) .result
     ≡ record { ending = AllDone; done = 8; moved = 49; allowed = 59 })
-    × (runOf sample 0 3 space withPreemption (replicate 8 0) (replicate 5 0) (replicate 6 0) .result
+    × (runOf Eager sample 0 3 space withPreemption (replicate 8 0) (replicate 5 0) (replicate 6 0) .result
     ≡ record { ending = AllDone; done = 8; moved = 27; allowed = 27 })
 unfolding opened lines sample sevenSteps withPreemption
 prices = (refl, refl, refl, refl)

@@ -11,6 +11,7 @@ use Rattle.model.specs.declared.Ending.the-variants.{AllDone}
 use Rattle.model.specs.Rows.{refuse}
 use Rattle.model.specs.Basic.{joined}
 use Rattle.model.specs.Text.{bytes}
+use Rattle.model.specs.declared.Eviction.the-variants.{Eager}
 use Rattle.model.specs.Core.{Core, reserve, ensure, free}
 use Rattle.model.specs.Services.{AfterCheck, checkOf, reportOf, AfterRun, runOf}
 use Rattle.model.specs.Opened.{opened}
@@ -21,7 +22,7 @@ lines l = joined (λ s. bytes s ++ bytes "\n") l
 
 -- a cache of 5 blocks at occupancy n
 unfoldable pub five : ℕ → Core
-five n = record { st = 20; occupancy = n; cache = replicate 5 0; memory = replicate 40 0 }
+five n = record { st = 20; occupancy = n; pointer = n; eviction = Eager; cache = replicate 5 0; memory = replicate 40 0 }
 
 unfoldable pub sample : List ℕ
 unfolding lines
@@ -78,7 +79,7 @@ withPreemption = 0 ∷ 11 ∷ 0 ∷ 0 ∷ 0 ∷ 22 ∷ 1 ∷ 99 ∷ 0 ∷ 0 ∷ 
 
 -- what is lent to the runs: eight answers and one number more, five blocks, a memory of seven numbers
 abbrev pub sampleRun : List ℕ → AfterRun
-sampleRun events = runOf sample 0 1 space events (replicate 9 5) (replicate 5 6) (replicate 7 8)
+sampleRun events = runOf Eager sample 0 1 space events (replicate 9 5) (replicate 5 6) (replicate 7 8)
 
 -- the verdict on a text of these lines
 abbrev pub verdictOn : List String → AfterCheck

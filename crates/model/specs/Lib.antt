@@ -17,3 +17,4 @@ pub mod Services
 pub mod Opened
 pub mod Examples
 pub mod Cases
+pub mod LazyCases

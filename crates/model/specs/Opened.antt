@@ -16,7 +16,7 @@ unfoldable pub opened : Unit {0}
 unfolding Basic.firstOf Basic.any Basic.select Basic.joined Basic.sumOf Basic.largest Basic.smallest Basic.countFrom Basic.aboveAll Basic.lowestFrom
     Basic.inserted Basic.sortedOnto
     Text.starts Text.digits Text.value Text.numberThen Text.oneNumber Text.numbersThen Text.twoNumbers Text.pointForm Text.lineOf Text.linesFrom
-    Task.funcLine Task.readLine Task.readEnd Task.readFrom Walk.leads Walk.meets Walk.sources Walk.arrival Core.spilled Core.filled Core.reserve
+    Task.funcLine Task.readLine Task.readEnd Task.readFrom Walk.leads Walk.meets Walk.sources Walk.arrival Core.written Core.spilled Core.filled Core.reserve
     Core.free Core.ensure Core.load Core.store Core.save Core.resume Figures.reached Figures.uninitialised Figures.live Figures.dead
     Figures.need Figures.callees Figures.minimax Figures.shortestBy Figures.longestTo Figures.shortestTo Figures.longest Figures.shortest Figures.fill
     Figures.afterWith Figures.highFromWith Figures.callPoints Figures.overCalls Figures.entryTo Figures.entryWith Figures.highWith Figures.spillWith

@@ -11,7 +11,7 @@ use Rattle.model.specs.declared.Ending.{Ending}
 use Rattle.model.specs.declared.Ending.the-variants.{AllDone, Refused}
 use Rattle.model.specs.Basic.{if_then_else_}
 use Rattle.model.specs.Task.{Task, func, point}
-use Rattle.model.specs.Core.{Core, saveMoves, resumeMoves, reserve, free, ensure, load, store, preempt, filledWith}
+use Rattle.model.specs.Core.{Core, Clean, effective, saveMoves, resumeMoves, reserve, free, ensure, load, store, preempt, filledWith}
 use Rattle.model.specs.Sheet.{Sheet}
 use Rattle.model.specs.Refusal.{eventRows}
 use Rattle.model.specs.Plain.{Event, Act, takes, preempted, act, Frame, running, afterEvent, firstFrames, plain}
@@ -70,7 +70,7 @@ preemptTurn s f p fs c cache =
     fs
     (preempt (s .at f p .dead) (s .at f p .need) cache c)
     0
-    (saveMoves (s .at f p .dead) (c .occupancy))
+    (saveMoves (s .at f p .dead) (c .occupancy) (effective c))
     (resumeMoves (s .at f p .dead) (s .at f p .need) (c .occupancy))
 
 -- an event that is not refused
@@ -152,10 +152,11 @@ allowedFrom t s i fs (e ∷ es) =
 abbrev pub allowed : Task → Sheet → List Event → ℕ
 allowed t s es = allowedFrom t s 0 (firstFrames t) es
 
--- demand 3, of one run from a fresh start on core c: it ends, counts its events and answers as the plain stack does, and it moves at
--- most what the sheet allows
+-- demand 3, of one run from a fresh start on core c: it ends, counts its events and answers as the plain stack does, it moves at
+-- most what the sheet allows, and it leaves the blocks from LP up to MT equal to memory
 pub record Faithful (t : Task) (s : Sheet) (c : Core) (es : List Event) : Type 0 where
   pub ending : ran t s c es .ending ≡ plain t es .ending
   pub done : ran t s c es .done ≡ plain t es .done
   pub answers : ran t s c es .answers ≡ plain t es .answers
   pub bounded : ran t s c es .moved ≤ allowed t s es
+  pub clean : Clean (ran t s c es .core)

@@ -1,4 +1,4 @@
--- What each service returns and what every lent buffer holds afterwards, for every input; and demand 3 of run.
+-- What each service returns and what every lent buffer holds afterwards, for every input; and demand 3 of run, on either core.
 use Prim.Native.Nat.{ℕ, _≤_}
 use mathlib.Core.List.{List, [], _∷_, _++_}
 use mathlib.Core.Option.{Option}
@@ -6,6 +6,8 @@ use mathlib.Core.Path.{_≡_}
 use lib.ListN.{length, drop, replicate}
 use lib.Dec.{ltb}
 use Rattle.model.specs.declared.Refusal.{Refusal}
+use Rattle.model.specs.declared.Eviction.{Eviction}
+use Rattle.model.specs.declared.Eviction.the-variants.{Eager}
 use Rattle.model.specs.declared.Verdict.{Verdict}
 use Rattle.model.specs.declared.Verdict.the-variants.{Accepted}
 use Rattle.model.specs.declared.Verdict.the-variants as verdict
@@ -19,7 +21,7 @@ use Rattle.model.specs.Task.{Task, Judged, refused, task}
 use Rattle.model.specs.Sheet.{movePrice, inBlocks, pricedSheet, reportText}
 use Rattle.model.specs.Dearest.{dearestText}
 use Rattle.model.specs.Refusal.{judged, workRow, pricedRows, judge, noRows, outputRows, runRows}
-use Rattle.model.specs.Core.{idle}
+use Rattle.model.specs.Core.{Core, Clean, idle, holding}
 use Rattle.model.specs.Plain.{Event, eventsOf, Plain, plain}
 use Rattle.model.specs.Run.{Ran, ran, allowed}
 
@@ -117,7 +119,7 @@ abbrev pub dearestNumbers : List ℕ → ℕ → ℕ → List ℕ → List ℕ �
 dearestNumbers text start each work output result =
     writeNumbers (dearestOf text start each work output) work output result
 
--- run: its result, the working space, the answers, the cache and the memory
+-- run, on either core: its result, the working space, the answers, the cache and the memory
 pub record AfterRun : Type 0 where
   pub result : RunResult
   pub work : List ℕ
@@ -138,8 +140,8 @@ servedAs r a work answers =
       memory = r .core .memory;
     }
 
-abbrev pub runAs : (ℕ → ℕ) → Judged → List ℕ → List Event → List ℕ → List ℕ → List ℕ → AfterRun
-runAs price (refused r) work es answers cache memory =
+abbrev pub runAs : Eviction → (ℕ → ℕ) → Judged → List ℕ → List Event → List ℕ → List ℕ → List ℕ → AfterRun
+runAs x price (refused r) work es answers cache memory =
     record {
       result = record { ending = ending.Refused r; done = 0; moved = 0; allowed = 0 };
       work = work;
@@ -147,17 +149,18 @@ runAs price (refused r) work es answers cache memory =
       cache = cache;
       memory = memory;
     }
-runAs price (task t) work es answers cache memory =
-    servedAs (ran t (pricedSheet price t) (idle cache memory) es) (allowed t (pricedSheet price t) es) work answers
+runAs x price (task t) work es answers cache memory =
+    servedAs (ran t (pricedSheet price t) (idle x cache memory) es) (allowed t (pricedSheet price t) es) work answers
 
 -- what is judged before the first event: the rows before those of the text, the text, and the lengths of the buffers
 unfoldable pub runJudged : Option Refusal → List ℕ → List ℕ → List ℕ → List ℕ → List ℕ → Judged
 runJudged first text events answers cache memory =
     judge first (runRows (length events) (length answers) (length cache) (length memory)) text
 
-unfoldable pub runWith : (ℕ → ℕ) → Option Refusal → List ℕ → List ℕ → List ℕ → List ℕ → List ℕ → List ℕ → AfterRun
-runWith price first text work events answers cache memory =
+unfoldable pub runWith : Eviction → (ℕ → ℕ) → Option Refusal → List ℕ → List ℕ → List ℕ → List ℕ → List ℕ → List ℕ → AfterRun
+runWith x price first text work events answers cache memory =
     runAs
+    x
     price
     (runJudged first text events answers cache memory)
     (cleared work)
@@ -166,15 +169,15 @@ runWith price first text work events answers cache memory =
     cache
     memory
 
--- run, a move having this start and this price of each block
-abbrev pub runOf : List ℕ → ℕ → ℕ → List ℕ → List ℕ → List ℕ → List ℕ → List ℕ → AfterRun
-runOf text start each work events answers cache memory =
-    runWith (movePrice start each) (pricedRows (length work) start each) text work events answers cache memory
+-- run on the core that evicts so, a move having this start and this price of each block: the service run is runOf Eager, run_lazy is runOf Lazy
+abbrev pub runOf : Eviction → List ℕ → ℕ → ℕ → List ℕ → List ℕ → List ℕ → List ℕ → List ℕ → AfterRun
+runOf x text start each work events answers cache memory =
+    runWith x (movePrice start each) (pricedRows (length work) start each) text work events answers cache memory
 
 -- the run of document 01: in blocks, and without row 23
 abbrev pub blocksRunOf : List ℕ → List ℕ → List ℕ → List ℕ → List ℕ → List ℕ → AfterRun
 blocksRunOf text work events answers cache memory =
-    runWith inBlocks (workRow (length work)) text work events answers cache memory
+    runWith Eager inBlocks (workRow (length work)) text work events answers cache memory
 
 -- run, as C calls it: its answer, and a buffer whose first five numbers are code, place, events done, moved and allowed
 pub record AfterRunCall : Type 0 where
@@ -200,11 +203,11 @@ runCalledAs after result =
     }
 
 -- where the buffer of the result has fewer than five numbers, the answer is 0 and nothing is touched
-unfoldable pub runNumbers : List ℕ → ℕ → ℕ → List ℕ → List ℕ → List ℕ → List ℕ → List ℕ → List ℕ → AfterRunCall
-runNumbers text start each work events answers cache memory result =
+unfoldable pub runNumbers : Eviction → List ℕ → ℕ → ℕ → List ℕ → List ℕ → List ℕ → List ℕ → List ℕ → List ℕ → AfterRunCall
+runNumbers x text start each work events answers cache memory result =
     if ltb (length result) 5
     then record { answer = 0; result = result; work = work; answers = answers; cache = cache; memory = memory }
-    else runCalledAs (runOf text start each work events answers cache memory) result
+    else runCalledAs (runOf x text start each work events answers cache memory) result
 
 -- the plain stack behind the same judgement
 abbrev pub plainAs : Judged → List Event → Plain
@@ -218,3 +221,18 @@ pub record Demand3 (first : Option Refusal) (text events answers cache memory : 
   pub done : after .result .done ≡ plainAs (runJudged first text events answers cache memory) (eventsOf events) .done
   pub answered : after .answers ≡ over (plainAs (runJudged first text events answers cache memory) (eventsOf events) .answers) answers
   pub bounded : after .result .moved ≤ after .result .allowed
+
+-- the core that a run leaves: after the last event done, or as it was before the first
+abbrev pub coreAs : Eviction → (ℕ → ℕ) → Judged → List Event → List ℕ → List ℕ → Core
+coreAs x price (refused r) es cache memory = idle x cache memory
+coreAs x price (task t) es cache memory = ran t (pricedSheet price t) (idle x cache memory) es .core
+
+-- of what a run on these buffers has left: with ST, MT and LP where it leaves them, LP is at most MT, and each block of the cache from LP up to MT
+-- equals its number in the memory
+abbrev pub LeavesClean : Eviction → (ℕ → ℕ) → Option Refusal → (text events answers cache memory : List ℕ) → AfterRun → Type 0
+LeavesClean x price first text events answers cache memory after =
+    Clean
+    (holding
+    (after .cache)
+    (after .memory)
+    (coreAs x price (runJudged first text events answers cache memory) (eventsOf events) cache memory))

@@ -87,6 +87,12 @@ pub enum Verdict {
     Refused(Refusal),
 }
 
+// How a core evicts: blocks are written back whenever they leave the cache, or only those below a lazy pointer.
+pub enum Eviction {
+    Eager,
+    Lazy,
+}
+
 // How a run ends.
 pub enum Ending {
     AllDone,

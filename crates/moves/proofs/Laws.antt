@@ -7,7 +7,7 @@ use lib.ListN.{length}
 use Rattle.model.specs.declared.Point.the-variants.{Call, Ensure}
 use Rattle.model.specs.Limits.{mostStack, mostFuncs, mostPoints, mostInAll}
 use Rattle.model.specs.Task.{Task, func}
-use Rattle.model.specs.Core.{Core, reserve, ensure, preempt, filledWith, saveMoves, resumeMoves}
+use Rattle.model.specs.Core.{Core, effective, reserve, ensure, preempt, filledWith, saveMoves, resumeMoves}
 use Rattle.model.specs.Sheet.{costed}
 use Rattle.model.specs.Run.{onwards}
 use Rattle.tables.specs.declared.Header.{Header}
@@ -94,7 +94,7 @@ module _ (price : Price) (t : Task) (x : State) (w cache memory cache′ : List 
       (record { state = record { depth = x .depth; f = x .f; p = x .p; machine = e .machine }; answer = 0; moved = moved; bound = bound }) cache′ memory′
   preempt-does e memory′ i j b m d =
       let c = coreOf (x .machine) cache memory in
-      let o = d .out ∙ ap (λ (z : ℕ). saveMoves z (c .occupancy)) i in
+      let o = d .out ∙ ap (λ (z : ℕ). saveMoves z (c .occupancy) (effective c)) i in
       let k = d .back ∙ (λ l. resumeMoves (i l) (j l) (c .occupancy)) in
       moved-does price x _ _ _ _ _ w cache′ memory′ _ h refl refl refl (d .core ∙ (λ l. preempt (i l) (j l) (filledWith v c) c)) refl
       (m ∙ (λ l. priceOf price (o l) + priceOf price (k l))) b
@@ -149,7 +149,7 @@ module _ {price : Price} {w : List ℕ} {h : Header} {x : State} {cache memory :
       omega (
         arith,
         j,
-        reserve-blocks (coreOf (x .machine) cache memory) (s .frame) (k .good .fits),
+        reserve-blocks (coreOf (x .machine) cache memory) (s .frame) (k .good .within) (k .good .fits),
         callee-frame i,
         t .frames g (omega (arith, k .callee, count-is w h)),
         t .stack-high,

@@ -5,6 +5,7 @@ use mathlib.Core.Option.{Option, none, some}
 use mathlib.Core.Path.{_≡_, refl, ap, sym, subst, _∙_}
 use native.Mathlib.Omega.{arith}
 use lib.ListN.{length, drop, getD, set}
+use Rattle.model.specs.declared.Eviction.{Eviction}
 use Rattle.model.specs.declared.Refusal.{Refusal}
 use Rattle.model.specs.declared.Verdict.{Verdict}
 use Rattle.model.specs.declared.Verdict.the-variants as verdict
@@ -13,9 +14,10 @@ use Rattle.model.specs.declared.Ending.the-variants.{AllDone, Refused}
 use Rattle.model.specs.declared.RunResult.{RunResult}
 use Rattle.model.specs.Rows.{rowVerdict}
 use Rattle.model.specs.Task.{Task}
-use Rattle.model.specs.Core.{Core}
+use Rattle.model.specs.Core.{Core, reserve}
 use Rattle.model.specs.Refusal.{eventRows}
 use Rattle.model.specs.Plain.{eventsOf, running, afterEvent}
+use Rattle.model.specs.Run as run
 use Rattle.model.specs.Run.{runningPlace, turn, eventBound}
 use Rattle.theory.proofs.Search.{verdict-none, verdict-some}
 use Rattle.theory.proofs.Frames.{running-same}
@@ -26,6 +28,7 @@ use Rattle.tables.proofs.Valid.{kept-on}
 use Rattle.prices.specs.declared.Price.{Price}
 use Rattle.prices.specs.Prices.{priceOf, mostPrice}
 use Rattle.figures.specs.Figured.{sheetAt}
+use Rattle.machine.specs.Moves.{evictionOf}
 use Rattle.steps.specs.declared.State.{State}
 use Rattle.steps.specs.declared.Turned.{Turned}
 use Rattle.steps.specs.Frames.{framesEnd, framesOf, stateOf, turnOf}
@@ -39,23 +42,27 @@ abbrev pub mostBound : ℕ
 mostBound = 4294967295
 
 -- w₀, buffer, cache₀ and memory₀ as they were lent; after i events the state is x, m was moved and a is allowed. m and a fit 64 bits
-pub record Loops (price : Price) (h : Header) (events buffer cache₀ memory₀ w₀ : List ℕ) (i : ℕ) (x : State) (m a : ℕ)
+pub record Loops (y : Eviction) (price : Price) (h : Header) (events buffer cache₀ memory₀ w₀ : List ℕ) (i : ℕ) (x : State) (m a : ℕ)
     (answers cache memory w : List ℕ) : Type 0 where
   pub runs : Runs price w h x cache memory
   pub task : taskOf w h ≡ taskOf w₀ h
   pub kept : Kept framesEnd w₀ w
-  pub going : Going (taskOf w₀ h) (sheetAt price (taskOf w₀ h)) (ranOn price (taskOf w₀ h) events cache₀ memory₀) (allowedOn price
+  pub going : Going (taskOf w₀ h) (sheetAt price (taskOf w₀ h)) (ranOn y price (taskOf w₀ h) events cache₀ memory₀) (allowedOn price
       (taskOf w₀ h) events) buffer i
       (stateOf w x cache memory) (runs .frames) (eventsOf (drop (2 * i) events)) m a answers
   pub small : m ≤ 2 * mostPrice * i
   pub little : a ≤ mostBound * i
 
-module _ {price : Price} {h : Header} {events buffer cache₀ memory₀ w₀ : List ℕ} where
-  -- function 0 has been entered
-  pub loops-start : {x : State} → Fitting price w₀ h events buffer cache₀ memory₀ → Started w₀ h (length memory₀) x
-      → Loops price h events buffer cache₀ memory₀ w₀ 0 x 0 0 buffer cache₀ memory₀ w₀
-  loops-start {x} f s =
-      let j = begins cache₀ memory₀ (f .bounded) s (f .blocks) (f .room) in
+-- function 0 has been entered on the core that evicts as y
+module _ {price : Price} {h : Header} {events buffer cache₀ memory₀ w₀ : List ℕ} (y : Eviction) (x : State)
+    (f : Fitting price w₀ h events buffer cache₀ memory₀) (s : Started y w₀ h (length memory₀) x) where
+  started-as : evictionOf (x .machine .lazy) ≡ y
+  unfolding reserve
+  started-as = ap (λ (z : run.State). z .core .eviction) (s cache₀ memory₀ (f .blocks) refl)
+
+  loops-first : Loops y price h events buffer cache₀ memory₀ w₀ 0 x 0 0 buffer cache₀ memory₀ w₀
+  loops-first =
+      let j = begins y cache₀ memory₀ (f .bounded) s (f .blocks) (f .room) in
       record {
         runs = j .runs;
         task = refl;
@@ -65,8 +72,20 @@ module _ {price : Price} {h : Header} {events buffer cache₀ memory₀ w₀ : L
         little = omega arith;
       }
 
+  -- the loop knows y by the number that its first machine has
+  pub loops-start : Loops (evictionOf (x .machine .lazy)) price h events buffer cache₀ memory₀ w₀ 0 x 0 0 buffer cache₀ memory₀ w₀
+  loops-start =
+      subst (λ (z : Eviction). Loops z price h events buffer cache₀ memory₀ w₀ 0 x 0 0 buffer cache₀ memory₀ w₀) (sym started-as) loops-first
+
+  pub serves-as : {q : RunResult} {answers cache memory w : List ℕ}
+      → Serves (evictionOf (x .machine .lazy)) price (taskOf w₀ h) events buffer cache₀ memory₀ w₀ q answers cache memory w
+      → Serves y price (taskOf w₀ h) events buffer cache₀ memory₀ w₀ q answers cache memory w
+  serves-as {q = q} {answers = answers} {cache = cache} {memory = memory} {w = w} d =
+      subst (λ (z : Eviction). Serves z price (taskOf w₀ h) events buffer cache₀ memory₀ w₀ q answers cache memory w) started-as d
+
+module _ {y : Eviction} {price : Price} {h : Header} {events buffer cache₀ memory₀ w₀ : List ℕ} where
   module _ {i : ℕ} {x : State} {m a : ℕ} {answers cache memory w : List ℕ}
-      (l : Loops price h events buffer cache₀ memory₀ w₀ i x m a answers cache memory w) where
+      (l : Loops y price h events buffer cache₀ memory₀ w₀ i x m a answers cache memory w) where
     -- the point that runs is that of the plain stack
     place-same : runningPlace (taskOf w₀ h) (framesOf w x) ≡ running (taskOf w₀ h) (l .runs .frames)
     place-same = ap (runningPlace (taskOf w₀ h)) (l .runs .same) ∙ running-same (taskOf w₀ h) (l .runs .frames)
@@ -77,8 +96,8 @@ module _ {price : Price} {h : Header} {events buffer cache₀ memory₀ w₀ : L
     row-lent kind value o e = subst (λ (t : Task). eventRows i kind value (runningPlace t (framesOf w x)) ≡ o) (l .task) e
 
     served : {q : RunResult} {z : Ending} → q ≡ endedWith z i m a
-        → Ended (ranOn price (taskOf w₀ h) events cache₀ memory₀) (allowedOn price (taskOf w₀ h) events) buffer z i m a answers (stateOf w x cache memory .core)
-        → Serves price (taskOf w₀ h) events buffer cache₀ memory₀ w₀ q answers cache memory w
+        → Ended (ranOn y price (taskOf w₀ h) events cache₀ memory₀) (allowedOn price (taskOf w₀ h) events) buffer z i m a answers (stateOf w x cache memory .core)
+        → Serves y price (taskOf w₀ h) events buffer cache₀ memory₀ w₀ q answers cache memory w
     served e d = record {
       returned = e ∙ d .result;
       answered = d .written;
@@ -89,7 +108,7 @@ module _ {price : Price} {h : Header} {events buffer cache₀ memory₀ w₀ : L
 
     -- no event is left
     pub loops-end : {q : RunResult} → length events % 2 ≡ 0 → length events / 2 ≤ length buffer → i ≡ length events / 2 → q ≡ endedWith AllDone i m a
-        → Serves price (taskOf w₀ h) events buffer cache₀ memory₀ w₀ q answers cache memory w
+        → Serves y price (taskOf w₀ h) events buffer cache₀ memory₀ w₀ q answers cache memory w
     loops-end p b e k =
         served k
         (going-end (taskOf w₀ h) (sheetAt price (taskOf w₀ h)) _ _ _ _ _ _ _ _ _ (omega arith) (rw (no-event events i p (omega arith)) at (l .going)))
@@ -99,7 +118,7 @@ module _ {price : Price} {h : Header} {events buffer cache₀ memory₀ w₀ : L
         → v ≡ verdict.Refused r
         → v ≡ rowVerdict (eventRows i (getD events (2 * i) 0) (getD events (2 * i + 1) 0) (runningPlace (taskOf w h) (framesOf w x)))
         → q ≡ endedWith (Refused r) i m a
-        → Serves price (taskOf w₀ h) events buffer cache₀ memory₀ w₀ q answers cache memory w
+        → Serves y price (taskOf w₀ h) events buffer cache₀ memory₀ w₀ q answers cache memory w
     loops-off r b k n e j =
         served j
         (going-off (taskOf w₀ h) (sheetAt price (taskOf w₀ h)) _ _ _ _ _ _ _ _ _ _ _ place-same (omega arith) r
@@ -117,7 +136,7 @@ module _ {price : Price} {h : Header} {events buffer cache₀ memory₀ w₀ : L
         → v ≡ verdict.Accepted
         → v ≡ rowVerdict (eventRows i (getD events (2 * i) 0) (getD events (2 * i + 1) 0) (runningPlace (taskOf w h) (framesOf w x)))
         → Turns price w h x cache memory (actOf (getD events (2 * i) 0) (getD events (2 * i + 1) 0)) r w′ cache′ memory′
-        → Loops price h events buffer cache₀ memory₀ w₀ (i + 1) (r .state) (m + r .moved) (a + r .bound) (set answers i (r .answer)) cache′ memory′ w′
+        → Loops y price h events buffer cache₀ memory₀ w₀ (i + 1) (r .state) (m + r .moved) (a + r .bound) (set answers i (r .answer)) cache′ memory′ w′
     loops-on {r = r} {w′ = w′} {cache′ = cache′} {memory′ = memory′} b k f o e u =
         let t = taskOf w₀ h in
         let d = actOf (getD events (2 * i) 0) (getD events (2 * i + 1) 0) in
@@ -128,7 +147,7 @@ module _ {price : Price} {h : Header} {events buffer cache₀ memory₀ w₀ : L
         let p = subst (λ (z : Task).
         turnOf w′ r (turn z (sheetAt price z) (stateOf w x cache memory) d .out) (turn z (sheetAt price z) (stateOf w x cache memory) d .back) cache′ memory′
         ≡ turn z (sheetAt price z) (stateOf w x cache memory) d) (l .task) (u .turn) in
-        let y = subst (λ (z : Task). r .moved
+        let c = subst (λ (z : Task). r .moved
         ≡ priceOf price (turn z (sheetAt price z) (stateOf w x cache memory) d .out)
         + priceOf price (turn z (sheetAt price z) (stateOf w x cache memory) d .back)) (l .task) (u .moved) in
         let q = subst (λ (z : Task). r .bound ≡ eventBound z (sheetAt price z) (l .runs .frames) d) (l .task) (j .bound) in
@@ -139,7 +158,7 @@ module _ {price : Price} {h : Header} {events buffer cache₀ memory₀ w₀ : L
           kept = kept-on (l .kept) (u .stays .kept);
           going = rw fs
               (going-on t (sheetAt price t) _ _ _ _ _ _ _ _ _ _ _ place-same n (omega arith) g (turnOf w′ r (v .out) (v .back) cache′ memory′) (r .moved)
-              (r .bound) p y q);
+              (r .bound) p c q);
           small = omega (arith, l .small, j .moved-few);
           little = omega (arith, l .little);
         }

@@ -3,6 +3,7 @@ use Prim.Native.Nat.{ℕ, _/_, _%_, _≤_}
 use mathlib.Core.List.{List}
 use mathlib.Core.Path.{_≡_}
 use lib.ListN.{length}
+use Rattle.model.specs.declared.Eviction.{Eviction}
 use Rattle.model.specs.declared.Ending.{Ending}
 use Rattle.model.specs.declared.RunResult.{RunResult}
 use Rattle.model.specs.Limits.{mostEventNumbers}
@@ -29,9 +30,9 @@ pub record Fitting (price : Price) (w : List ℕ) (h : Header) (events answers c
   pub blocks : length cache ≡ h .stack
   pub room : longest (taskOf w h) 0 ≤ length memory
 
--- the run of a task with its own sheet at this price, from a fresh start on these buffers; and what the sheet allows it
-abbrev pub ranOn : Price → Task → List ℕ → List ℕ → List ℕ → Ran
-ranOn price t events cache memory = ran t (sheetAt price t) (idle cache memory) (eventsOf events)
+-- the run of a task with its own sheet at this price, from a fresh start on these buffers and the core that evicts so; and what the sheet allows it
+abbrev pub ranOn : Eviction → Price → Task → List ℕ → List ℕ → List ℕ → Ran
+ranOn x price t events cache memory = ran t (sheetAt price t) (idle x cache memory) (eventsOf events)
 
 abbrev pub allowedOn : Price → Task → List ℕ → ℕ
 allowedOn price t events = allowed t (sheetAt price t) (eventsOf events)
@@ -41,9 +42,9 @@ abbrev pub endedWith : Ending → ℕ → ℕ → ℕ → RunResult
 endedWith ending done moved allowed = record { ending = ending; done = done; moved = moved; allowed = allowed }
 
 -- r, answers′, cache′ and memory′ are what the run of task t returns and leaves, and w′ is w but for what a run uses
-pub record Serves (price : Price) (t : Task) (events answers cache memory w : List ℕ) (r : RunResult) (answers′ cache′ memory′ w′ : List ℕ) : Type 0 where
-  pub returned : r ≡ resultOf (ranOn price t events cache memory) (allowedOn price t events)
-  pub answered : answers′ ≡ over (ranOn price t events cache memory .answers) answers
-  pub cached : cache′ ≡ ranOn price t events cache memory .core .cache
-  pub stored : memory′ ≡ ranOn price t events cache memory .core .memory
+pub record Serves (x : Eviction) (price : Price) (t : Task) (events answers cache memory w : List ℕ) (r : RunResult) (answers′ cache′ memory′ w′ : List ℕ) : Type 0 where
+  pub returned : r ≡ resultOf (ranOn x price t events cache memory) (allowedOn price t events)
+  pub answered : answers′ ≡ over (ranOn x price t events cache memory .answers) answers
+  pub cached : cache′ ≡ ranOn x price t events cache memory .core .cache
+  pub stored : memory′ ≡ ranOn x price t events cache memory .core .memory
   pub kept : Kept framesEnd w w′

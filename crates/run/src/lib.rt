@@ -4,6 +4,7 @@ ghost use mathlib.Core.Path.{_≡_};
 ghost use Rattle.tables.specs.Tables.{taskOf};
 ghost use Rattle.run.specs.Events.{Fitting, endedWith, Serves};
 use model::Ending;
+use model::Eviction;
 use model::RunResult;
 use model::Verdict;
 use prices::Price;
@@ -20,7 +21,7 @@ fn ended(ending: Ending, done: u32, moved: u64, allowed: u64) -> RunResult
     }
 }
 
-// The events, two numbers each, from a fresh start of the task in the working space. An answer is written for each event done.
+// The events, two numbers each, from a fresh start of the task in the working space on the core that evicts so. An answer is written for each event done.
 pub fn run_events(
     events: &[u32],
     answers: &mut [u32],
@@ -29,12 +30,13 @@ pub fn run_events(
     work: &mut [u32],
     h: Header,
     price: Price,
+    eviction: Eviction,
 ) -> RunResult
     requires { ⌜ Fitting price (now work) h (now events) (now answers) (now cache) (now memory) ⌝ }
-    ensures { λ r. ⌜ Serves price (taskOf (now (work .entry)) h) (now (events .entry)) (now (answers .entry)) (now (cache .entry)) (now (memory .entry))
+    ensures { λ r. ⌜ Serves eviction price (taskOf (now (work .entry)) h) (now (events .entry)) (now (answers .entry)) (now (cache .entry)) (now (memory .entry))
         (now (work .entry)) r (now (answers .exit)) (now (cache .exit)) (now (memory .exit)) (now (work .exit)) ⌝ }
 {
-    let mut x = turns::start(work, h, memory.len());
+    let mut x = turns::start(work, h, eviction, memory.len());
     let count = events.len() / 2;
     let mut moved: u64 = 0;
     let mut allowed: u64 = 0;

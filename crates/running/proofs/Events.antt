@@ -8,6 +8,7 @@ use native.Mathlib.Omega.{arith}
 use lib.Dec.{eqb, leb, eqb→eq, leb→le}
 use lib.ListN.{length}
 use borrow.Author.Tests.{eq-eqb, ne-eqb, lt-leb, le-leb}
+use Rattle.model.specs.declared.Eviction.{Eviction}
 use Rattle.model.specs.declared.Row.the-variants.{EventList, AnswersTooSmall, CacheSize, MemoryTooSmall}
 use Rattle.model.specs.declared.Refusal.{Refusal}
 use Rattle.model.specs.declared.Verdict.{Verdict}
@@ -18,13 +19,14 @@ use Rattle.model.specs.Basic.{unless, _orElse_}
 use Rattle.model.specs.Rows.{refuse, rowVerdict}
 use Rattle.model.specs.Task.{Task, Judged, refused, task}
 use Rattle.model.specs.Figures.{longest}
+use Rattle.model.specs.Sheet.{movePrice}
 use Rattle.model.specs.Refusal.{withRows, pricedRows, runRows}
 use Rattle.model.specs.Plain.{eventsOf}
-use Rattle.model.specs.Services.{cleared, AfterRun, runAs, runJudged, runWith, runOf, Demand3}
+use Rattle.model.specs.Services.{cleared, AfterRun, runAs, runJudged, runWith, runOf, Demand3, LeavesClean}
 use Rattle.theory.proofs.Lists.{and-holds}
 use Rattle.theory.proofs.Firsts.{row-none, unless-none}
 use Rattle.theory.proofs.Search.{verdict-none, verdict-some}
-use Rattle.theory.proofs.Faithful.{demand-3}
+use Rattle.theory.proofs.Faithful.{demand-3, leaves-clean}
 use Rattle.tables.specs.declared.Header.{Header}
 use Rattle.tables.specs.Tables.{taskOf}
 use Rattle.tables.proofs.Laws.{count-is}
@@ -95,15 +97,15 @@ rows-split e a c m t =
     or-later (unless (eqb (e % 2) 0 && leb e mostEventNumbers) (refuse EventList 0)) (unless (leb (e / 2) a) (refuse AnswersTooSmall (e / 2))) _ _
 
 -- the run of an accepted task, where v is the verdict of 16, 17 and 18
-module _ (price : Price) {t : Task} (events answers cache memory : List ℕ) {v : Verdict}
+module _ (x : Eviction) (price : Price) {t : Task} (events answers cache memory : List ℕ) {v : Verdict}
     (e : v ≡ rowVerdict (bufferRows (length events) (length answers) (length cache) (t .stack))) where
   pub unfit : {q : Refusal} {r : RunResult} (w : List ℕ) → v ≡ Refused q → r ≡ noneDone q
-      → Performs price (task t) w events answers cache memory r w answers cache memory
+      → Performs x price (task t) w events answers cache memory r w answers cache memory
   unfit w n i =
       let m : bufferRows (length events) (length answers) (length cache) (t .stack) ≡ some _ = verdict-some _ (sym e ∙ n) in
       record {
         left = λ work. rw (rows-split (length events) (length answers) (length cache) (length memory) t, m)
-            (ap (λ (x : RunResult). afterRun x work answers cache memory) i);
+            (ap (λ (z : RunResult). afterRun z work answers cache memory) i);
         after = refl;
       }
 
@@ -121,19 +123,19 @@ module _ (price : Price) {t : Task} (events answers cache memory : List ℕ) {v 
 
     module _ {w w′ : List ℕ} {r : RunResult} (after : cleared w′ ≡ cleared w) where
       pub too-little : length memory < k .longest → r ≡ noneDone (refuse MemoryTooSmall (k .longest))
-          → Performs price (task t) w events answers cache memory r w′ answers cache memory
+          → Performs x price (task t) w events answers cache memory r w′ answers cache memory
       too-little h i =
           let l : length memory < longest t 0 = omega (arith, room-is) in
           record {
             left = λ work. rw (rows-are, lt-leb (longest t 0) (length memory) l)
-                (ap (λ (x : RunResult). afterRun x work answers cache memory) (i ∙ ap (λ (x : ℕ). noneDone (refuse MemoryTooSmall x)) room-is));
+                (ap (λ (z : RunResult). afterRun z work answers cache memory) (i ∙ ap (λ (z : ℕ). noneDone (refuse MemoryTooSmall z)) room-is));
             after = after;
           }
 
       -- t″: the task as its events are run
       pub all-run : {t″ : Task} {w″ answers′ cache′ memory′ : List ℕ} → t″ ≡ t′ → k .longest ≤ length memory
-          → Serves price t″ events answers cache memory w′ r answers′ cache′ memory′ w″
-          → cleared w″ ≡ cleared w′ → Performs price (task t) w events answers cache memory r w″ answers′ cache′ memory′
+          → Serves x price t″ events answers cache memory w′ r answers′ cache′ memory′ w″
+          → cleared w″ ≡ cleared w′ → Performs x price (task t) w events answers cache memory r w″ answers′ cache′ memory′
       all-run i h s d =
           let l : longest t 0 ≤ length memory = omega (arith, room-is) in
           let z = rw (i ∙ same) at s in
@@ -167,27 +169,35 @@ module _ {price : Price} (w : List ℕ) {w′ : List ℕ} {h : Header} (b : Boun
 
 -- ---- what was judged
 
-pub none-run : (price : Price) (q : Refusal) (w events answers cache memory : List ℕ)
-    → Performs price (refused q) w events answers cache memory (noneDone q) w answers cache memory
-none-run price q w events answers cache memory = record { left = λ work. refl; after = refl }
+pub none-run : (x : Eviction) (price : Price) (q : Refusal) (w events answers cache memory : List ℕ)
+    → Performs x price (refused q) w events answers cache memory (noneDone q) w answers cache memory
+none-run x price q w events answers cache memory = record { left = λ work. refl; after = refl }
 
 -- the service
-module _ {price : Price} {text w w′ w″ events answers cache memory answers′ cache′ memory′ : List ℕ} {j : Judgement} {r : RunResult}
+module _ {x : Eviction} {price : Price} {text w w′ w″ events answers cache memory answers′ cache′ memory′ : List ℕ} {j : Judgement} {r : RunResult}
     (a : Lent (pricedRows (length w) (price .start) (price .each)) text w j w′)
-    (b : Performs price (judgedIn w′ j) w′ events answers cache memory r w″ answers′ cache′ memory′) {l : List ℕ} (c : l ≡ cleared w″) where
-  run-is : runOf text (price .start) (price .each) w events answers cache memory
-      ≡ performed price (judgedIn w′ j) (cleared w) events answers cache memory
+    (b : Performs x price (judgedIn w′ j) w′ events answers cache memory r w″ answers′ cache′ memory′) {l : List ℕ} (c : l ≡ cleared w″) where
+  run-is : runOf x text (price .start) (price .each) w events answers cache memory
+      ≡ performed x price (judgedIn w′ j) (cleared w) events answers cache memory
   unfolding runWith runJudged
   run-is =
       ap
-      (λ (x : Judged). runAs (priceOf price) x (cleared w) (eventsOf events) answers cache memory)
+      (λ (z : Judged). runAs x (priceOf price) z (cleared w) (eventsOf events) answers cache memory)
       (own-rows (runRows (length events) (length answers) (length cache) (length memory)) _ text
       ∙ ap (withRows (runRows (length events) (length answers) (length cache) (length memory))) (a .same))
 
-  pub run-left : afterRun r l answers′ cache′ memory′ ≡ runOf text (price .start) (price .each) w events answers cache memory
-  run-left = ap (λ (x : List ℕ). afterRun r x answers′ cache′ memory′) (c ∙ b .after ∙ a .after) ∙ b .left (cleared w) ∙ sym run-is
+  pub run-left : afterRun r l answers′ cache′ memory′ ≡ runOf x text (price .start) (price .each) w events answers cache memory
+  run-left = ap (λ (z : List ℕ). afterRun r z answers′ cache′ memory′) (c ∙ b .after ∙ a .after) ∙ b .left (cleared w) ∙ sym run-is
 
   pub run-demand : Demand3 (pricedRows (length w) (price .start) (price .each)) text events answers cache memory (afterRun r l answers′ cache′ memory′)
   run-demand =
-      subst (λ (x : AfterRun). Demand3 (pricedRows (length w) (price .start) (price .each)) text events answers cache memory x) (sym run-left)
-      (demand-3 text (price .start) (price .each) w events answers cache memory)
+      subst (λ (z : AfterRun). Demand3 (pricedRows (length w) (price .start) (price .each)) text events answers cache memory z) (sym run-left)
+      (demand-3 x text (price .start) (price .each) w events answers cache memory)
+
+  pub run-clean : LeavesClean x (movePrice (price .start) (price .each)) (pricedRows (length w) (price .start) (price .each)) text events answers cache memory
+      (afterRun r l answers′ cache′ memory′)
+  run-clean =
+      subst
+      (λ (z : AfterRun).
+      LeavesClean x (movePrice (price .start) (price .each)) (pricedRows (length w) (price .start) (price .each)) text events answers cache memory z)
+      (sym run-left) (leaves-clean x text (price .start) (price .each) w events answers cache memory)

@@ -6,6 +6,7 @@ use mathlib.Core.List.{List}
 use mathlib.Core.Option.{Option}
 use lib.Dec.{eqb, leb}
 use lib.ListN.{length}
+use Rattle.model.specs.declared.Eviction.{Eviction}
 use Rattle.model.specs.declared.Refusal.{Refusal}
 use Rattle.model.specs.declared.Row.the-variants.{EventList, AnswersTooSmall, CacheSize}
 use Rattle.model.specs.declared.Ending.the-variants as ending
@@ -35,10 +36,11 @@ noneDone r = record { ending = ending.Refused r; done = 0; moved = 0; allowed = 
 abbrev pub afterRun : RunResult → (work answers cache memory : List ℕ) → AfterRun
 afterRun r work answers cache memory = record { result = r; work = work; answers = answers; cache = cache; memory = memory }
 
--- what run returns and leaves at this price of what was judged as j: one of 16 to 19 for an accepted task, or its run
-abbrev pub performed : Price → Judged → (work events answers cache memory : List ℕ) → AfterRun
-performed price j work events answers cache memory =
+-- what a run on the core that evicts so returns and leaves at this price of what was judged as j: one of 16 to 19 for an accepted task, or its run
+abbrev pub performed : Eviction → Price → Judged → (work events answers cache memory : List ℕ) → AfterRun
+performed x price j work events answers cache memory =
     runAs
+    x
     (priceOf price)
     (withRows (runRows (length events) (length answers) (length cache) (length memory)) j)
     work
@@ -47,6 +49,6 @@ performed price j work events answers cache memory =
     cache
     memory
 
-pub record Performs (price : Price) (j : Judged) (w events answers cache memory : List ℕ) (r : RunResult) (w′ answers′ cache′ memory′ : List ℕ) : Type 0 where
-  pub left : (work : List ℕ) → afterRun r work answers′ cache′ memory′ ≡ performed price j work events answers cache memory
+pub record Performs (x : Eviction) (price : Price) (j : Judged) (w events answers cache memory : List ℕ) (r : RunResult) (w′ answers′ cache′ memory′ : List ℕ) : Type 0 where
+  pub left : (work : List ℕ) → afterRun r work answers′ cache′ memory′ ≡ performed x price j work events answers cache memory
   pub after : cleared w′ ≡ cleared w

@@ -13,6 +13,7 @@ ghost use Rattle.serving.specs.Served.{ReadyAt};
 ghost use Rattle.running.specs.Performs.{bufferRows, noneDone, Performs};
 use judge::Judgement;
 use model::Ending;
+use model::Eviction;
 use model::Limits;
 use model::Refusal;
 use model::Row;
@@ -55,8 +56,9 @@ fn refused(r: Refusal) -> RunResult
     }
 }
 
-// 16 to 19, or the run of the task that the tables hold.
+// 16 to 19, or the run of the task that the tables hold, on the core that evicts so.
 fn run_task(
+    eviction: Eviction,
     price: Price,
     events: &[u32],
     answers: &mut [u32],
@@ -66,7 +68,7 @@ fn run_task(
     h: Header,
 ) -> RunResult
     requires { ⌜ Settled (now work) h × (workLength ≤ length (now work)) × Small price ⌝ }
-    ensures { λ r. ⌜ Performs price (task (taskOf (now (work .entry)) h)) (now (work .entry)) (now (events .entry)) (now (answers .entry)) (now (cache .entry))
+    ensures { λ r. ⌜ Performs eviction price (task (taskOf (now (work .entry)) h)) (now (work .entry)) (now (events .entry)) (now (answers .entry)) (now (cache .entry))
         (now (memory .entry)) r (now (work .exit)) (now (answers .exit)) (now (cache .exit)) (now (memory .exit)) ⌝ }
 {
     if let Verdict::Refused(r) = buffer_row(events.len(), answers.len(), cache.len(), h.stack) {
@@ -82,12 +84,13 @@ fn run_task(
         });
     }
     bounds::bound_task(work, h, price);
-    run::run_events(events, answers, cache, memory, work, h, price)
+    run::run_events(events, answers, cache, memory, work, h, price, eviction)
 }
 
-// What was judged is refused, or its events are run.
+// What was judged is refused, or its events are run on the core that evicts so.
 pub fn run_judged(
     judgement: Judgement,
+    eviction: Eviction,
     price: Price,
     events: &[u32],
     answers: &mut [u32],
@@ -96,11 +99,11 @@ pub fn run_judged(
     work: &mut [u32],
 ) -> RunResult
     requires { ⌜ ReadyAt price (now work) judgement ⌝ }
-    ensures { λ r. ⌜ Performs price (judgedIn (now (work .entry)) judgement) (now (work .entry)) (now (events .entry)) (now (answers .entry))
+    ensures { λ r. ⌜ Performs eviction price (judgedIn (now (work .entry)) judgement) (now (work .entry)) (now (events .entry)) (now (answers .entry))
         (now (cache .entry)) (now (memory .entry)) r (now (work .exit)) (now (answers .exit)) (now (cache .exit)) (now (memory .exit)) ⌝ }
 {
     match judgement {
         Judgement::Refused(r) => refused(r),
-        Judgement::Task(h) => run_task(price, events, answers, cache, memory, work, h),
+        Judgement::Task(h) => run_task(eviction, price, events, answers, cache, memory, work, h),
     }
 }

@@ -1,4 +1,4 @@
--- What check returns.
+-- What check returns; and what a run has left, part by part.
 use mathlib.Core.Path.{_≡_, _∙_}
 use mathlib.Core.List.{List}
 use Prim.Native.Nat.{ℕ}
@@ -6,7 +6,7 @@ use lib.ListN.{length}
 use Rattle.model.specs.declared.Refusal.{Refusal}
 use Rattle.model.specs.declared.Verdict.the-variants.{Accepted, Refused}
 use Rattle.model.specs.Refusal.{workRow}
-use Rattle.model.specs.Services.{cleared, verdictOf, checkOf}
+use Rattle.model.specs.Services.{cleared, verdictOf, checkOf, AfterRun}
 use Rattle.tables.specs.declared.Header.{Header}
 use Rattle.judge.specs.declared.Judgement.{Judgement}
 use Rattle.judge.specs.declared.Judgement.the-variants as judgement
@@ -25,3 +25,9 @@ module _ {text w w′ : List ℕ} {r : Judgement} (a : Lent (workRow (length w))
   pub checked : {l : List ℕ} → l ≡ cleared w′ → l ≡ checkOf text w .work
   unfolding checkOf
   checked e = e ∙ a .after
+
+-- each part of what a run has left, as the contract has them, and what more is so of it
+pub run-parts : {x y : AfterRun} {P : Type 0} → x ≡ y → P
+    → (x .result ≡ y .result)
+    × ((x .work ≡ y .work) × ((x .answers ≡ y .answers) × ((x .cache ≡ y .cache) × ((x .memory ≡ y .memory) × P))))
+run-parts e p = (λ i. e i .result, (λ i. e i .work, (λ i. e i .answers, (λ i. e i .cache, (λ i. e i .memory, p)))))

@@ -2,11 +2,14 @@
 // prices), the judgement of the text, its own rows, its own work, and the working space cleared.
 ghost use mathlib.Core.Path.{_≡_};
 ghost use lib.ListN.{length};
+ghost use Rattle.model.specs.declared.Eviction.the-variants.{Eager, Lazy};
+ghost use Rattle.model.specs.Sheet.{movePrice};
 ghost use Rattle.model.specs.Refusal.{pricedRows};
-ghost use Rattle.model.specs.Services.{checkOf, reportOf, dearestOf, runOf, Demand3};
+ghost use Rattle.model.specs.Services.{checkOf, reportOf, dearestOf, runOf, Demand3, LeavesClean};
 ghost use Rattle.running.specs.Performs.{afterRun};
 ghost use Rattle.writing.specs.Printing.{wroteOf};
 use judge::Judgement;
+use model::Eviction;
 use model::RunResult;
 use model::Verdict;
 use model::WriteResult;
@@ -86,6 +89,44 @@ pub fn dearest_points(
     write(Print::Dearest, text, start, each, output, work)
 }
 
+// A run on the core that evicts so, and the working space cleared.
+fn run_on(
+    eviction: Eviction,
+    text: &[u8],
+    start: u32,
+    each: u32,
+    events: &[u32],
+    answers: &mut [u32],
+    cache: &mut [u32],
+    memory: &mut [u32],
+    work: &mut [u32],
+) -> RunResult
+    ensures left { λ r. ⌜ afterRun r (now (work .exit)) (now (answers .exit)) (now (cache .exit)) (now (memory .exit))
+        ≡ runOf eviction (now (text .entry)) start each (now (work .entry)) (now (events .entry)) (now (answers .entry)) (now (cache .entry)) (now (memory .entry)) ⌝ }
+    ensures demand_3 { λ r. ⌜ Demand3 (pricedRows (length (now (work .entry))) start each) (now (text .entry)) (now (events .entry))
+        (now (answers .entry)) (now (cache .entry)) (now (memory .entry))
+        (afterRun r (now (work .exit)) (now (answers .exit)) (now (cache .exit)) (now (memory .exit))) ⌝ }
+    ensures clean { λ r. ⌜ LeavesClean eviction (movePrice start each) (pricedRows (length (now (work .entry))) start each) (now (text .entry)) (now (events .entry))
+        (now (answers .entry)) (now (cache .entry)) (now (memory .entry))
+        (afterRun r (now (work .exit)) (now (answers .exit)) (now (cache .exit)) (now (memory .exit))) ⌝ }
+{
+    let price = Price { start, each };
+    let first = serving::priced_row(work.len(), price);
+    let judgement = serving::judge_lent(first, text, work);
+    let result = running::run_judged(
+        judgement,
+        eviction,
+        price,
+        events,
+        answers,
+        cache,
+        memory,
+        work,
+    );
+    serving::clear(work);
+    result
+}
+
 // Run: the events of a list on the task of a text, from a fresh start on the lent cache and memory, and the working space cleared. In demand_3: what
 // was returned and left is that of the plain stack, and what was moved costs no more than the sheet allows.
 //
@@ -100,24 +141,73 @@ pub fn run(
     memory: &mut [u32],
     work: &mut [u32],
 ) -> RunResult
-    ensures result { λ r. ⌜ r ≡ runOf (now (text .entry)) start each (now (work .entry)) (now (events .entry))
+    ensures result { λ r. ⌜ r ≡ runOf Eager (now (text .entry)) start each (now (work .entry)) (now (events .entry))
         (now (answers .entry)) (now (cache .entry)) (now (memory .entry)) .result ⌝ }
-    ensures work { λ r. ⌜ now (work .exit) ≡ runOf (now (text .entry)) start each (now (work .entry)) (now (events .entry))
+    ensures work { λ r. ⌜ now (work .exit) ≡ runOf Eager (now (text .entry)) start each (now (work .entry)) (now (events .entry))
         (now (answers .entry)) (now (cache .entry)) (now (memory .entry)) .work ⌝ }
-    ensures answers { λ r. ⌜ now (answers .exit) ≡ runOf (now (text .entry)) start each (now (work .entry)) (now (events .entry))
+    ensures answers { λ r. ⌜ now (answers .exit) ≡ runOf Eager (now (text .entry)) start each (now (work .entry)) (now (events .entry))
         (now (answers .entry)) (now (cache .entry)) (now (memory .entry)) .answers ⌝ }
-    ensures cache { λ r. ⌜ now (cache .exit) ≡ runOf (now (text .entry)) start each (now (work .entry)) (now (events .entry))
+    ensures cache { λ r. ⌜ now (cache .exit) ≡ runOf Eager (now (text .entry)) start each (now (work .entry)) (now (events .entry))
         (now (answers .entry)) (now (cache .entry)) (now (memory .entry)) .cache ⌝ }
-    ensures memory { λ r. ⌜ now (memory .exit) ≡ runOf (now (text .entry)) start each (now (work .entry)) (now (events .entry))
+    ensures memory { λ r. ⌜ now (memory .exit) ≡ runOf Eager (now (text .entry)) start each (now (work .entry)) (now (events .entry))
         (now (answers .entry)) (now (cache .entry)) (now (memory .entry)) .memory ⌝ }
     ensures demand_3 { λ r. ⌜ Demand3 (pricedRows (length (now (work .entry))) start each) (now (text .entry)) (now (events .entry))
         (now (answers .entry)) (now (cache .entry)) (now (memory .entry))
         (afterRun r (now (work .exit)) (now (answers .exit)) (now (cache .exit)) (now (memory .exit))) ⌝ }
 {
-    let price = Price { start, each };
-    let first = serving::priced_row(work.len(), price);
-    let judgement = serving::judge_lent(first, text, work);
-    let result = running::run_judged(judgement, price, events, answers, cache, memory, work);
-    serving::clear(work);
-    result
+    run_on(
+        Eviction::Eager,
+        text,
+        start,
+        each,
+        events,
+        answers,
+        cache,
+        memory,
+        work,
+    )
+}
+
+// Run on the core with a lazy pointer, which writes back only the blocks below it: the events, the prices and the buffers are those of run. It returns and
+// leaves what run does, but for what was moved, which is no more. In clean: the blocks from the pointer up to the top of what is cached equal memory.
+//
+//     run_lazy(b"(stack 65)\n", 0, 1, &[], &mut answers, &mut cache, &mut memory, &mut work) is a refusal in row StackSize at place 1, with 0 events done
+pub fn run_lazy(
+    text: &[u8],
+    start: u32,
+    each: u32,
+    events: &[u32],
+    answers: &mut [u32],
+    cache: &mut [u32],
+    memory: &mut [u32],
+    work: &mut [u32],
+) -> RunResult
+    ensures result { λ r. ⌜ r ≡ runOf Lazy (now (text .entry)) start each (now (work .entry)) (now (events .entry))
+        (now (answers .entry)) (now (cache .entry)) (now (memory .entry)) .result ⌝ }
+    ensures work { λ r. ⌜ now (work .exit) ≡ runOf Lazy (now (text .entry)) start each (now (work .entry)) (now (events .entry))
+        (now (answers .entry)) (now (cache .entry)) (now (memory .entry)) .work ⌝ }
+    ensures answers { λ r. ⌜ now (answers .exit) ≡ runOf Lazy (now (text .entry)) start each (now (work .entry)) (now (events .entry))
+        (now (answers .entry)) (now (cache .entry)) (now (memory .entry)) .answers ⌝ }
+    ensures cache { λ r. ⌜ now (cache .exit) ≡ runOf Lazy (now (text .entry)) start each (now (work .entry)) (now (events .entry))
+        (now (answers .entry)) (now (cache .entry)) (now (memory .entry)) .cache ⌝ }
+    ensures memory { λ r. ⌜ now (memory .exit) ≡ runOf Lazy (now (text .entry)) start each (now (work .entry)) (now (events .entry))
+        (now (answers .entry)) (now (cache .entry)) (now (memory .entry)) .memory ⌝ }
+    ensures demand_3 { λ r. ⌜ Demand3 (pricedRows (length (now (work .entry))) start each) (now (text .entry)) (now (events .entry))
+        (now (answers .entry)) (now (cache .entry)) (now (memory .entry))
+        (afterRun r (now (work .exit)) (now (answers .exit)) (now (cache .exit)) (now (memory .exit))) ⌝ }
+    ensures clean { λ r. ⌜ LeavesClean Lazy (movePrice start each) (pricedRows (length (now (work .entry))) start each) (now (text .entry)) (now (events .entry))
+        (now (answers .entry)) (now (cache .entry)) (now (memory .entry))
+        (afterRun r (now (work .exit)) (now (answers .exit)) (now (cache .exit)) (now (memory .exit))) ⌝ }
+{
+    run_on(
+        Eviction::Lazy,
+        text,
+        start,
+        each,
+        events,
+        answers,
+        cache,
+        memory,
+        work,
+    )
 }

@@ -115,8 +115,14 @@ pub fn store_step(x: State, cache: &mut [u32], o: u32, v: u32) -> Turned
         (now (cache .exit)) memory) ⌝ }
 {
     let machine = x.machine;
-    machine.store(cache, o, v);
-    onwards(x, x.p + 1, 0)
+    let stored = machine.store(cache, o, v);
+    let state = State {
+        depth: x.depth,
+        f: x.f,
+        p: x.p,
+        machine: stored,
+    };
+    onwards(state, x.p + 1, 0)
 }
 
 pub fn goto_step(x: State, q: u32) -> Turned

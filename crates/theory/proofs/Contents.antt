@@ -14,7 +14,7 @@ use Rattle.model.specs.declared.Point.{Point}
 use Rattle.model.specs.declared.Point.the-variants.{Load, Store, Call, Ensure, Goto, Either, Return}
 use Rattle.model.specs.Task.{Task, count, func, point}
 use Rattle.model.specs.Walk.{leads, loaded, called, stores}
-use Rattle.model.specs.Core.{Core, reserve, free, ensure, load, store, save, resume}
+use Rattle.model.specs.Core.{Core, Clean, reserve, free, ensure, load, store, save, resume}
 use Rattle.model.specs.Figures.{uninitialised, live}
 use Rattle.model.specs.Sheet.{Sheet}
 use Rattle.model.specs.Plain.{Frame, entered, movedTo, stepped, loadedFrom, firstFrames}
@@ -99,13 +99,13 @@ module _ (t : Task) (s : Sheet) (w : WellFormed t) (r : Sound t s) where
       )
 
   coherent-reserve : (fs : List Frame) (c : Core) (g : ℕ) → g < count t → func t g .frame ≤ c .st
-      → c .st + total t fs ≡ length (c .memory) → Coherent t fs c → Coherent t (entered t g ∷ fs) (reserve (func t g .frame) c .core)
+      → c .st + total t fs ≡ length (c .memory) → Clean c → Coherent t fs c → Coherent t (entered t g ∷ fs) (reserve (func t g .frame) c .core)
   unfolding HoldsFrom reserve
-  coherent-reserve fs c g l k u h =
+  coherent-reserve fs c g l k u i h =
       let e : c .st - func t g .frame + func t g .frame ≡ c .st = omega arith in (
         λ o m v. absurd (live-first g o l v),
         rw e (coherent-same t (numberAt c) (numberAt (reserve (func t g .frame) c .core)) (c .st) fs
-            (λ b m n. reserve-keeps c b (func t g .frame) k m (omega arith)) h),
+            (λ b m n. reserve-keeps c b (func t g .frame) i k m (omega arith)) h),
       )
 
   coherent-free : (x : Frame) (fs : List Frame) (c : Core) → Coherent t (x ∷ fs) c → Coherent t fs (free (func t (x .fn) .frame) c)
@@ -134,11 +134,11 @@ module _ (t : Task) (s : Sheet) (w : WellFormed t) (r : Sound t s) where
       )
 
   -- the halves of a preemption: the first leaves in memory all that is live, and the second needs no more, whatever the cache holds
-  pub coherent-save : (x : Frame) (fs : List Frame) (c : Core) → In t x → Window t s (x ∷ fs) c → Coherent t (x ∷ fs) c
+  pub coherent-save : (x : Frame) (fs : List Frame) (c : Core) → In t x → Window t s (x ∷ fs) c → Clean c → Coherent t (x ∷ fs) c
       → Stored t (x ∷ fs) (save (s .at (x .fn) (x .at) .dead) c .core)
-  coherent-save x fs c i u h =
+  coherent-save x fs c i u k h =
       unfold save in coherent-above x fs (numberAt c) (λ a. getD (save (s .at (x .fn) (x .at) .dead) c .core .memory) a 0) (c .st) i
-      (λ b l m. save-keeps c b (s .at (x .fn) (x .at) .dead) (omega (arith, l)) (omega (arith, m, u .top))) h
+      (λ b l m. save-keeps c b (s .at (x .fn) (x .at) .dead) k (omega (arith, l)) (omega (arith, m, u .top))) h
 
   pub coherent-resume : (x : Frame) (fs : List Frame) (c : Core) (n : ℕ) → In t x → Window t s (x ∷ fs) c → Stored t (x ∷ fs) c
       → Coherent t (x ∷ fs) (resume (s .at (x .fn) (x .at) .dead) n c .core)
@@ -148,24 +148,25 @@ module _ (t : Task) (s : Sheet) (w : WellFormed t) (r : Sound t s) where
 
   -- a step, by the point at which the running frame stands
   pub coherent-step : (x : Frame) (fs : List Frame) (c : Core) (y : Point) (v : ℕ) → point (func t (x .fn)) (x .at) ≡ y → In t x → Below t (x .fn) fs
-      → Window t s (x ∷ fs) c → Coherent t (x ∷ fs) c → Coherent t (stepped t x fs y v) (stepTurn t (x .fn) (x .at) (places fs) c y v .state .core)
+      → Window t s (x ∷ fs) c → Clean c → Coherent t (x ∷ fs) c
+      → Coherent t (stepped t x fs y v) (stepTurn t (x .fn) (x .at) (places fs) c y v .state .core)
   unfolding leads total
-  coherent-step x fs c (Load o) v e i b u h = coherent-along x fs (numberAt c) (c .st) (suc (x .at)) i (rw e (List·Memᴰ·head refl)) (λ o. rw e tt) h
-  coherent-step x fs c (Store o) v e i b u h = coherent-store x fs c o v e i u h
-  coherent-step x fs c (Call g) v e i b u h =
+  coherent-step x fs c (Load o) v e i b u k h = coherent-along x fs (numberAt c) (c .st) (suc (x .at)) i (rw e (List·Memᴰ·head refl)) (λ o. rw e tt) h
+  coherent-step x fs c (Store o) v e i b u k h = coherent-store x fs c o v e i u h
+  coherent-step x fs c (Call g) v e i b u k h =
       let l = callee-later (w .linked) (x .fn) (x .at) g (i .fn-in) (i .at-in) (ap called e) in
       let m : List·Memᴰ (suc (x .at)) (leads (func t (x .fn)) (x .at)) = rw e (List·Memᴰ·head refl) in
-      coherent-reserve (movedTo (suc (x .at)) x ∷ fs) c g (l .1) (room-below t s w r x fs c g i b e u) (u .top)
+      coherent-reserve (movedTo (suc (x .at)) x ∷ fs) c g (l .1) (room-below t s w r x fs c g i b e u) (u .top) k
       (coherent-along x fs (numberAt c) (c .st) (suc (x .at)) i m (λ o. rw e tt) h)
-  coherent-step x fs c (Ensure k) v e i b u h =
-      coherent-along x fs (numberAt (ensure k c .core)) (ensure k c .core .st) (suc (x .at)) i (rw e (List·Memᴰ·head refl)) (λ o. rw e tt)
-      (rw (ensures-frame t w x k i e) (coherent-ensure x fs c i u h))
-  coherent-step x fs c (Goto q) v e i b u h = coherent-along x fs (numberAt c) (c .st) q i (rw e (List·Memᴰ·head refl)) (λ o. rw e tt) h
-  coherent-step x fs c (Either q p) v e i b u h =
+  coherent-step x fs c (Ensure n) v e i b u k h =
+      coherent-along x fs (numberAt (ensure n c .core)) (ensure n c .core .st) (suc (x .at)) i (rw e (List·Memᴰ·head refl)) (λ o. rw e tt)
+      (rw (ensures-frame t w x n i e) (coherent-ensure x fs c i u h))
+  coherent-step x fs c (Goto q) v e i b u k h = coherent-along x fs (numberAt c) (c .st) q i (rw e (List·Memᴰ·head refl)) (λ o. rw e tt) h
+  coherent-step x fs c (Either q p) v e i b u k h =
       by-test (λ (a : ℕ). Coherent t (movedTo a x ∷ fs) c) (eqb v 0)
       (λ z. coherent-along x fs (numberAt c) (c .st) q i (rw e (List·Memᴰ·head refl)) (λ o. rw e tt) h)
       (λ z. coherent-along x fs (numberAt c) (c .st) p i (rw e (List·Memᴰ·tail (List·Memᴰ·head refl))) (λ o. rw e tt) h)
-  coherent-step x fs c Return v e i b u h = coherent-free x fs c h
+  coherent-step x fs c Return v e i b u k h = coherent-free x fs c h
 
   -- a fresh start holds nothing that is live
   pub coherent-start : 0 < count t → (c : Core) → Coherent t (firstFrames t) (reserve (func t 0 .frame) c .core)

@@ -9,7 +9,7 @@ use lib.ListN.{length, length-replicate}
 use Rattle.model.specs.declared.Point.{Point}
 use Rattle.model.specs.declared.Refusal.{Refusal}
 use Rattle.model.specs.Task.{Task, count, func, point}
-use Rattle.model.specs.Core.{Core, save, reserve, withCache, resume, filledWith}
+use Rattle.model.specs.Core.{Core, Clean, effective, save, reserve, withCache, resume, filledWith}
 use Rattle.model.specs.Sheet.{Sheet}
 use Rattle.model.specs.Refusal.{eventRows}
 use Rattle.model.specs.Plain.{Event, Act, takes, preempted, act, Frame, Plain, entered, running, stepped, afterEvent, loadedFrom, answerOf, orPlain}
@@ -18,7 +18,8 @@ use Rattle.model.specs.Run.{State, Turn, stepTurn, preemptTurn, turn, Ran, orRa
 use Rattle.model.specs.WellFormed.{WellFormed}
 use Rattle.theory.specs.Sound.{Ground, Sound}
 use Rattle.theory.proofs.Frames.{places, running-same, frames-step, In, Below, Standing, standing-start, standing-step, Window, Needed}
-use Rattle.theory.proofs.Window.{window-start, window-step, window-save, window-between, window-resume}
+use Rattle.theory.proofs.Clean.{effective-between, clean-reserve, clean-resume, clean-step}
+use Rattle.theory.proofs.Window.{room-start, window-start, window-step, window-save, window-between, window-resume}
 use Rattle.theory.proofs.Contents.{Coherent, Stored, coherent-start, coherent-step, coherent-save, coherent-resume, answer-step}
 use Rattle.theory.proofs.Occupancy.{Occupied, occupied-start, occupied-step, fewer}
 use Rattle.theory.proofs.Potential.{potential, paid, potential-start, step-covered, preempt-covered}
@@ -27,6 +28,7 @@ use Rattle.theory.proofs.Potential.{potential, paid, potential-start, s
 pub record Running (t : Task) (s : Sheet) (b : Ground) (fs : List Frame) (c : Core) : Type 0 where
   pub standing : Standing t fs
   pub window : Window t s fs c
+  pub clean : Clean c
   pub holds : Coherent t fs c
   pub occupied : Occupied t s b fs (c .occupancy)
 
@@ -50,13 +52,20 @@ pub record FairRun (r : Ran) (p : Plain) (allowed n : ℕ) : Type 0 where
   pub done : r .done ≡ p .done
   pub answers : r .answers ≡ p .answers
   pub bounded : r .moved ≤ allowed + n
+  pub clean : Clean (r .core)
 
 -- a refusal ends both; else a fair turn and the rest decide
-fair-or : (s : Sheet) (o : Option Refusal) (c : Core) (u : Turn) (r : Ran) (p : Plain) (m a allowed n n′ : ℕ) → u .answer ≡ a
+fair-or : (s : Sheet) (o : Option Refusal) (c : Core) (u : Turn) (r : Ran) (p : Plain) (m a allowed n n′ : ℕ) → Clean c → u .answer ≡ a
     → paid s u + n′ ≤ m + n → FairRun r p allowed n′ → FairRun (orRan (s .price) o c u r) (orPlain o a p) (orBound o m allowed) n
-fair-or s none c u r p m a allowed n n′ e h f =
-    record { ending = f .ending; done = ap suc (f .done); answers = λ i. e i ∷ f .answers i; bounded = omega (arith, h, f .bounded) }
-fair-or s (some x) c u r p m a allowed n n′ e h f = record { ending = refl; done = refl; answers = refl; bounded = omega arith }
+fair-or s none c u r p m a allowed n n′ k e h f = record {
+  ending = f .ending;
+  done = ap suc (f .done);
+  answers = λ i. e i ∷ f .answers i;
+  bounded = omega (arith, h, f .bounded);
+  clean = f .clean;
+}
+fair-or s (some x) c u r p m a allowed n n′ k e h f =
+    record { ending = refl; done = refl; answers = refl; bounded = omega arith; clean = k }
 
 -- a state is its frames and its core
 pub state-is : (x : State) (fs : List Frame) → x .frames ≡ places fs → x ≡ record { frames = places fs; core = x .core }
@@ -69,7 +78,7 @@ module _ (t : Task) (s : Sheet) (w : WellFormed t) (r : Sound t s) where
   runs-save x fs c i k = record {
     standing = k .standing;
     window = window-save t s w r (x ∷ fs) c _ (k .window);
-    stored = coherent-save t s w r x fs c i (k .window) (k .holds);
+    stored = coherent-save t s w r x fs c i (k .window) (k .clean) (k .holds);
     occupied = unfold save in k .occupied;
   }
 
@@ -88,6 +97,7 @@ module _ (t : Task) (s : Sheet) (w : WellFormed t) (r : Sound t s) where
   aside-resume x fs c i k = record {
     standing = k .standing;
     window = window-resume t s w r x fs c _ (k .window);
+    clean = clean-resume c _ _ (omega (arith, k .window .fits, k .window .blocks));
     holds = coherent-resume t s w r x fs c _ i (k .window) (k .stored);
     occupied = unfold resume in fewer t s (r .ground) x fs (c .occupancy) _ (omega arith) (k .occupied);
   }
@@ -103,11 +113,12 @@ module _ (t : Task) (s : Sheet) (w : WellFormed t) (r : Sound t s) where
     runs = record {
       standing = standing-step t w x fs y v e i b;
       window = window-step t s w r x fs c y v e i b (k .window);
-      holds = coherent-step t s w r x fs c y v e i b (k .window) (k .holds);
+      clean = clean-step t s w r x fs c y v e i b (k .window) (k .clean);
+      holds = coherent-step t s w r x fs c y v e i b (k .window) (k .clean) (k .holds);
       occupied = occupied-step t s w r x fs c y v e i b (k .window) (k .occupied);
     };
     answers = answer-step t s w r x fs c y v e i (k .window) (k .holds);
-    pays = step-covered t s w r x fs c y v e i b (k .window) (k .occupied);
+    pays = step-covered t s w r x fs c y v e i b (k .window) (k .clean) (k .occupied);
   }
 
   -- a preemption: both halves, whatever the others leave in the cache between them
@@ -121,7 +132,7 @@ module _ (t : Task) (s : Sheet) (w : WellFormed t) (r : Sound t s) where
     answers = refl;
     pays =
         unfold resume in unfold save in
-        omega (arith, preempt-covered t s w r x fs (c .occupancy) i b (k .occupied .here .high) (k .window .needed));
+        omega (arith, preempt-covered t s w r x fs (c .occupancy) (effective c) i b (effective-between c (k .clean) .1) (k .occupied .here .high) (k .window .needed));
   }
 
   -- an event that is not refused
@@ -138,25 +149,28 @@ module _ (t : Task) (s : Sheet) (w : WellFormed t) (r : Sound t s) where
       → FairRun (ranFrom t s i (record { frames = places fs; core = c }) es) (plainFrom t i fs es) (allowedFrom t s i fs es)
       (potential t s (r .ground) fs (c .occupancy))
   unfolding ranFrom plainFrom allowedFrom turn
-  fair-from i [] fs c k = record { ending = refl; done = refl; answers = refl; bounded = omega arith }
+  fair-from i [] fs c k = record { ending = refl; done = refl; answers = refl; bounded = omega arith; clean = k .clean }
   fair-from i (e ∷ es) fs c k =
       let f = fair-event fs c (act e) (k .standing) k in
       let u = turn t s (record { frames = places fs; core = c }) (act e) in
       rw (running-same t fs, state-is (u .state) (afterEvent t fs (act e)) (f .frames))
-      (fair-or s (eventRows i (e .kind) (e .value) (running t fs)) c u _ _ _ _ _ _ _ (f .answers) (f .pays)
+      (fair-or s (eventRows i (e .kind) (e .value) (running t fs)) c u _ _ _ _ _ _ _ (k .clean) (f .answers) (f .pays)
       (fair-from (suc i) es (afterEvent t fs (act e)) (u .state .core) (f .runs)))
 
   -- function 0 has just been entered on a core that had no frames
-  pub runs-start : 0 < count t → (c : Core) → Window t s [] c → Running t s (r .ground) (firstFrames t) (reserve (func t 0 .frame) c .core)
-  runs-start h c u = record {
+  pub runs-start : 0 < count t → (c : Core) → Window t s [] c → Clean c
+      → Running t s (r .ground) (firstFrames t) (reserve (func t 0 .frame) c .core)
+  runs-start h c u k = record {
     standing = standing-start t w h;
     window = window-start t s w r h c u;
+    clean = clean-reserve c k (func t 0 .frame) (room-start t s w r h c u);
     holds = coherent-start t s w r h c;
     occupied = occupied-start t s w r h c u;
   }
 
   -- from a fresh start, whatever cache and memory hold
-  pub fair-run : 0 < count t → (c : Core) (es : List Event) → Window t s [] c → FairRun (ran t s c es) (plain t es) (allowed t s es) 0
+  pub fair-run : 0 < count t → (c : Core) (es : List Event) → Window t s [] c → Clean c
+      → FairRun (ran t s c es) (plain t es) (allowed t s es) 0
   unfolding places
-  fair-run h c es u =
-      rw (potential-start t s w r h c u) at (fair-from 0 es (firstFrames t) (reserve (func t 0 .frame) c .core) (runs-start h c u))
+  fair-run h c es u k =
+      rw (potential-start t s w r h c u) at (fair-from 0 es (firstFrames t) (reserve (func t 0 .frame) c .core) (runs-start h c u k))

@@ -1,5 +1,5 @@
--- Demand 3: over every event list from a fresh start, whatever cache and memory hold, a run ends, counts its events and answers as the plain
--- stack does, and moves at most what the sheet allows.
+-- Demand 3, on either core: over every event list from a fresh start, whatever cache and memory hold, a run ends, counts its events and
+-- answers as the plain stack does, moves at most what the sheet allows, and leaves the blocks from LP up to MT equal to memory.
 use Prim.Native.Nat.{ℕ, _/_, _%_, _≤_, _<_}
 use mathlib.Core.Bool.{_&&_}
 use mathlib.Core.List.{List, []}
@@ -8,35 +8,37 @@ use mathlib.Core.Path.{_≡_, refl, ap}
 use native.Mathlib.Omega.{arith}
 use lib.Dec.{eqb, leb, eqb→eq, leb→le}
 use lib.ListN.{length}
+use Rattle.model.specs.declared.Eviction.{Eviction}
 use Rattle.model.specs.declared.Refusal.{Refusal}
 use Rattle.model.specs.declared.Row.the-variants.{EventList, AnswersTooSmall, CacheSize, MemoryTooSmall}
 use Rattle.model.specs.Limits.{mostEventNumbers}
 use Rattle.model.specs.Rows.{refuse}
 use Rattle.model.specs.Basic.{unless}
 use Rattle.model.specs.Task.{Task, count, Judged, refused, task}
-use Rattle.model.specs.Core.{Core, idle}
+use Rattle.model.specs.Core.{Core, Clean, idle}
 use Rattle.model.specs.Figures.{longest}
 use Rattle.model.specs.Sheet.{Sheet, movePrice, pricedSheet}
 use Rattle.model.specs.Refusal.{pricedRows, runRows}
 use Rattle.model.specs.WellFormed.{WellFormed}
 use Rattle.model.specs.Plain.{Event, eventsOf}
 use Rattle.model.specs.Run.{Faithful}
-use Rattle.model.specs.Services.{cleared, over, runJudged, runAs, runWith, runOf, Demand3}
+use Rattle.model.specs.Services.{cleared, over, runJudged, runAs, runWith, runOf, Demand3, LeavesClean}
 use Rattle.theory.specs.Sound.{Price, Sound}
 use Rattle.theory.proofs.Firsts.{row-none, unless-none}
 use Rattle.theory.proofs.Accepted.{accepted}
 use Rattle.theory.proofs.Frames.{Window}
 use Rattle.theory.proofs.Window.{window-idle}
+use Rattle.theory.proofs.Clean.{clean-idle}
 use Rattle.theory.proofs.Fair.{fair-run}
 use Rattle.theory.proofs.Lawful.{sound}
 use Rattle.theory.proofs.Prices.{price-moves}
 
 -- of every sheet that obeys the rules, from every core that has no frames
-pub faithful : (t : Task) (s : Sheet) → WellFormed t → Sound t s → 0 < count t → (c : Core) (es : List Event) → Window t s [] c
+pub faithful : (t : Task) (s : Sheet) → WellFormed t → Sound t s → 0 < count t → (c : Core) (es : List Event) → Window t s [] c → Clean c
     → Faithful t s c es
-faithful t s w r h c es u =
-    let f = fair-run t s w r h c es u in
-    record { ending = f .ending; done = f .done; answers = f .answers; bounded = omega (arith, f .bounded) }
+faithful t s w r h c es u k =
+    let f = fair-run t s w r h c es u k in
+    record { ending = f .ending; done = f .done; answers = f .answers; bounded = omega (arith, f .bounded); clean = f .clean }
 
 -- rows 18 and 19 give the cache its size and the memory its room
 run-room : (events answers cache memory : ℕ) (t : Task) → runRows events answers cache memory t ≡ none
@@ -49,38 +51,62 @@ run-room events answers cache memory t e =
     let l = unless-none (leb (longest t 0) memory) (refuse MemoryTooSmall (longest t 0)) .0 (k .1) in
     (eqb→eq cache (t .stack) (k .0), leb→le (longest t 0) memory l)
 
--- of the sheet of every text that run accepts with these buffers, for every price of moves and every first rows
-pub run-faithful : (price : ℕ → ℕ) → Price price → (first : Option Refusal) (text events answers cache memory : List ℕ) (t : Task)
-    → runJudged first text events answers cache memory ≡ task t
-    → (es : List Event) → Faithful t (pricedSheet price t) (idle cache memory) es
+-- a task that is judged with these buffers is well-formed, and has its cache and its room
+pub run-accepted : (first : Option Refusal) (text events answers cache memory : List ℕ) (t : Task)
+    → runJudged first text events answers cache memory ≡ task t → WellFormed t × (length cache ≡ t .stack) × (longest t 0 ≤ length memory)
 unfolding runJudged
-run-faithful price c first text events answers cache memory t e es =
+run-accepted first text events answers cache memory t e =
     let a = accepted first (runRows (length events) (length answers) (length cache) (length memory)) text t e in
     let r = run-room (length events) (length answers) (length cache) (length memory) t (a .no-own) in
-    let w = a .task .formed in
-    let s = pricedSheet price t in
-    faithful t s w (sound t w price c) (w .shaped .some) (idle cache memory) es (window-idle t s cache memory (r .0) (r .1))
+    (a .task .formed, r .0, r .1)
 
-pub demand-3-with : (price : ℕ → ℕ) → Price price → (first : Option Refusal) (text work events answers cache memory : List ℕ)
-    → Demand3 first text events answers cache memory (runWith price first text work events answers cache memory)
+-- of the sheet of every text that run accepts with these buffers, on either core, for every price of moves and every first rows
+pub run-faithful : (x : Eviction) (price : ℕ → ℕ) → Price price → (first : Option Refusal) (text events answers cache memory : List ℕ) (t : Task)
+    → runJudged first text events answers cache memory ≡ task t
+    → (es : List Event) → Faithful t (pricedSheet price t) (idle x cache memory) es
+run-faithful x price c first text events answers cache memory t e es =
+    let a = run-accepted first text events answers cache memory t e in
+    let w = a .0 in
+    let s = pricedSheet price t in
+    faithful t s w (sound t w price c) (w .shaped .some) (idle x cache memory) es (window-idle t s x cache memory (a .1) (a .2)) (clean-idle x cache memory)
+
+pub demand-3-with : (x : Eviction) (price : ℕ → ℕ) → Price price → (first : Option Refusal) (text work events answers cache memory : List ℕ)
+    → Demand3 first text events answers cache memory (runWith x price first text work events answers cache memory)
 unfolding runWith
-demand-3-with price c first text work events answers cache memory = go (runJudged first text events answers cache memory) refl
+demand-3-with x price c first text work events answers cache memory = go (runJudged first text events answers cache memory) refl
   where
     go : (j : Judged) → runJudged first text events answers cache memory ≡ j
         → Demand3 first text events answers cache memory
-        (runAs price (runJudged first text events answers cache memory) (cleared work) (eventsOf events) answers cache memory)
+        (runAs x price (runJudged first text events answers cache memory) (cleared work) (eventsOf events) answers cache memory)
     go (refused r) e =
         record { ending = rw e refl; done = rw e refl; answered = unfold over in rw e refl; bounded = rw e (omega arith) }
     go (task t) e =
-        let f = run-faithful price c first text events answers cache memory t e (eventsOf events) in record {
+        let f = run-faithful x price c first text events answers cache memory t e (eventsOf events) in record {
           ending = rw e (f .ending);
           done = rw e (f .done);
           answered = rw e (ap (λ l. over l answers) (f .answers));
           bounded = rw e (f .bounded);
         }
 
--- of the service itself, for every text, start, each, event list and buffers
-pub demand-3 : (text : List ℕ) (start each : ℕ) (work events answers cache memory : List ℕ)
-    → Demand3 (pricedRows (length work) start each) text events answers cache memory (runOf text start each work events answers cache memory)
-demand-3 text start each work events answers cache memory =
-    demand-3-with (movePrice start each) (price-moves start each) (pricedRows (length work) start each) text work events answers cache memory
+pub leaves-clean-with : (x : Eviction) (price : ℕ → ℕ) → Price price → (first : Option Refusal) (text work events answers cache memory : List ℕ)
+    → LeavesClean x price first text events answers cache memory (runWith x price first text work events answers cache memory)
+unfolding runWith
+leaves-clean-with x price c first text work events answers cache memory = go (runJudged first text events answers cache memory) refl
+  where
+    go : (j : Judged) → runJudged first text events answers cache memory ≡ j
+        → LeavesClean x price first text events answers cache memory
+        (runAs x price (runJudged first text events answers cache memory) (cleared work) (eventsOf events) answers cache memory)
+    go (refused r) e = rw e (clean-idle x cache memory)
+    go (task t) e = rw e (run-faithful x price c first text events answers cache memory t e (eventsOf events) .clean)
+
+-- of the services themselves, run and run_lazy, for every text, start, each, event list and buffers
+pub demand-3 : (x : Eviction) (text : List ℕ) (start each : ℕ) (work events answers cache memory : List ℕ)
+    → Demand3 (pricedRows (length work) start each) text events answers cache memory (runOf x text start each work events answers cache memory)
+demand-3 x text start each work events answers cache memory =
+    demand-3-with x (movePrice start each) (price-moves start each) (pricedRows (length work) start each) text work events answers cache memory
+
+pub leaves-clean : (x : Eviction) (text : List ℕ) (start each : ℕ) (work events answers cache memory : List ℕ)
+    → LeavesClean x (movePrice start each) (pricedRows (length work) start each) text events answers cache memory
+    (runOf x text start each work events answers cache memory)
+leaves-clean x text start each work events answers cache memory =
+    leaves-clean-with x (movePrice start each) (price-moves start each) (pricedRows (length work) start each) text work events answers cache memory

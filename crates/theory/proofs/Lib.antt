@@ -9,6 +9,7 @@
 --   Frames, Window           the frames of a run are those of the plain stack, and where the stack stands; from here to Fair nothing is known of a
 --                            sheet but the rules of specs/Sound
 --   Blocks, Numbers          what moves between cache and memory keep
+--   Clean, Pointer           the blocks from LP up to MT equal memory after every event of a run; what each move does to LP, in addresses
 --   Contents                 cache and memory hold the numbers of the plain stack, between the halves of a preemption the memory alone
 --   Occupancy                the occupancy is at most high
 --   Potential                a step, and a preemption, moves at most what it is allowed and what the potential falls by
@@ -19,6 +20,7 @@
 --   Sorting, Dearest         laws of the sorted list; the list of the dearest points is the first ten of the report's records in a strict order
 --   Total                    the total of a report is the sum of the costs of all points
 --   Faithful                 demand 3, of every sheet that obeys the rules and of the sheet of every text that run accepts
+--   Cores                    the two cores leave the same after every event, and the lazy one moves no more; so do the two services
 pub mod Lists
 pub mod Firsts
 pub mod Search
@@ -38,6 +40,8 @@ pub mod Sheet
 pub mod Frames
 pub mod Blocks
 pub mod Window
+pub mod Clean
+pub mod Pointer
 pub mod Numbers
 pub mod Contents
 pub mod Occupancy
@@ -51,3 +55,4 @@ pub mod Dearest
 pub mod Costs
 pub mod Total
 pub mod Faithful
+pub mod Cores

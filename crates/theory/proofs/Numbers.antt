@@ -8,9 +8,10 @@ use lib.Dec.{ltb, ltb→lt, nltb→le}
 use lib.ListN.{length, getD, length-set}
 use lib.Seq.{getD-set-same, getD-set-other}
 use Rattle.model.specs.Basic.{if_then_else_}
-use Rattle.model.specs.Core.{Core, block, spilled, reserved, reserveMoves, ensuredTo, ensureMoves, savedFrom, saveMoves, resumed, resumeMoves}
-use Rattle.model.specs.Core.{reserve, free, ensure, store, save, resume}
+use Rattle.model.specs.Core.{Core, Clean, block, effective, spilled, reserved, reserveMoves, ensuredTo, ensureMoves, savedFrom, saveMoves, resumed}
+use Rattle.model.specs.Core.{resumeMoves, reserve, free, ensure, store, save, resume}
 use Rattle.theory.proofs.Lists.{by-test}
+use Rattle.theory.proofs.Clean.{effective-between}
 use Rattle.theory.proofs.Blocks.{apart, length-filled, spilled-in, spilled-out, filled-in, filled-out}
 
 -- the number at address a: that of its block while a is below MT, else that of the memory
@@ -34,24 +35,30 @@ number-stored c a h =
     (λ l. refl)
 
 module _ (c : Core) (a : ℕ) where
-  -- the memory has the number of each address from some one up, once the core has written back from there up to MT
-  written-keeps : (from k : ℕ) → from + k ≡ max from (c .st + c .occupancy) → (a < c .st + c .occupancy → from ≤ a) → a < length (c .memory)
-      → getD (spilled (c .cache) (c .memory) from k) a 0 ≡ numberAt c a
-  written-keeps from k e h m =
-      elim (decLt a (c .st + c .occupancy)) [
-        | yes j ↦ spilled-in (c .cache) (c .memory) from k a (h j) (omega arith) m ∙ sym (number-cached c a _ j refl)
-        | no j ↦ spilled-out (c .cache) (c .memory) from k a (λ g. omega arith) ∙ sym (number-stored c a (omega arith))
+  -- the memory has the number of each address from some one up, once the core has written back from there
+  written-keeps : (from k : ℕ) → Clean c → from + k ≡ max from (c .st + effective c) → (a < c .st + c .occupancy → from ≤ a)
+      → a < length (c .memory) → getD (spilled (c .cache) (c .memory) from k) a 0 ≡ numberAt c a
+  written-keeps from k i e h m =
+      let b = effective-between c i in
+      elim (decLt a (c .st + effective c)) [
+        | yes j ↦
+            let l : a < c .st + c .occupancy = omega (arith, b) in
+            spilled-in (c .cache) (c .memory) from k a (h l) (omega arith) m ∙ sym (number-cached c a _ l refl)
+        | no j ↦ spilled-out (c .cache) (c .memory) from k a (λ g. omega arith) ∙ elim (decLt a (c .st + c .occupancy)) [
+          | yes l ↦ sym (i .equal a (omega (arith, b)) l) ∙ sym (number-cached c a _ l refl)
+          | no l ↦ sym (number-stored c a (omega arith))
+        ]
       ]
 
   -- a reserve keeps the number of each address from ST up
-  pub reserve-keeps : (k : ℕ) → k ≤ c .st → c .st ≤ a → a < length (c .memory) → numberAt (reserve k c .core) a ≡ numberAt c a
+  pub reserve-keeps : (k : ℕ) → Clean c → k ≤ c .st → c .st ≤ a → a < length (c .memory) → numberAt (reserve k c .core) a ≡ numberAt c a
   unfolding reserve
-  reserve-keeps k h l m =
+  reserve-keeps k i h l m =
       elim (decLt a (c .st - k + reserved (length (c .cache)) k (c .occupancy))) [
-        | yes i ↦ number-cached (reserve k c .core) a _ i refl ∙ sym (number-cached c a _ (omega arith) refl)
-        | no i ↦
+        | yes j ↦ number-cached (reserve k c .core) a _ j refl ∙ sym (number-cached c a _ (omega arith) refl)
+        | no j ↦
             number-stored (reserve k c .core) a (omega arith)
-            ∙ written-keeps (c .st - k + length (c .cache)) (reserveMoves (length (c .cache)) k (c .occupancy)) (omega arith) (λ g. omega arith) m
+            ∙ written-keeps (c .st - k + length (c .cache)) (reserveMoves (length (c .cache)) k (effective c)) i (omega arith) (λ g. omega arith) m
       ]
 
   -- a free keeps the number of each address from the ST after it up
@@ -96,9 +103,10 @@ module _ (c : Core) (a : ℕ) where
       ]
 
   -- the first half of a preemption leaves in memory the number of each address from the lowest live one up
-  pub save-keeps : (d : ℕ) → c .st + savedFrom d (c .occupancy) ≤ a → a < length (c .memory) → getD (save d c .core .memory) a 0 ≡ numberAt c a
+  pub save-keeps : (d : ℕ) → Clean c → c .st + savedFrom d (c .occupancy) ≤ a → a < length (c .memory) → getD (save d c .core .memory) a 0 ≡ numberAt c a
   unfolding save
-  save-keeps d h m = written-keeps (c .st + savedFrom d (c .occupancy)) (saveMoves d (c .occupancy)) (omega arith) (λ g. h) m
+  save-keeps d i h m =
+      written-keeps (c .st + savedFrom d (c .occupancy)) (saveMoves d (c .occupancy) (effective c)) i (omega arith) (λ g. h) m
 
   -- the second half brings back what memory has there, whatever the cache holds
   pub resume-brings : (d n : ℕ) → c .occupancy ≤ length (c .cache) → c .st + savedFrom d (c .occupancy) ≤ a

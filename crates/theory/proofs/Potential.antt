@@ -12,7 +12,7 @@ use Rattle.model.specs.declared.Point.{Point}
 use Rattle.model.specs.declared.Point.the-variants.{Load, Store, Call, Ensure, Goto, Either, Return}
 use Rattle.model.specs.Task.{Task, count, size, func, point}
 use Rattle.model.specs.Walk.{leads, called, isEnsure}
-use Rattle.model.specs.Core.{Core, saveMoves, resumed, resumeMoves, reserve, free, ensure, store}
+use Rattle.model.specs.Core.{Core, Clean, effective, saveMoves, resumed, resumeMoves, reserve, free, ensure, store}
 use Rattle.model.specs.Figures.{longest}
 use Rattle.model.specs.Sheet.{Sheet}
 use Rattle.model.specs.Plain.{Frame, entered, movedTo, stepped, firstFrames}
@@ -21,6 +21,7 @@ use Rattle.theory.proofs.Lists.{by-test}
 use Rattle.model.specs.WellFormed.{WellFormed}
 use Rattle.theory.proofs.Links.{closed, callee-later, ensure-after-call}
 use Rattle.theory.specs.Sound.{Price, Ground, SoundAt, Sound}
+use Rattle.theory.proofs.Clean.{effective-between}
 use Rattle.theory.proofs.Frames.{places, In, Below, Window}
 use Rattle.theory.proofs.Window.{frame-room, call-room, ensures-frame}
 use Rattle.theory.proofs.Occupancy.{OccupiedAt}
@@ -78,9 +79,9 @@ call-sum z a c d f o h i j k = omega arith
 none-left : (k s d off : ℕ) → k ≤ s - d → off ≤ d → k - (s - off) ≡ 0
 none-left k s d off h j = omega arith
 
--- a preemption at n blocks, with the figures d dead, m need, h high, q next
-save-covers : (n d h : ℕ) → n ≤ h → saveMoves d n ≤ h - d
-save-covers n d h k = omega arith
+-- a preemption at n blocks, b of them to be written back, with the figures d dead, m need, h high, q next
+save-covers : (n b d h : ℕ) → b ≤ n → n ≤ h → saveMoves d n b ≤ h - d
+save-covers n b d h a k = omega arith
 
 reload-covers : (n d m : ℕ) → resumeMoves d m n ≤ m - d
 reload-covers n d m = omega arith
@@ -178,19 +179,19 @@ module _ (t : Task) (s : Sheet) (w : WellFormed t) (r : Sound t s) where
             rw m (omega (arith, z))
       ]
 
-  -- a call moves at most the spill of its callee, and the callee has no delayed fill yet
-  call-covered : (x : Frame) (fs : List Frame) (n g : ℕ) → In t x → Below t (x .fn) fs → point (func t (x .fn)) (x .at) ≡ Call g
-      → n ≤ s .at (x .fn) (x .at) .high
-      → s .price (n + func t g .frame - t .stack) + s .price 0
+  -- a call writes back m of n blocks, and moves at most the spill of its callee; the callee has no delayed fill yet
+  call-covered : (x : Frame) (fs : List Frame) (n m g : ℕ) → In t x → Below t (x .fn) fs → point (func t (x .fn)) (x .at) ≡ Call g
+      → m ≤ n → n ≤ s .at (x .fn) (x .at) .high
+      → s .price (m + func t g .frame - t .stack) + s .price 0
       + potential t s (r .ground) (entered t g ∷ movedTo (suc (x .at)) x ∷ fs) (min (t .stack) (n + func t g .frame))
       ≤ s .spill g + potential t s (r .ground) (x ∷ fs) n
   unfolding delayed
-  call-covered x fs n g i b e h =
+  call-covered x fs n m g i b e a h =
       let l = callee-later (w .linked) (x .fn) (x .at) g (i .fn-in) (i .at-in) (ap called e) .1 in
       let k = rules x i .call g e .spill in
       let q = r .at g 0 l (w .shaped .nonempty g l) .next-frame in
       call-sum _ _ _ _ _ _ (r .price .none)
-      (le-trans (r .price .more _ _ (omega (arith, h))) k)
+      (le-trans (r .price .more _ _ (omega (arith, a, h))) k)
       (price-zero (r .price) _ (just-entered (r .ground .next g 0) (func t g .frame) n (t .stack) q (w .shaped .frames g l)))
       (delayed-call x fs n g i b e)
 
@@ -212,42 +213,42 @@ module _ (t : Task) (s : Sheet) (w : WellFormed t) (r : Sound t s) where
       (delayed-chain (x .fn) _ _ fs b)
 
   -- a preemption: what is saved and reloaded, and the delayed fills of the running frame and of its callers
-  pub preempt-covered : (x : Frame) (fs : List Frame) (n : ℕ) → In t x → Below t (x .fn) fs → n ≤ s .at (x .fn) (x .at) .high
+  pub preempt-covered : (x : Frame) (fs : List Frame) (n e : ℕ) → In t x → Below t (x .fn) fs → e ≤ n → n ≤ s .at (x .fn) (x .at) .high
       → s .at (x .fn) (x .at) .need ≤ n
-      → s .price (saveMoves (s .at (x .fn) (x .at) .dead) n) + pending t s (r .ground) x fs n
+      → s .price (saveMoves (s .at (x .fn) (x .at) .dead) n e) + pending t s (r .ground) x fs n
       ≤ s .at (x .fn) (x .at) .cost + potential t s (r .ground) (x ∷ fs) n
-  preempt-covered x fs n i b h k =
+  preempt-covered x fs n e i b a h k =
       let d = s .at (x .fn) (x .at) .dead in
       let m = s .at (x .fn) (x .at) .need in
       preempt-sum _ _ _ _ _ _ _ _ _
-      (r .price .more _ _ (save-covers n d (s .at (x .fn) (x .at) .high) h))
+      (r .price .more _ _ (save-covers n e d (s .at (x .fn) (x .at) .high) a h))
       (r .price .more _ _ (reload-covers n d m))
       (left-delayed x fs n d b k)
       (rules x i .cost)
 
   -- a step at point y
   pub step-covered : (x : Frame) (fs : List Frame) (c : Core) (y : Point) (v : ℕ) → point (func t (x .fn)) (x .at) ≡ y → In t x → Below t (x .fn) fs
-      → Window t s (x ∷ fs) c → OccupiedAt t s (r .ground) x fs (c .occupancy)
+      → Window t s (x ∷ fs) c → Clean c → OccupiedAt t s (r .ground) x fs (c .occupancy)
       → paid s (stepTurn t (x .fn) (x .at) (places fs) c y v)
       + potential t s (r .ground) (stepped t x fs y v) (stepTurn t (x .fn) (x .at) (places fs) c y v .state .core .occupancy)
       ≤ stepBound s (x .fn) (x .at) y + potential t s (r .ground) (x ∷ fs) (c .occupancy)
   unfolding leads reserve free ensure store
-  step-covered x fs c (Load n) v e i b u o =
+  step-covered x fs c (Load n) v e i b u j o =
       moves-nothing x (x .numbers) fs (c .occupancy) (suc (x .at)) i (rw e (List·Memᴰ·head refl)) (rw e tt)
-  step-covered x fs c (Store n) v e i b u o =
+  step-covered x fs c (Store n) v e i b u j o =
       moves-nothing x _ fs (c .occupancy) (suc (x .at)) i (rw e (List·Memᴰ·head refl)) (rw e tt)
-  step-covered x fs c (Call g) v e i b u o = rw (u .blocks) (call-covered x fs (c .occupancy) g i b e (o .here .high))
-  step-covered x fs c (Ensure k) v e i b u o =
+  step-covered x fs c (Call g) v e i b u j o = rw (u .blocks) (call-covered x fs (c .occupancy) (effective c) g i b e (effective-between c j .1) (o .here .high))
+  step-covered x fs c (Ensure k) v e i b u j o =
       let z = ensures-frame t w x k i e in rw z (ensure-covered x fs (c .occupancy) i (rw z at e))
-  step-covered x fs c (Goto q) v e i b u o =
+  step-covered x fs c (Goto q) v e i b u j o =
       moves-nothing x (x .numbers) fs (c .occupancy) q i (rw e (List·Memᴰ·head refl)) (rw e tt)
-  step-covered x fs c (Either q p) v e i b u o =
+  step-covered x fs c (Either q p) v e i b u j o =
       by-test
       (λ (a : ℕ). s .price 0 + s .price 0 + potential t s (r .ground) (movedTo a x ∷ fs) (c .occupancy)
       ≤ 0 + potential t s (r .ground) (x ∷ fs) (c .occupancy)) (eqb v 0)
       (λ h. moves-nothing x (x .numbers) fs (c .occupancy) q i (rw e (List·Memᴰ·head refl)) (rw e tt))
       (λ h. moves-nothing x (x .numbers) fs (c .occupancy) p i (rw e (List·Memᴰ·tail (List·Memᴰ·head refl))) (rw e tt))
-  step-covered x fs c Return v e i b u o = return-covered x (c .occupancy) fs
+  step-covered x fs c Return v e i b u j o = return-covered x (c .occupancy) fs
 
   -- at the start there is no delayed fill
   pub potential-start : 0 < count t → (c : Core) → Window t s [] c

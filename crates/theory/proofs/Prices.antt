@@ -8,6 +8,7 @@ use native.Mathlib.Omega.{arith}
 use native.Mathlib.Nat.{mul-le-mul-left}
 use lib.Dec.{eqb, eqb→eq, T-not}
 use lib.ListN.{length}
+use Rattle.model.specs.declared.Eviction.the-variants.{Eager}
 use Rattle.model.specs.declared.Refusal.{Refusal}
 use Rattle.model.specs.Task.{Task, func}
 use Rattle.model.specs.Basic.{_orElse_}
@@ -62,10 +63,10 @@ pub report-blocks : (text work output : List ℕ) → reportOf text 0 1 work out
 report-blocks text work output =
     λ i. writtenOf (rows-blocks (length work) i) (reportText (moves-blocks i)) text work output
 
-pub run-blocks : (text work events answers cache memory : List ℕ) → runOf text 0 1 work events answers cache memory
+pub run-blocks : (text work events answers cache memory : List ℕ) → runOf Eager text 0 1 work events answers cache memory
     ≡ blocksRunOf text work events answers cache memory
 run-blocks text work events answers cache memory =
-    λ i. runWith (moves-blocks i) (rows-blocks (length work) i) text work events answers cache memory
+    λ i. runWith Eager (moves-blocks i) (rows-blocks (length work) i) text work events answers cache memory
 
 -- the formulas of document 01
 pub record InBlocks (t : Task) (s : Sheet) : Type 0 where

@@ -7,6 +7,7 @@ use mathlib.Core.Path.{_≡_, refl, ap, sym, _∙_}
 use native.Mathlib.Omega.{arith}
 use lib.Dec.{T, eqb, eqb-refl}
 use lib.ListN.{length, set, length-set}
+use Rattle.model.specs.declared.Eviction.{Eviction}
 use Rattle.model.specs.declared.Point.{Point}
 use Rattle.model.specs.declared.Point.the-variants.{Load, Store, Call, Ensure, Goto, Either, Return}
 use Rattle.model.specs.Task.{Task, size, count, func, point}
@@ -201,8 +202,8 @@ module _ (t : Task) (s : Sheet) (w : WellFormed t) (r : Sound t s) where
   window-start h c u = window-reserve [] c 0 h (room-start h c u) u
 
 -- an idle core has no frames
-pub window-idle : (t : Task) (s : Sheet) (cache memory : List ℕ) → length cache ≡ t .stack → longest t 0 ≤ length memory
-    → Window t s [] (idle cache memory)
+pub window-idle : (t : Task) (s : Sheet) (x : Eviction) (cache memory : List ℕ) → length cache ≡ t .stack → longest t 0 ≤ length memory
+    → Window t s [] (idle x cache memory)
 unfolding total Needed
-window-idle t s cache memory j k =
+window-idle t s x cache memory j k =
     record { top = omega arith; blocks = j; room = k; inside = omega arith; fits = omega arith; needed = tt }

@@ -115,7 +115,7 @@ module _ {price : Price} {w : List ℕ} {h : Header} {x : State} {cache memory :
   at-within = omega (arith, top-in .at-in, size-is w h (x .f) fn-within)
 
   pub runs-good : Good (coreOf (x .machine) cache memory)
-  runs-good = window-good t (sheetAt price t) _ _ (formed .shaped .stack-low) (runs-top .window)
+  runs-good = window-good t (sheetAt price t) _ _ (formed .shaped .stack-low) (runs-top .window) (runs-top .clean)
 
   pub runs-cache : length cache ≤ mostStack
   runs-cache = omega (arith, runs-top .window .blocks, formed .shaped .stack-high)

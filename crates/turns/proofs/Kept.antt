@@ -6,12 +6,13 @@ use mathlib.Core.Path.{_≡_, refl, ap, sym, subst, _∙_}
 use native.Mathlib.Omega.{arith}
 use lib.ListN.{length}
 use Rattle.model.specs.Limits.{mostStack}
+use Rattle.model.specs.declared.Eviction.{Eviction}
 use Rattle.model.specs.declared.Point.{Point}
 use Rattle.model.specs.declared.Point.the-variants.{Load, Store, Call, Ensure, Goto, Either, Return}
 use Rattle.model.specs.Refusal.{eventRows}
 use Rattle.model.specs.Task.{Task, func, point}
 use Rattle.model.specs.Walk.{called}
-use Rattle.model.specs.Core.{Core, idle}
+use Rattle.model.specs.Core.{Core, Clean, idle}
 use Rattle.model.specs.Figures as model
 use Rattle.model.specs.Sheet.{Sheet}
 use Rattle.model.specs.Plain.{Frame, Act, takes, preempted, afterEvent, firstFrames}
@@ -22,6 +23,7 @@ use Rattle.theory.specs.Sound.{Sound}
 use Rattle.theory.proofs.Links.{callee-later}
 use Rattle.theory.proofs.Frames.{places, In, Standing, Window}
 use Rattle.theory.proofs.Window.{ensures-frame, window-idle}
+use Rattle.theory.proofs.Clean.{effective-between, clean-idle}
 use Rattle.theory.proofs.Fair.{Running, fair-event, runs-start}
 use Rattle.theory.proofs.Lawful.{sound}
 use Rattle.theory.proofs.Prices.{price-moves}
@@ -66,29 +68,29 @@ none-moved : (t : Task) (u : run.Turn) → u .out ≡ 0 → u .back ≡ 0 → Fe
 none-moved t u i j = record { out = omega arith; back = omega arith }
 
 module _ (t : Task) (s : Sheet) (f : WellFormed t) where
-  few-step : (x : Frame) (fs : List Frame) (c : Core) (y : Point) (v : ℕ) → point (func t (x .fn)) (x .at) ≡ y → In t x → Window t s (x ∷ fs) c
+  few-step : (x : Frame) (fs : List Frame) (c : Core) (y : Point) (v : ℕ) → point (func t (x .fn)) (x .at) ≡ y → In t x → Window t s (x ∷ fs) c → Clean c
       → Few t (stepTurn t (x .fn) (x .at) (places fs) c y v)
-  few-step x fs c (Load o) v e i w = none-moved t _ refl refl
-  few-step x fs c (Store o) v e i w = none-moved t _ refl refl
-  few-step x fs c (Call g) v e i w =
+  few-step x fs c (Load o) v e i w k = none-moved t _ refl refl
+  few-step x fs c (Store o) v e i w k = none-moved t _ refl refl
+  few-step x fs c (Call g) v e i w k =
       let l = callee-later (f .linked) (x .fn) (x .at) g (i .fn-in) (i .at-in) (ap called e) in
       record {
-        out = omega (arith, reserve-blocks c (func t g .frame) (omega (arith, w .fits, w .blocks)), f .shaped .frames g (l .1));
+        out = omega (arith, reserve-blocks c (func t g .frame) (k .within) (omega (arith, w .fits, w .blocks)), f .shaped .frames g (l .1));
         back = omega arith;
       }
-  few-step x fs c (Ensure k) v e i w = record {
+  few-step x fs c (Ensure n) v e i w k = record {
     out = omega arith;
-    back = omega (arith, ensure-blocks c k, ensures-frame t f x k i e, f .shaped .frames (x .fn) (i .fn-in));
+    back = omega (arith, ensure-blocks c n, ensures-frame t f x n i e, f .shaped .frames (x .fn) (i .fn-in));
   }
-  few-step x fs c (Goto q) v e i w = none-moved t _ refl refl
-  few-step x fs c (Either q r) v e i w = none-moved t _ refl refl
-  few-step x fs c Return v e i w = none-moved t _ refl refl
+  few-step x fs c (Goto q) v e i w k = none-moved t _ refl refl
+  few-step x fs c (Either q r) v e i w k = none-moved t _ refl refl
+  few-step x fs c Return v e i w k = none-moved t _ refl refl
 
-  few-event : (fs : List Frame) (c : Core) (a : Act) → Standing t fs → Window t s fs c → Few t (turn t s (record { frames = places fs; core = c }) a)
+  few-event : (fs : List Frame) (c : Core) (a : Act) → Standing t fs → Window t s fs c → Clean c → Few t (turn t s (record { frames = places fs; core = c }) a)
   unfolding turn places
-  few-event [] c a j w = none-moved t _ refl refl
-  few-event (x ∷ fs) c (takes v) (Standing.runs i b) w = few-step x fs c (point (func t (x .fn)) (x .at)) v refl i w
-  few-event (x ∷ fs) c (preempted v) (Standing.runs i b) w = record { out = omega (arith, w .fits); back = omega (arith, w .fits) }
+  few-event [] c a j w k = none-moved t _ refl refl
+  few-event (x ∷ fs) c (takes v) (Standing.runs i b) w k = few-step x fs c (point (func t (x .fn)) (x .at)) v refl i w k
+  few-event (x ∷ fs) c (preempted v) (Standing.runs i b) w k = record { out = omega (arith, w .fits, effective-between c k); back = omega (arith, w .fits) }
 
 module _ {price : Price} {w : List ℕ} {h : Header} {x : State} {cache memory : List ℕ} (k : Runs price w h x cache memory) {a : Act} {r : Turned}
     {w′ cache′ memory′ : List ℕ} (u : Turns price w h x cache memory a r w′ cache′ memory′) where
@@ -123,7 +125,7 @@ module _ {price : Price} {w : List ℕ} {h : Header} {x : State} {cache memory :
       let m = k .bounded .figured .settled .formed in
       let o = coreOf (x .machine) cache memory in
       let f = fair-event t (sheetAt price t) m (k .sound) (k .frames) o a (k .running .standing) (k .running) in
-      let n = few-event t (sheetAt price t) m (k .frames) o a (k .running .standing) (k .running .window) in
+      let n = few-event t (sheetAt price t) m (k .frames) o a (k .running .standing) (k .running .window) (k .running .clean) in
       let e = task-stays (omega arith) (k .bounded .figured .settled .holds) (stays-bounds (u .stays)) in
       let fs = afterEvent t (k .frames) a in
       let c = coreOf (r .state .machine) cache′ memory′ in
@@ -150,16 +152,16 @@ pub record FirstState (price : Price) (w : List ℕ) (h : Header) (x : State) (c
   pub runs : Runs price w h x cache memory
   pub frames : runs .frames ≡ firstFrames (taskOf w h)
 
-pub begins : {price : Price} {w : List ℕ} {h : Header} {x : State} (cache memory : List ℕ) → Bounded price w h → Started w h (length memory) x
+pub begins : {price : Price} {w : List ℕ} {h : Header} {x : State} (e : Eviction) (cache memory : List ℕ) → Bounded price w h → Started e w h (length memory) x
     → length cache ≡ h .stack
     → model.longest (taskOf w h) 0 ≤ length memory → FirstState price w h x cache memory
 unfolding places
-begins {price} {w} {h} {x} cache memory k a i j =
+begins {price} {w} {h} {x} y cache memory k a i j =
     let t = taskOf w h in
     let f = k .figured .settled .formed in
     let s = sound t f (priceOf price) (price-moves (price .start) (price .each)) in
     let e = a cache memory i refl in
-    let r = runs-start t (sheetAt price t) f s (f .shaped .some) (idle cache memory) (window-idle t (sheetAt price t) cache memory i j) in
+    let r = runs-start t (sheetAt price t) f s (f .shaped .some) (idle y cache memory) (window-idle t (sheetAt price t) y cache memory i j) (clean-idle y cache memory) in
     record {
       runs = record {
         bounded = k;

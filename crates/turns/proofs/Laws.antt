@@ -7,6 +7,8 @@ use native.Mathlib.Omega.{arith}
 use types.Run.{OneOf, miss}
 use denote.Enum.Declared.{tagOf}
 use Rattle.model.proofs.Point as P
+use Rattle.model.specs.declared.Eviction.{Eviction}
+use Rattle.model.specs.declared.Eviction.the-variants.{Eager, Lazy}
 use Rattle.model.specs.declared.Point.{Point}
 use Rattle.model.specs.declared.Point.the-variants.{Load, Store, Call, Ensure, Goto, Either, Return}
 use Rattle.model.specs.Refusal.{isEither}
@@ -22,7 +24,8 @@ use Rattle.tables.proofs.Laws.{count-is, frame-is}
 use Rattle.tables.proofs.Valid.{kept-same}
 use Rattle.prices.specs.declared.Price.{Price}
 use Rattle.machine.specs.declared.Machine.{Machine}
-use Rattle.machine.specs.Moves.{Entered}
+use Rattle.machine.specs.Moves.{evictionOf, withEviction, coreOf, Entered}
+use Rattle.machine.proofs.Laws.{entered-with}
 use Rattle.steps.specs.declared.State.{State}
 use Rattle.steps.specs.declared.Turned.{Turned}
 use Rattle.steps.specs.Frames.{framesEnd, placesIn}
@@ -53,12 +56,25 @@ module _ {w : List ℕ} {h : Header} (k : Settled w h) where
       let f = first-frame s e in
       (omega (arith, f, t .shaped .frames 0 c), omega (arith, f, frame-room (taskOf w h) t 0 c))
 
-  pub start-is : (s : Span) (m : Machine) (n : ℕ) → s ≡ spanAt w 0 → Entered (h .stack) (s .frame) n m
-      → Started w h n (record { depth = 1; f = 0; p = 0; machine = m })
+  -- x: the eviction; l, the number that the machine has for it
+  pub start-is : (x : Eviction) (s : Span) (l : ℕ) (m r : Machine) (n : ℕ) → s ≡ spanAt w 0 → evictionOf l ≡ x → Entered Eager (h .stack) (s .frame) n m
+      → ((cache memory : List ℕ) → coreOf r cache memory ≡ withEviction (evictionOf l) (coreOf m cache memory))
+      → Started x w h n (record { depth = 1; f = 0; p = 0; machine = r })
   unfolding placesIn
-  start-is s m n e a cache memory i j =
-      let core = a cache memory i j ∙ ap (λ (z : ℕ). reserve z (idle cache memory) .core) (first-frame s e) in
+  start-is x s l m r n e y a b cache memory i j =
+      let f = k .formed .shaped .frames 0 (k .formed .shaped .some) in
+      let a′ = entered-with m r (evictionOf l) Eager (h .stack) (s .frame) n (omega (arith, f, first-frame s e)) a b in
+      let core = a′ cache memory i j ∙ (λ z. reserve (first-frame s e z) (idle (y z) cache memory) .core) in
       λ z. record { frames = record { fn = 0; at = 0 } ∷ []; core = core z }
+
+-- the number of an eviction
+pub number-eager : (x : Eviction) → x ≡ Eager → evictionOf 0 ≡ x
+unfolding evictionOf
+number-eager x e = rw e refl
+
+pub number-lazy : (x : Eviction) → x ≡ Lazy → evictionOf 1 ≡ x
+unfolding evictionOf
+number-lazy x e = rw e refl
 
 -- ---- rows
 

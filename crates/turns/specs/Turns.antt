@@ -3,6 +3,7 @@ use Prim.Native.Nat.{ℕ, _+_, _<_}
 use mathlib.Core.List.{List}
 use mathlib.Core.Path.{_≡_}
 use lib.ListN.{length}
+use Rattle.model.specs.declared.Eviction.{Eviction}
 use Rattle.model.specs.declared.Point.{Point}
 use Rattle.model.specs.Task.{func, point}
 use Rattle.model.specs.Core.{idle}
@@ -60,10 +61,10 @@ pub record Turns (price : Price) (w : List ℕ) (h : Header) (x : State) (cache 
   pub bound : (fs : List Frame) → framesOf w x ≡ places fs → r .bound ≡ eventBound (taskOf w h) (sheetAt price (taskOf w h)) fs a
   pub stays : Stays w w′
 
--- function 0 has been entered, on any cache of the task's size and any memory of this many numbers
-abbrev pub Started : List ℕ → Header → ℕ → State → Type 0
-Started w h numbers x =
-    (cache memory : List ℕ) → length cache ≡ h .stack → length memory ≡ numbers → stateOf w x cache memory ≡ freshState (taskOf w h) (idle cache memory)
+-- function 0 has been entered on the core that evicts so, with any cache of the task's size and any memory of this many numbers
+abbrev pub Started : Eviction → List ℕ → Header → ℕ → State → Type 0
+Started e w h numbers x =
+    (cache memory : List ℕ) → length cache ≡ h .stack → length memory ≡ numbers → stateOf w x cache memory ≡ freshState (taskOf w h) (idle e cache memory)
 
 -- the running frame of a run stands at point y of s
 pub record StandsAt (price : Price) (w : List ℕ) (h : Header) (x : State) (cache memory : List ℕ) (s : Span) (y : Point) : Type 0 where

@@ -7,10 +7,12 @@ ghost use Rattle.model.specs.Refusal.{isEither, eventRows};
 ghost use Rattle.model.specs.Run.{runningPlace};
 ghost use Rattle.tables.specs.Tables.{taskOf};
 ghost use Rattle.tables.specs.Valid.{Settled};
+ghost use Rattle.machine.specs.Moves.{evictionOf};
 ghost use Rattle.steps.specs.Frames.{framesOf};
 ghost use Rattle.steps.specs.Steps.{Stays, Steps};
 ghost use Rattle.turns.specs.Turns.{Runs, Placed, Turns, actOf, Started, StandsAt};
 use machine::Machine;
+use model::Eviction;
 use model::Point;
 use model::Refusal;
 use model::Row;
@@ -48,13 +50,25 @@ fn step(
     }
 }
 
-// Function 0 has been entered on a memory of this length.
-pub fn start(work: &[u32], h: Header, length: usize) -> State
+// The eviction as the number that a machine has.
+fn lazy_of(eviction: Eviction) -> usize
+    ensures { λ r. ⌜ evictionOf r ≡ eviction ⌝ }
+{
+    match eviction {
+        Eviction::Eager => 0,
+        Eviction::Lazy => 1,
+    }
+}
+
+// Function 0 has been entered on a memory of this length, on the core that evicts so.
+pub fn start(work: &[u32], h: Header, eviction: Eviction, length: usize) -> State
     requires { ⌜ Settled (now work) h × (longest (taskOf (now work) h) 0 ≤ length) ⌝ }
-    ensures { λ r. ⌜ Started (now (work .entry)) h length r ⌝ }
+    ensures { λ r. ⌜ Started eviction (now (work .entry)) h length r ⌝ }
 {
     let s = tables::span_at(work, 0);
-    let machine = Machine::fresh(h.stack, s.frame, length);
+    let lazy = lazy_of(eviction);
+    let fresh = Machine::fresh(h.stack, s.frame, length);
+    let machine = fresh.evicting(lazy);
     State {
         depth: 1,
         f: 0,

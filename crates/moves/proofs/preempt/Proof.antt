@@ -3,6 +3,7 @@ use native.Mathlib.Omega.{arith}
 use borrow.Author.Needs.{needs}
 use Rattle.figures.specs.Columns.{deadColumn, needColumn}
 use Rattle.bounds.specs.Bounds.{costBounds}
+use Rattle.machine.proofs.Kept.{written-few}
 use Rattle.moves.proofs.Laws.{preempt-does, read-inside, dead-inside, need-inside, cost-inside}
 use Rattle.moves.proofs.preempt.Statement.{statement}
 use Rattle.moves.proofs.preempt.Tie as tie
@@ -11,7 +12,7 @@ moves-price-requires : tie.Need-moves-price-requires
 moves-price-requires c κs =
     let p = c .before .before .before .before .before .before .before .before .before .before .before .before .before .before .before .pre in
     let e = c .before .before .before .before .before .preempt .ensures in
-    (p .0 .bounded .figured .small, omega (arith, e .out, p .1 .fits, p .2), omega (arith, e .back, p .1 .fits, p .2))
+    (p .0 .bounded .figured .small, omega (arith, e .out, written-few _ (p .1), p .1 .fits, p .2), omega (arith, e .back, p .1 .fits, p .2))
 
 returns : tie.Need-returns
 returns c =

@@ -6,14 +6,15 @@ use lib.ListN.{length}
 use borrow.Author.Needs.{needs}
 use Rattle.model.specs.Limits.{mostEventNumbers}
 use Rattle.prices.specs.Prices.{mostPrice}
+use Rattle.machine.specs.Moves.{evictionOf}
 use Rattle.turns.proofs.Given.{runs-placed}
-use Rattle.run.proofs.Loop.{mostBound, Loops, loops-start, loops-end, loops-off, loops-more, loops-on}
+use Rattle.run.proofs.Loop.{mostBound, Loops, loops-start, serves-as, loops-end, loops-off, loops-more, loops-on}
 use Rattle.run.proofs.run_events.Statement.{statement}
 use Rattle.run.proofs.run_events.Tie as tie
 
 abbrev Inv-loop : tie.InvT-loop
 Inv-loop events answers₀ cache₀ memory₀ work₀ h price x₀ count moved₀ allowed₀ i₀ answers cache memory work x moved allowed i =
-    Loops price h events answers₀ cache₀ memory₀ work₀ i x moved allowed answers cache memory work
+    Loops (evictionOf (x₀ .machine .lazy)) price h events answers₀ cache₀ memory₀ work₀ i x moved allowed answers cache memory work
     × (i ≤ count)
     × (length cache ≡ length cache₀)
     × (length memory ≡ length memory₀)
@@ -36,10 +37,13 @@ bounds l =
 
 returns : tie.Need-returns Inv-loop μ-loop
 returns c =
-    loops-off (c .before .before .before .before .before .before .before .before .before .loop .inv .0) _ (bounds
+    let s = c .before .before .before .before .before .before .before .before .before .before in
+    let a = s .before .before .before .before .before .before .before in
+    serves-as (a .args .eviction) (s .start .result) (a .pre) (s .start .ensures)
+    (loops-off (c .before .before .before .before .before .before .before .before .before .loop .inv .0) _ (bounds
     (c .before .before .before .before .before .before .before .before) .0)
     (c .before .before .before .before .before .before .before .before .before .before .before .before .before .before .before .before .before .pre
-    .answered) (c .before .before .r .given .1) (c .before .before .before .before .event-row .ensures) (c .ended .ensures)
+    .answered) (c .before .before .r .given .1) (c .before .before .before .before .event-row .ensures) (c .ended .ensures))
 
 turn-requires : tie.Need-turn-requires Inv-loop μ-loop
 turn-requires c κs = loops-more (c .before .before .before .before .before .before .before .before .before .before .loop .inv .0) _ _
@@ -69,8 +73,11 @@ loop-again c =
 returns-2 : tie.Need-returns-2 Inv-loop μ-loop
 returns-2 c =
     let k = c .before .before .loop .inv in
-    let p = c .before .before .before .before .before .before .before .before .before .before .pre in
-    loops-end (k .0) (p .paired) (p .answered) (omega (arith, k .1, c .before .loop-test .left)) (c .ended2 .ensures)
+    let s = c .before .before .before in
+    let a = s .before .before .before .before .before .before .before in
+    let p = a .pre in
+    serves-as (a .args .eviction) (s .start .result) p (s .start .ensures)
+    (loops-end (k .0) (p .paired) (p .answered) (omega (arith, k .1, c .before .loop-test .left)) (c .ended2 .ensures))
 
 pub run-events-spec : {M : Type 1} → statement M
 run-events-spec =
@@ -79,7 +86,13 @@ run-events-spec =
     Inv-loop
     μ-loop
     (λ c κs. (c .before .before .before .before .before .before .pre .bounded .figured .settled, c .before .before .before .before .before .before .pre .room))
-    (λ c. (loops-start (c .before .before .before .before .before .before .before .pre) (c .start .ensures), omega arith, refl, refl))
+    (λ c. (
+      loops-start (c .before .before .before .before .before .before .before .args .eviction) (c .start .result)
+          (c .before .before .before .before .before .before .before .pre) (c .start .ensures),
+      omega arith,
+      refl,
+      refl,
+    ))
     (λ c. omega arith)
     (λ c. omega arith)
     (λ c. omega arith)

@@ -14,7 +14,7 @@ use Rattle.running.proofs.run_task.Statement.{statement}
 use Rattle.running.proofs.run_task.Tie as tie
 
 returns : tie.Need-returns
-returns c = unfit _ _ _ _ _ (c .before .before .before .before .buffer-row .ensures) _ (c .before .before .r .given .1) (c .refused .ensures)
+returns c = unfit _ _ _ _ _ _ (c .before .before .before .before .buffer-row .ensures) _ (c .before .before .r .given .1) (c .refused .ensures)
 
 func-figures-requires : tie.Need-func-figures-requires
 func-figures-requires c κs = let f = c .before .before .before .figure-task .ensures .0 in (f, some-func f)
@@ -24,7 +24,7 @@ returns-2 c =
     let f = c .before .before .before .before .before .before .figure-task .ensures in
     let s = cleared-same (c .before .before .before .before .before .before .before .before .before .before .before .before .before .before .before
     .before .pre .1) (kept-later (workLength - columnsEnd) (f .2)) in
-    too-little _ _ _ _ _ (c .before .before .before .before .before .before .before .before .before .before .buffer-row .ensures)
+    too-little _ _ _ _ _ _ (c .before .before .before .before .before .before .before .before .before .before .buffer-row .ensures)
     (c .before .before .before .before .before .before .before .before .enum-told .given .1) (f .1) (c .before .before .func-figures .ensures) s
     (omega (arith, c .before .if1 .taken)) (c .refused2 .ensures)
 
@@ -49,7 +49,7 @@ returns-3 c =
     let s = cleared-same p (kept-later (workLength - columnsEnd) (f .2)) in
     let u = cleared-same (omega (arith, p, f .2 .size)) (kept-later (workLength - boundsEnd) (b .2)) in
     let d = cleared-same (omega (arith, p, f .2 .size, b .2 .size)) (kept-later (workLength - framesEnd) (r .kept)) in
-    all-run _ _ _ _ _ (c20 .before .before .before .before .before .before .buffer-row .ensures)
+    all-run _ _ _ _ _ _ (c20 .before .before .before .before .before .before .buffer-row .ensures)
     (c20 .before .before .before .before .enum-told .given .1) (f .1)
     (c10 .before .before .before .before .before .before .before .before .func-figures .ensures) (u ∙ s) (b .1)
     (omega (arith, c10 .before .before .before .before .before .before .before .if1 .left)) r d

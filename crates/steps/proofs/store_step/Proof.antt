@@ -1,4 +1,4 @@
--- The number goes to the cache.
+-- The number goes to the cache, and the machine is what the store leaves.
 use mathlib.Core.Path.{refl}
 use native.Mathlib.Omega.{arith}
 use borrow.Author.Needs.{needs}
@@ -10,7 +10,10 @@ returns : tie.Need-returns
 returns c =
     let l = c .before .before .before .before in
     let s = l .before .before .before .before in
-    λ z t w memory. plain-does z (s .args .x) _ _ _ _ _ w _ memory _ (s .pre .some) (c .onwards .ensures) (omega arith) refl (l .store .ensures memory)
+    let x = s .args .x in
+    λ z t w memory.
+    plain-does z (record { depth = x .depth; f = x .f; p = x .p; machine = l .store .result }) _ _ _ _ _ w _ memory _ (s .pre .some) (c .onwards .ensures)
+    (omega arith) refl (l .store .ensures memory)
 
 pub store-step-spec : {M : Type 1} → statement M
 store-step-spec = tie.close (tie.spec (λ c κs. search needs) (λ c. search needs) (λ c κs. search needs) (λ c. search needs) returns)

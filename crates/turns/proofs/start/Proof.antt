@@ -4,10 +4,19 @@ use Rattle.turns.proofs.Laws.{start-room, start-is}
 use Rattle.turns.proofs.start.Statement.{statement}
 use Rattle.turns.proofs.start.Tie as tie
 
+returns : tie.Need-returns
+returns c =
+    let f = c .before in
+    let s = f .before .before in
+    start-is (s .before .before .pre .0) _ _ _ (f .fresh .result) _ _ (s .span-at .ensures) (f .before .lazy-of .ensures) (f .fresh .ensures)
+    (c .evicting .ensures)
+
 pub start-spec : {M : Type 1} → statement M
 start-spec =
     tie.close
     (tie.spec
     (λ c κs. search needs)
-    (λ c κs. start-room (c .before .before .pre .0) _ _ (c .span-at .ensures) (c .before .before .pre .1))
-    (λ c. start-is (c .before .before .before .pre .0) _ _ _ (c .before .span-at .ensures) (c .fresh .ensures)))
+    (λ c κs. search needs)
+    (λ c κs. start-room (c .before .before .before .pre .0) _ _ (c .before .span-at .ensures) (c .before .before .before .pre .1))
+    (λ c κs. search needs)
+    returns)

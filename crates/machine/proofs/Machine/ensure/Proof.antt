@@ -12,7 +12,7 @@ unfolding ensure
 returns c =
     let p = c .before .before .before in
     let q = p .before .before .before in
-    does _ _ _ _ refl (c .ensured-to .ensures)
+    does _ _ _ _ refl (c .ensured-to .ensures) refl refl
     (fill-back _ _ _ _ _ _ _ _ refl (q .ensure-moves .ensures) (p .fill .ensures))
     refl
     (q .ensure-moves .ensures)

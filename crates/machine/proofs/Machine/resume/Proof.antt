@@ -1,4 +1,4 @@
--- The blocks that the point needs come back, from the lowest live offset up.
+-- The blocks that the point needs come back, from the lowest live offset up; LP is there.
 use mathlib.Core.Path.{refl}
 use native.Mathlib.Omega.{arith}
 use borrow.Author.Needs.{needs}
@@ -12,7 +12,7 @@ unfolding resume
 returns c =
     let p = c .before .before .before in
     let q = p .before .before .before in
-    does _ _ _ _ refl (c .resumed .ensures)
+    does _ _ _ _ refl (c .resumed .ensures) (q .before .saved-from .ensures) refl
     (fill-back _ _ _ _ _ _ _ _ (q .before .saved-from .ensures) (q .resume-moves .ensures) (p .fill .ensures))
     refl
     (q .resume-moves .ensures)

@@ -1,0 +1,19 @@
+-- The parts of what a lazy run leaves, demand 3, and that its core is clean.
+use borrow.Author.Needs.{needs}
+use Rattle.services.proofs.Laws.{run-parts}
+use Rattle.services.proofs.run_lazy.Statement.{statement}
+use Rattle.services.proofs.run_lazy.Tie as tie
+
+returns : tie.Need-returns
+returns c = let r = c .before .before .before .before .before .before .before .before .run-on .ensures in run-parts (r .0) (r .1)
+
+pub run-lazy-spec : {M : Type 1} → statement M
+run-lazy-spec =
+    tie.close
+    (tie.spec
+    (λ c κs. search needs)
+    (λ c. search needs)
+    (λ c. search needs)
+    (λ c. search needs)
+    (λ c. search needs)
+    returns)
