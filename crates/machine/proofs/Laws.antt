@@ -1,8 +1,9 @@
 -- What the loops that move numbers do in one turn, the frame area as a part of the memory, and what the moves return.
-use Prim.Native.Nat.{ℕ, zero, suc, _+_, _-_, _%_, _≤_, _<_}
-use mathlib.Core.List.{List, _++_, append-nil}
+use Prim.Native.Nat.{ℕ, zero, suc, _+_, _-_, _%_, _≤_, _<_, max}
+use mathlib.Core.List.{List, [], _++_, append-nil}
 use mathlib.Core.Path.{_≡_, refl, ap, sym, _∙_}
-use native.Mathlib.Nat.{mod-add-mod, mod-eq-of-lt, mod-eq-sub-mod, add-assoc, add-zero}
+use native.Mathlib.Nat.{mod-add-mod, mod-eq-of-lt, mod-eq-sub-mod, mod-lt, mod-self, add-assoc, add-zero}
+use native.Mathlib.Decide.{decLt}
 use native.Mathlib.Numerals.{add-one}
 use native.Mathlib.Omega.{arith}
 use lib.ListN.{length, getD, set, take, drop, length-drop, take-append-drop, replicate, length-replicate}
@@ -14,7 +15,7 @@ use Rattle.model.specs.Core as core
 use Rattle.model.specs.Core.{Core, written, spilled, filled, reserved, resumeMoves, reserve, save, withCache, filledWith, resume}
 use Rattle.machine.specs.declared.Machine.{Machine}
 use Rattle.machine.specs.declared.Moved.{Moved}
-use Rattle.machine.specs.Moves.{evictionOf, withEviction, coreOf, Good, Does, Preempts, Entered, spilledArea}
+use Rattle.machine.specs.Moves.{evictionOf, withEviction, coreOf, OnCache, Good, Does, Preempts, Entered, spilledArea}
 use Rattle.machine.proofs.Kept.{start-memory, save-good, between-good}
 
 -- ---- blocks
@@ -23,10 +24,36 @@ use Rattle.machine.proofs.Kept.{start-memory, save-good, between-good}
 pub wrap-none : (s b o : ℕ) → b + o < s → (b + o ≡ (b + o) % s) × (b + o < s)
 wrap-none s b o h = (sym (mod-eq-of-lt h), h)
 
-pub wrap-once : (s b o : ℕ) → b < s → o ≤ s → s ≤ b + o → (b - (s - o) ≡ (b + o) % s) × (b - (s - o) < s)
-wrap-once s b o h k l =
-    let e : b - (s - o) ≡ b + o - s = omega arith in
-    (e ∙ sym (mod-eq-sub-mod l ∙ mod-eq-of-lt (omega arith)), omega arith)
+pub wrap-once : (s b o : ℕ) → b < s → o ≤ s → s ≤ b + o → (b + o - s ≡ (b + o) % s) × (b + o - s < s)
+wrap-once s b o h k l = (sym (mod-eq-sub-mod l ∙ mod-eq-of-lt (omega arith)), omega arith)
+
+pub wraps-to-first : (s b : ℕ) → b + 1 ≡ s → 0 < s → (0 ≡ (b + 1) % s) × (0 < s)
+wraps-to-first s b e h = (sym (ap (λ (n : ℕ). n % s) e ∙ mod-self s), h)
+
+-- the block of x, from that of x + o
+module _ (s b o x : ℕ) (h : b < s) (k : o ≤ s) (e : b ≡ (x + o) % s) where
+  from-below : b ≡ (x % s + o) % s
+  from-below = e ∙ sym (mod-add-mod x s o)
+
+  pub back-wraps : b < o → b + (s - o) ≡ x % s
+  back-wraps l =
+      let m = mod-lt x {m = s} (omega arith) in
+      elim (decLt (x % s + o) s) [
+        | yes j ↦ let z = from-below ∙ mod-eq-of-lt j in absurd (omega (arith, z))
+        | no j ↦ let z = from-below ∙ sym (wrap-once s (x % s) o m k (omega arith) .0) in omega (arith, z)
+      ]
+
+  pub back-stays : o ≤ b → b - o ≡ x % s
+  back-stays l =
+      let m = mod-lt x {m = s} (omega arith) in
+      elim (decLt (x % s + o) s) [
+        | yes j ↦ let z = from-below ∙ mod-eq-of-lt j in omega (arith, z)
+        | no j ↦ let z = from-below ∙ sym (wrap-once s (x % s) o m k (omega arith) .0) in absurd (omega (arith, z))
+      ]
+
+-- the block of an address o above ST
+pub top-after : (s st top o r : ℕ) → top ≡ st % s → r ≡ (top + o) % s → r ≡ (st + o) % s
+top-after s st top o r e g = g ∙ ap (λ (y : ℕ). (y + o) % s) e ∙ mod-add-mod st s o
 
 -- the first block of a loop, and the next one where it has passed i
 pub block-first : (s x r : ℕ) → r ≡ x % s → r ≡ (x + 0) % s
@@ -98,11 +125,25 @@ fill-back memory cache₀ cache st from k from′ k′ f g h = h ∙ (λ i. fill
 
 -- ---- what a move returns
 
+-- the block of ST is one of the cache
+pub top-in : {m : Machine} {cache : List ℕ} → OnCache m cache → m .top < length cache
+top-in {m} o = let l = mod-lt (m .st) (o .some) in omega (arith, l, o .top)
+
+-- ST before a reserve of k, by ST after it
+pub top-below : (s st top k : ℕ) → k ≤ st → top ≡ st % s → top ≡ (st - k + k) % s
+top-below s st top k h e = let z : st ≡ st - k + k = omega arith in e ∙ ap (λ (n : ℕ). n % s) z
+
+-- a machine stands on a cache by its ST and its block, and by the length of the cache
+pub on-as : {m r : Machine} {cache cache′ : List ℕ} → OnCache m cache → r .st ≡ m .st → r .top ≡ m .top → length cache′ ≡ length cache → OnCache r cache′
+on-as o e f g = record { some = rw g (o .some); few = rw g (o .few); top = f ∙ o .top ∙ (λ i. sym e i % sym g i) }
+
 pub does : (r : Moved) (cache memory : List ℕ) (to : core.Moved) → r .machine .st ≡ to .core .st → r .machine .occupancy ≡ to .core .occupancy
-    → r .machine .pointer ≡ to .core .pointer → evictionOf (r .machine .lazy) ≡ to .core .eviction → cache ≡ to .core .cache → memory ≡ to .core .memory → r .blocks ≡ to .blocks → Does r cache memory to
-does r cache memory to a b p x c d e =
+    → r .machine .pointer ≡ to .core .pointer → evictionOf (r .machine .lazy) ≡ to .core .eviction → cache ≡ to .core .cache → memory ≡ to .core .memory
+    → OnCache (r .machine) cache → r .blocks ≡ to .blocks → Does r cache memory to
+does r cache memory to a b p x c d o e =
     record {
       core = λ i. record { st = a i; occupancy = b i; pointer = p i; eviction = x i; cache = c i; memory = d i };
+      on = o;
       blocks = e;
     }
 
@@ -113,33 +154,37 @@ zero-eager = refl
 
 -- a fresh machine, whose entry moves nothing
 pub entered : (m : Machine) (x : Eviction) (stack frame numbers : ℕ) → frame ≤ stack → m .st ≡ numbers - frame → m .occupancy ≡ reserved stack frame 0
-    → m .pointer ≡ reserved stack frame 0 → evictionOf (m .lazy) ≡ x → Entered x stack frame numbers m
+    → m .pointer ≡ reserved stack frame 0 → evictionOf (m .lazy) ≡ x → m .top ≡ m .st % stack → Entered x stack frame numbers m
 unfolding reserve
-entered m x stack frame numbers h a b p y cache memory e g =
-    λ i.
-    record {
-      st = (a ∙ ap (λ (n : ℕ). n - frame) (sym g)) i;
-      occupancy = (b ∙ ap (λ (s : ℕ). reserved s frame 0) (sym e)) i;
-      pointer = (p ∙ ap (λ (s : ℕ). reserved s frame 0) (sym e)) i;
-      eviction = y i;
-      cache = cache;
-      memory = sym (start-memory x cache memory frame (omega arith)) i;
-    }
+entered m x stack frame numbers h a b p y t = record {
+  core = λ cache memory e g i. record {
+    st = (a ∙ ap (λ (n : ℕ). n - frame) (sym g)) i;
+    occupancy = (b ∙ ap (λ (s : ℕ). reserved s frame 0) (sym e)) i;
+    pointer = (p ∙ ap (λ (s : ℕ). reserved s frame 0) (sym e)) i;
+    eviction = y i;
+    cache = cache;
+    memory = sym (start-memory x cache memory frame (omega arith)) i;
+  };
+  top = t;
+}
 
 -- and one that writes back otherwise
 pub entered-with : (m r : Machine) (x y : Eviction) (stack frame numbers : ℕ) → frame ≤ stack → Entered y stack frame numbers m
-    → ((cache memory : List ℕ) → coreOf r cache memory ≡ withEviction x (coreOf m cache memory)) → Entered x stack frame numbers r
+    → ((cache memory : List ℕ) → coreOf r cache memory ≡ withEviction x (coreOf m cache memory)) × (r .top ≡ m .top) → Entered x stack frame numbers r
 unfolding reserve
-entered-with m r x y stack frame numbers h a b cache memory e g =
-    b cache memory ∙ ap (withEviction x) (a cache memory e g)
-    ∙ (λ i. record {
-      st = length memory - frame;
-      occupancy = reserved (length cache) frame 0;
-      pointer = reserved (length cache) frame 0;
-      eviction = x;
-      cache = cache;
-      memory = (start-memory y cache memory frame (omega arith) ∙ sym (start-memory x cache memory frame (omega arith))) i;
-    })
+entered-with m r x y stack frame numbers h a b = record {
+  core = λ cache memory e g.
+      b .0 cache memory ∙ ap (withEviction x) (a .core cache memory e g)
+      ∙ (λ i. record {
+        st = length memory - frame;
+        occupancy = reserved (length cache) frame 0;
+        pointer = reserved (length cache) frame 0;
+        eviction = x;
+        cache = cache;
+        memory = (start-memory y cache memory frame (omega arith) ∙ sym (start-memory x cache memory frame (omega arith))) i;
+      });
+  top = b .1 ∙ a .top ∙ ap (λ (c : Core). c .st % stack) (sym (b .0 [] []));
+}
 
 -- what is written back, by the number that the machine has
 pub written-all : (n m : ℕ) → (n ≡ written (evictionOf 0) n m) × (n ≤ n)
@@ -150,6 +195,10 @@ pub written-below : (z n m : ℕ) → (z ≡ 0 → ⊥) → m ≤ n → (m ≡ w
 unfolding written evictionOf
 written-below zero n m h k = absurd (h refl)
 written-below (suc z) n m h k = (refl, k)
+
+-- what goes out of a preempted task: those to be written back that lie above the lowest live offset
+pub above-lowest : (e m g : ℕ) {e′ m′ : ℕ} → m ≡ m′ → e ≡ e′ → g ≡ max m e → g - e ≡ m′ - e′
+above-lowest e m g h k l = omega arith
 
 -- a cache filled to its end
 pub all-filled : (cache₀ cache : List ℕ) (v i : ℕ) → cache ≡ replicate i v ++ drop i cache₀ → i ≡ length cache₀
@@ -162,6 +211,10 @@ module _ (c : Core) (dead : ℕ) (r : Moved) (cache memory : List ℕ) (v : ℕ)
   between : Does r (c .cache) memory (save dead c) → cache ≡ filledWith v c
       → coreOf (r .machine) cache memory ≡ withCache (filledWith v c) (save dead c .core)
   between d e = λ i. withCache (e i) (d .core i)
+
+  -- the other task leaves the cache as long as it was
+  pub between-on : Does r (c .cache) memory (save dead c) → cache ≡ filledWith v c → OnCache (r .machine) cache
+  between-on d e = on-as (d .on) refl refl (ap length e ∙ length-replicate {A = ℕ} (length (c .cache)) v)
 
   pub between-halves : Good c → Does r (c .cache) memory (save dead c) → cache ≡ filledWith v c → Good (coreOf (r .machine) cache memory)
   unfolding save
@@ -176,6 +229,7 @@ module _ (c : Core) (dead : ℕ) (r : Moved) (cache memory : List ℕ) (v : ℕ)
   both-halves need r′ cache′ d e d′ =
       record {
         core = d′ .core ∙ ap (λ (x : Core). resume dead need x .core) (between d e);
+        on = d′ .on;
         out = d .blocks;
         back = d′ .blocks ∙ ap (λ (x : Core). resumeMoves dead need (x .occupancy)) (between d e);
       }

@@ -24,25 +24,26 @@ use Rattle.bounds.specs.Bounds.{costBounds, fillBounds, spillBounds, boundsEnd}
 use Rattle.machine.specs.declared.Moved.{Moved}
 use Rattle.machine.specs.declared.Preempted.{Preempted}
 use Rattle.machine.specs.Moves as machine
-use Rattle.machine.specs.Moves.{coreOf}
+use Rattle.machine.specs.Moves.{coreOf, OnCache}
 use Rattle.machine.proofs.Kept.{reserve-blocks}
 use Rattle.steps.specs.declared.State.{State}
 use Rattle.steps.specs.declared.Turned.{Turned}
 use Rattle.steps.specs.Frames.{framesEnd, putCaller, placesIn}
-use Rattle.steps.specs.Steps.{IsTurn, Steps}
+use Rattle.steps.specs.Steps.{Added, IsTurn, Steps}
 use Rattle.steps.proofs.Laws.{turn-on, caller-put}
 use Rattle.moves.specs.Moves.{IsPreemption, Inside, Enters}
 
 -- a step or a preemption that moves blocks, with the callers as they were
 moved-does : (price : Price) (x : State) (r : Turned) (p o b n : ℕ) (w cache memory : List ℕ) (c : Core) → 0 < x .depth → r .state .depth ≡ x .depth
     → r .state .f ≡ x .f
-    → r .state .p ≡ p → coreOf (r .state .machine) cache memory ≡ c → r .answer ≡ 0
-    → r .moved ≡ priceOf price o + priceOf price b → r .bound ≡ n
-    → IsTurn price r w cache memory (onwards (x .f) p (placesIn w (x .depth - 1)) c 0 o b) n
-moved-does price x r p o b n w cache memory c h d e f k a i l =
+    → r .state .p ≡ p → coreOf (r .state .machine) cache memory ≡ c → OnCache (r .state .machine) cache → r .answer ≡ 0
+    → Added (x .moved) (priceOf price o + priceOf price b) (r .state .moved) → Added (x .allowed) n (r .state .allowed)
+    → IsTurn price (x .moved) (x .allowed) r w cache memory (onwards (x .f) p (placesIn w (x .depth - 1)) c 0 o b) n
+moved-does price x r p o b n w cache memory c h d e f k z a i l =
     record {
       turn =
           turn-on r w cache memory _ _ _ _ _ _ _ (omega arith) e f (ap (λ (m : ℕ). placesIn w (m - 1)) d) k a;
+      on = z;
       moved = i;
       bound = l;
     }
@@ -51,53 +52,67 @@ moved-does price x r p o b n w cache memory c h d e f k a i l =
 call-does : (price : Price) (x : State) (r : Turned) (w w′ cache memory : List ℕ) (g o n : ℕ) (c : Core) → 0 < x .depth → x .depth ≤ mostFuncs
     → framesEnd ≤ length w
     → w′ ≡ putCaller w (x .depth - 1) (x .f) (x .p + 1) → r .state .depth ≡ x .depth + 1 → r .state .f ≡ g → r .state .p ≡ 0
-    → coreOf (r .state .machine) cache memory ≡ c → r .answer ≡ 0
-    → r .moved ≡ priceOf price o + priceOf price 0 → r .bound ≡ n
-    → IsTurn price r w′ cache memory (onwards g 0 (record { fn = x .f; at = suc (x .p) } ∷ placesIn w (x .depth - 1)) c 0 o 0) n
-call-does price x r w w′ cache memory g o n c h l u e d f p k a i b =
+    → coreOf (r .state .machine) cache memory ≡ c → OnCache (r .state .machine) cache → r .answer ≡ 0
+    → Added (x .moved) (priceOf price o + priceOf price 0) (r .state .moved) → Added (x .allowed) n (r .state .allowed)
+    → IsTurn price (x .moved) (x .allowed) r w′ cache memory (onwards g 0 (record { fn = x .f; at = suc (x .p) } ∷ placesIn w (x .depth - 1)) c 0 o 0) n
+call-does price x r w w′ cache memory g o n c h l u e d f p k z a i b =
     let m : r .state .depth - 1 ≡ suc (x .depth - 1) = omega arith in
     let q : x .p + 1 ≡ suc (x .p) = omega arith in
     let below =
     (λ z. placesIn (e z) (m z))
     ∙ caller-put w (x .depth - 1) (x .f) (x .p + 1) (omega arith)
     ∙ ap (λ (z : ℕ). record { fn = x .f; at = z } ∷ placesIn w (x .depth - 1)) q in
-    record { turn = turn-on r w′ cache memory _ _ _ _ _ _ _ (omega arith) f p below k a; moved = i; bound = b }
+    record { turn = turn-on r w′ cache memory _ _ _ _ _ _ _ (omega arith) f p below k a; on = z; moved = i; bound = b }
 
--- ---- the events that move blocks. moved: their price, and bound: what the sheet allows
+-- ---- the events that move blocks. cost: their price, and bound: what the sheet allows; moved and allowed: the totals with them
+
+added-as : (total part part′ sum : ℕ) → Added total part sum → part ≡ part′ → Added total part′ sum
+added-as total part part′ sum e f = (e .0 ∙ ap (λ (z : ℕ). total + z) f, e .1)
 
 -- the running frame of a call goes on behind the callee, which is entered; frame: that of the callee
-pub enters-does : (price : Price) (t : Task) (x : State) (e : Moved) (w w′ cache memory memory′ : List ℕ) {frame bound moved f : ℕ} (g v : ℕ)
+pub enters-does : (price : Price) (t : Task) (x : State) (e : Moved) (w w′ cache memory memory′ : List ℕ) {frame bound cost f moved allowed : ℕ} (g v : ℕ)
     → 0 < x .depth → x .depth ≤ mostFuncs → framesEnd ≤ length w → f ≡ g → frame ≡ func t g .frame → bound ≡ sheetAt price t .spill g
-    → moved ≡ priceOf price (e .blocks) + priceOf price 0
+    → cost ≡ priceOf price (e .blocks) + priceOf price 0 → Added (x .moved) cost moved → Added (x .allowed) bound allowed
     → w′ ≡ putCaller w (x .depth - 1) (x .f) (x .p + 1) → machine.Does e cache memory′ (reserve frame (coreOf (x .machine) cache memory))
     → Steps price t x (Call g) v w cache memory
-    (record { state = record { depth = x .depth + 1; f = f; p = 0; machine = e .machine }; answer = 0; moved = moved; bound = bound }) w′ cache memory′
-enters-does price t x e w w′ cache memory memory′ g v h l u k n b m a d =
+    (record {
+      state = record { depth = x .depth + 1; f = f; p = 0; machine = e .machine; moved = moved; allowed = allowed };
+      answer = 0;
+    }) w′ cache memory′
+enters-does price t x e w w′ cache memory memory′ g v h l u k n b m y z a d =
     let c = coreOf (x .machine) cache memory in
-    call-does price x _ w w′ cache memory′ g _ _ _ h l u a refl k refl (d .core ∙ ap (λ (z : ℕ). reserve z c .core) n) refl
-    (m ∙ ap (λ (z : ℕ). priceOf price z + priceOf price 0) (d .blocks ∙ ap (λ (z : ℕ). reserve z c .blocks) n)) b
+    call-does price x _ w w′ cache memory′ g _ _ _ h l u a refl k refl (d .core ∙ ap (λ (z : ℕ). reserve z c .core) n) (d .on) refl
+    (added-as _ _ _ _ y (m ∙ ap (λ (z : ℕ). priceOf price z + priceOf price 0) (d .blocks ∙ ap (λ (z : ℕ). reserve z c .blocks) n))) (added-as _ _ _ _ z b)
 
 -- an ensure, and a preemption, with the figures of the point
 module _ (price : Price) (t : Task) (x : State) (w cache memory cache′ : List ℕ) (v : ℕ) (h : 0 < x .depth) where
-  pub ensure-does : (e : Moved) {p bound moved : ℕ} (k : ℕ) → p ≡ suc (x .p) → bound ≡ sheetAt price t .at (x .f) (x .p) .fill
-      → moved ≡ priceOf price 0 + priceOf price (e .blocks) → machine.Does e cache′ memory (ensure k (coreOf (x .machine) cache memory))
+  pub ensure-does : (e : Moved) {p bound cost moved allowed : ℕ} (k : ℕ) → p ≡ suc (x .p) → bound ≡ sheetAt price t .at (x .f) (x .p) .fill
+      → cost ≡ priceOf price 0 + priceOf price (e .blocks) → Added (x .moved) cost moved → Added (x .allowed) bound allowed
+      → machine.Does e cache′ memory (ensure k (coreOf (x .machine) cache memory))
       → Steps price t x (Ensure k) v w cache memory
-      (record { state = record { depth = x .depth; f = x .f; p = p; machine = e .machine }; answer = 0; moved = moved; bound = bound }) w cache′ memory
-  ensure-does e k j b m d =
-      moved-does price x _ _ _ _ _ w cache′ memory _ h refl refl j (d .core) refl
-      (m ∙ ap (λ (z : ℕ). priceOf price 0 + priceOf price z) (d .blocks)) b
+      (record {
+        state = record { depth = x .depth; f = x .f; p = p; machine = e .machine; moved = moved; allowed = allowed };
+        answer = 0;
+      }) w cache′ memory
+  ensure-does e k j b m y z d =
+      moved-does price x _ _ _ _ _ w cache′ memory _ h refl refl j (d .core) (d .on) refl
+      (added-as _ _ _ _ y (m ∙ ap (λ (z : ℕ). priceOf price 0 + priceOf price z) (d .blocks))) (added-as _ _ _ _ z b)
 
-  pub preempt-does : (e : Preempted) (memory′ : List ℕ) {dead need bound moved : ℕ} → dead ≡ sheetAt price t .at (x .f) (x .p) .dead
+  pub preempt-does : (e : Preempted) (memory′ : List ℕ) {dead need bound cost moved allowed : ℕ} → dead ≡ sheetAt price t .at (x .f) (x .p) .dead
       → need ≡ sheetAt price t .at (x .f) (x .p) .need → bound ≡ sheetAt price t .at (x .f) (x .p) .cost
-      → moved ≡ priceOf price (e .out) + priceOf price (e .back) → machine.Preempts e cache′ memory′ dead need v (coreOf (x .machine) cache memory)
+      → cost ≡ priceOf price (e .out) + priceOf price (e .back) → Added (x .moved) cost moved → Added (x .allowed) bound allowed
+      → machine.Preempts e cache′ memory′ dead need v (coreOf (x .machine) cache memory)
       → IsPreemption price t x v w cache memory
-      (record { state = record { depth = x .depth; f = x .f; p = x .p; machine = e .machine }; answer = 0; moved = moved; bound = bound }) cache′ memory′
-  preempt-does e memory′ i j b m d =
+      (record {
+        state = record { depth = x .depth; f = x .f; p = x .p; machine = e .machine; moved = moved; allowed = allowed };
+        answer = 0;
+      }) cache′ memory′
+  preempt-does e memory′ i j b m y z d =
       let c = coreOf (x .machine) cache memory in
       let o = d .out ∙ ap (λ (z : ℕ). saveMoves z (c .occupancy) (effective c)) i in
       let k = d .back ∙ (λ l. resumeMoves (i l) (j l) (c .occupancy)) in
-      moved-does price x _ _ _ _ _ w cache′ memory′ _ h refl refl refl (d .core ∙ (λ l. preempt (i l) (j l) (filledWith v c) c)) refl
-      (m ∙ (λ l. priceOf price (o l) + priceOf price (k l))) b
+      moved-does price x _ _ _ _ _ w cache′ memory′ _ h refl refl refl (d .core ∙ (λ l. preempt (i l) (j l) (filledWith v c) c)) (d .on) refl
+      (added-as _ _ _ _ y (m ∙ (λ l. priceOf price (o l) + priceOf price (k l)))) (added-as _ _ _ _ z b)
 
 -- a point of a function has a small number
 pub inside-small : {price : Price} {w : List ℕ} {h : Header} {x : State} {s : Span} → Inside price w h x s → x .p < mostPoints

@@ -12,28 +12,29 @@ use Rattle.tables.specs.Tables.{spanAt, taskOf}
 use Rattle.prices.specs.declared.Price.{Price}
 use Rattle.figures.specs.Figured.{sheetAt}
 use Rattle.bounds.specs.Bounds.{Bounded}
-use Rattle.machine.specs.Moves.{coreOf, Good}
+use Rattle.machine.specs.Moves.{coreOf, OnCache, Good}
 use Rattle.steps.specs.declared.State.{State}
 use Rattle.steps.specs.declared.Turned.{Turned}
 use Rattle.steps.specs.Frames.{placesIn}
-use Rattle.steps.specs.Steps.{IsTurn}
+use Rattle.steps.specs.Steps.{IsTurn, Counts}
 
 -- a preemption at the point of the running frame of x, by a task that leaves v in every block
 abbrev pub IsPreemption : Price → Task → State → ℕ → (w cache memory : List ℕ) → Turned → (cache′ memory′ : List ℕ) → Type 0
 IsPreemption price t x v w cache memory r cache′ memory′ =
-    IsTurn price r w cache′ memory′
+    IsTurn price (x .moved) (x .allowed) r w cache′ memory′
     (preemptTurn (sheetAt price t) (x .f) (x .p) (placesIn w (x .depth - 1)) (coreOf (x .machine) cache memory) (replicate (length cache) v))
     (sheetAt price t .at (x .f) (x .p) .cost)
 
--- the running frame is at a point of its function, which is s
+-- the running frame is at a point of its function, which is s, and the totals have room
 pub record Inside (price : Price) (w : List ℕ) (h : Header) (x : State) (s : Span) : Type 0 where
   pub bounded : Bounded price w h
   pub some : 0 < x .depth
   pub fn-in : x .f < h .funcs
   pub span : s ≡ spanAt w (x .f)
   pub at-in : x .p < s .size
+  pub counts : Counts x
 
--- there is room for one more caller, and for the frame of function g below ST
+-- there is room for one more caller, for the frame of function g in the cache and below ST, and in the totals
 pub record Enters (price : Price) (w : List ℕ) (h : Header) (x : State) (cache memory : List ℕ) (g : ℕ) : Type 0 where
   pub bounded : Bounded price w h
   pub some : 0 < x .depth
@@ -41,5 +42,8 @@ pub record Enters (price : Price) (w : List ℕ) (h : Header) (x : State) (cache
   pub fn-in : x .f < h .funcs
   pub small : x .p < mostPoints
   pub callee : g < h .funcs
+  pub on : OnCache (x .machine) cache
   pub good : Good (coreOf (x .machine) cache memory)
+  pub fits : func (taskOf w h) g .frame ≤ length cache
   pub room : func (taskOf w h) g .frame ≤ x .machine .st
+  pub counts : Counts x

@@ -1,12 +1,12 @@
-// The events that move blocks between cache and memory: a call, an ensure and a preemption. Each has the price of what it moves, and what the sheet
-// allows it.
+// The events that move blocks between cache and memory: a call, an ensure and a preemption. Each adds the price of what it moves, and what the sheet
+// allows it, to the totals.
 ghost use Prim.Native.Nat.{ℕ, _+_, _≤_};
 ghost use lib.ListN.{length};
 ghost use Rattle.model.specs.declared.Point.the-variants.{Call, Ensure};
 ghost use Rattle.model.specs.Limits.{mostStack};
 ghost use Rattle.tables.specs.Tables.{taskOf};
-ghost use Rattle.machine.specs.Moves.{coreOf, Good};
-ghost use Rattle.steps.specs.Steps.{Stays, Steps};
+ghost use Rattle.machine.specs.Moves.{coreOf, OnCache, Good};
+ghost use Rattle.steps.specs.Steps.{Stays, Steps, Added, mostTotal};
 ghost use Rattle.moves.specs.Moves.{IsPreemption, Inside, Enters};
 use bounds::Bounds;
 use figures::Columns;
@@ -15,6 +15,14 @@ use steps::State;
 use steps::Turned;
 use tables::Header;
 use tables::Span;
+
+// A total, with a part more.
+fn added(total: u64, part: u32) -> u64
+    requires { ⌜ total ≤ mostTotal ⌝ }
+    ensures { λ r. ⌜ Added total part r ⌝ }
+{
+    total + part as u64
+}
 
 // The running frame becomes a caller, at the point after the call, and function g is entered.
 pub fn call_step(
@@ -37,18 +45,16 @@ pub fn call_step(
     let machine = x.machine;
     let moved = machine.reserve(cache, memory, callee.frame);
     let entered = moved.machine;
+    let cost = prices::moves_price(price, moved.blocks, 0);
     let state = State {
         depth: x.depth + 1,
         f,
         p: 0,
         machine: entered,
+        moved: added(x.moved, cost),
+        allowed: added(x.allowed, bound),
     };
-    Turned {
-        state,
-        answer: 0,
-        moved: prices::moves_price(price, moved.blocks, 0),
-        bound,
-    }
+    Turned { state, answer: 0 }
 }
 
 pub fn ensure_step(
@@ -61,8 +67,8 @@ pub fn ensure_step(
     memory: &[u32],
     k: u32,
 ) -> Turned
-    requires { ⌜ Inside price (now work) h x s × Good (coreOf (x .machine) (now cache) (now memory)) × (x .machine .st + k ≤ length (now memory))
-        × (k ≤ mostStack) ⌝ }
+    requires { ⌜ Inside price (now work) h x s × OnCache (x .machine) (now cache) × Good (coreOf (x .machine) (now cache) (now memory))
+        × (x .machine .st + k ≤ length (now memory)) × (k ≤ mostStack) ⌝ }
     ensures { λ r. ⌜ ((v : ℕ) → Steps price (taskOf (now (work .entry)) h) x (Ensure k) v (now (work .entry)) (now (cache .entry)) (now (memory .entry))
         r (now (work .entry)) (now (cache .exit)) (now (memory .entry))) ⌝ }
 {
@@ -70,18 +76,16 @@ pub fn ensure_step(
     let machine = x.machine;
     let moved = machine.ensure(cache, memory, k);
     let filled = moved.machine;
+    let cost = prices::moves_price(price, 0, moved.blocks);
     let state = State {
         depth: x.depth,
         f: x.f,
         p: x.p + 1,
         machine: filled,
+        moved: added(x.moved, cost),
+        allowed: added(x.allowed, bound),
     };
-    Turned {
-        state,
-        answer: 0,
-        moved: prices::moves_price(price, 0, moved.blocks),
-        bound,
-    }
+    Turned { state, answer: 0 }
 }
 
 // A preemption by a task that leaves v in every block, at a point of s.
@@ -95,7 +99,7 @@ pub fn preempt(
     memory: &mut [u32],
     v: u32,
 ) -> Turned
-    requires { ⌜ Inside price (now work) h x s × Good (coreOf (x .machine) (now cache) (now memory)) × (length (now cache) ≤ mostStack) ⌝ }
+    requires { ⌜ Inside price (now work) h x s × OnCache (x .machine) (now cache) × Good (coreOf (x .machine) (now cache) (now memory)) ⌝ }
     ensures { λ r. ⌜ IsPreemption price (taskOf (now (work .entry)) h) x v (now (work .entry)) (now (cache .entry)) (now (memory .entry))
         r (now (cache .exit)) (now (memory .exit)) ⌝ }
 {
@@ -105,16 +109,14 @@ pub fn preempt(
     let machine = x.machine;
     let back = machine.preempt(cache, memory, dead, need, v);
     let resumed = back.machine;
+    let cost = prices::moves_price(price, back.out, back.back);
     let state = State {
         depth: x.depth,
         f: x.f,
         p: x.p,
         machine: resumed,
+        moved: added(x.moved, cost),
+        allowed: added(x.allowed, bound),
     };
-    Turned {
-        state,
-        answer: 0,
-        moved: prices::moves_price(price, back.out, back.back),
-        bound,
-    }
+    Turned { state, answer: 0 }
 }

@@ -139,9 +139,9 @@ module _ (t : Task) (s : Sheet) where
 
         -- the next event is done
         pub going-on : (u : Turn) (c b : ℕ) → u ≡ turn t s x (act e)
-            → c ≡ s .price (turn t s x (act e) .out) + s .price (turn t s x (act e) .back) → b ≡ eventBound t s fs (act e)
+            → c ≡ m + (s .price (turn t s x (act e) .out) + s .price (turn t s x (act e) .back)) → b ≡ a + eventBound t s fs (act e)
             → Going whole all buffer (i + 1) (u .state) (afterEvent t fs (act e)) es
-            (m + c)
-            (a + b)
+            c
+            b
             (set answers i (u .answer))
         going-on u c b p y q = rw (p, y, q) turn-on

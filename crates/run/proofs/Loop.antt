@@ -12,6 +12,7 @@ use Rattle.model.specs.declared.Verdict.the-variants as verdict
 use Rattle.model.specs.declared.Ending.{Ending}
 use Rattle.model.specs.declared.Ending.the-variants.{AllDone, Refused}
 use Rattle.model.specs.declared.RunResult.{RunResult}
+use Rattle.model.specs.Limits.{mostEventNumbers}
 use Rattle.model.specs.Rows.{rowVerdict}
 use Rattle.model.specs.Task.{Task}
 use Rattle.model.specs.Core.{Core, reserve}
@@ -26,56 +27,53 @@ use Rattle.tables.specs.Tables.{taskOf}
 use Rattle.tables.specs.Valid.{Kept}
 use Rattle.tables.proofs.Valid.{kept-on}
 use Rattle.prices.specs.declared.Price.{Price}
-use Rattle.prices.specs.Prices.{priceOf, mostPrice}
+use Rattle.prices.specs.Prices.{priceOf}
 use Rattle.figures.specs.Figured.{sheetAt}
 use Rattle.machine.specs.Moves.{evictionOf}
 use Rattle.steps.specs.declared.State.{State}
 use Rattle.steps.specs.declared.Turned.{Turned}
 use Rattle.steps.specs.Frames.{framesEnd, framesOf, stateOf, turnOf}
+use Rattle.steps.specs.Steps.{mostPart, Counts}
 use Rattle.turns.specs.Turns.{Runs, Turns, actOf, Started}
 use Rattle.turns.proofs.Kept.{goes-on, begins, accepted-runs}
 use Rattle.run.specs.Events.{Fitting, ranOn, allowedOn, endedWith, Serves}
 use Rattle.run.proofs.Going.{next-event, no-event, Ended, Going, going-start, going-end, going-off, going-on}
 
--- the most that a turn can be allowed: its bound is a number of 32 bits
-abbrev pub mostBound : ℕ
-mostBound = 4294967295
-
--- w₀, buffer, cache₀ and memory₀ as they were lent; after i events the state is x, m was moved and a is allowed. m and a fit 64 bits
-pub record Loops (y : Eviction) (price : Price) (h : Header) (events buffer cache₀ memory₀ w₀ : List ℕ) (i : ℕ) (x : State) (m a : ℕ)
+-- w₀, buffer, cache₀ and memory₀ as they were lent; after i events the state is x, whose totals fit 64 bits
+pub record Loops (y : Eviction) (price : Price) (h : Header) (events buffer cache₀ memory₀ w₀ : List ℕ) (i : ℕ) (x : State)
     (answers cache memory w : List ℕ) : Type 0 where
   pub runs : Runs price w h x cache memory
   pub task : taskOf w h ≡ taskOf w₀ h
   pub kept : Kept framesEnd w₀ w
   pub going : Going (taskOf w₀ h) (sheetAt price (taskOf w₀ h)) (ranOn y price (taskOf w₀ h) events cache₀ memory₀) (allowedOn price
       (taskOf w₀ h) events) buffer i
-      (stateOf w x cache memory) (runs .frames) (eventsOf (drop (2 * i) events)) m a answers
-  pub small : m ≤ 2 * mostPrice * i
-  pub little : a ≤ mostBound * i
+      (stateOf w x cache memory) (runs .frames) (eventsOf (drop (2 * i) events)) (x .moved) (x .allowed) answers
+  pub small : x .moved ≤ mostPart * i
+  pub little : x .allowed ≤ mostPart * i
 
 -- function 0 has been entered on the core that evicts as y
 module _ {price : Price} {h : Header} {events buffer cache₀ memory₀ w₀ : List ℕ} (y : Eviction) (x : State)
     (f : Fitting price w₀ h events buffer cache₀ memory₀) (s : Started y w₀ h (length memory₀) x) where
   started-as : evictionOf (x .machine .lazy) ≡ y
   unfolding reserve
-  started-as = ap (λ (z : run.State). z .core .eviction) (s cache₀ memory₀ (f .blocks) refl)
+  started-as = ap (λ (z : run.State). z .core .eviction) (s .state cache₀ memory₀ (f .blocks) refl)
 
-  loops-first : Loops y price h events buffer cache₀ memory₀ w₀ 0 x 0 0 buffer cache₀ memory₀ w₀
+  loops-first : Loops y price h events buffer cache₀ memory₀ w₀ 0 x buffer cache₀ memory₀ w₀
   loops-first =
       let j = begins y cache₀ memory₀ (f .bounded) s (f .blocks) (f .room) in
       record {
         runs = j .runs;
         task = refl;
         kept = record { size = refl; past = refl };
-        going = rw (s cache₀ memory₀ (f .blocks) refl, j .frames) (going-start (taskOf w₀ h) (sheetAt price (taskOf w₀ h)) buffer _ _ (eventsOf events));
-        small = omega arith;
-        little = omega arith;
+        going = rw (s .state cache₀ memory₀ (f .blocks) refl, j .frames, s .moved, s .allowed) (going-start (taskOf w₀ h) (sheetAt price (taskOf w₀ h)) buffer _ _ (eventsOf events));
+        small = omega (arith, s .moved);
+        little = omega (arith, s .allowed);
       }
 
   -- the loop knows y by the number that its first machine has
-  pub loops-start : Loops (evictionOf (x .machine .lazy)) price h events buffer cache₀ memory₀ w₀ 0 x 0 0 buffer cache₀ memory₀ w₀
+  pub loops-start : Loops (evictionOf (x .machine .lazy)) price h events buffer cache₀ memory₀ w₀ 0 x buffer cache₀ memory₀ w₀
   loops-start =
-      subst (λ (z : Eviction). Loops z price h events buffer cache₀ memory₀ w₀ 0 x 0 0 buffer cache₀ memory₀ w₀) (sym started-as) loops-first
+      subst (λ (z : Eviction). Loops z price h events buffer cache₀ memory₀ w₀ 0 x buffer cache₀ memory₀ w₀) (sym started-as) loops-first
 
   pub serves-as : {q : RunResult} {answers cache memory w : List ℕ}
       → Serves (evictionOf (x .machine .lazy)) price (taskOf w₀ h) events buffer cache₀ memory₀ w₀ q answers cache memory w
@@ -84,8 +82,7 @@ module _ {price : Price} {h : Header} {events buffer cache₀ memory₀ w₀ : L
       subst (λ (z : Eviction). Serves z price (taskOf w₀ h) events buffer cache₀ memory₀ w₀ q answers cache memory w) started-as d
 
 module _ {y : Eviction} {price : Price} {h : Header} {events buffer cache₀ memory₀ w₀ : List ℕ} where
-  module _ {i : ℕ} {x : State} {m a : ℕ} {answers cache memory w : List ℕ}
-      (l : Loops y price h events buffer cache₀ memory₀ w₀ i x m a answers cache memory w) where
+  module _ {i : ℕ} {x : State} {answers cache memory w : List ℕ} (l : Loops y price h events buffer cache₀ memory₀ w₀ i x answers cache memory w) where
     -- the point that runs is that of the plain stack
     place-same : runningPlace (taskOf w₀ h) (framesOf w x) ≡ running (taskOf w₀ h) (l .runs .frames)
     place-same = ap (runningPlace (taskOf w₀ h)) (l .runs .same) ∙ running-same (taskOf w₀ h) (l .runs .frames)
@@ -95,8 +92,8 @@ module _ {y : Eviction} {price : Price} {h : Header} {events buffer cache₀ mem
         → eventRows i kind value (runningPlace (taskOf w₀ h) (framesOf w x)) ≡ o
     row-lent kind value o e = subst (λ (t : Task). eventRows i kind value (runningPlace t (framesOf w x)) ≡ o) (l .task) e
 
-    served : {q : RunResult} {z : Ending} → q ≡ endedWith z i m a
-        → Ended (ranOn y price (taskOf w₀ h) events cache₀ memory₀) (allowedOn price (taskOf w₀ h) events) buffer z i m a answers (stateOf w x cache memory .core)
+    served : {q : RunResult} {z : Ending} → q ≡ endedWith z i (x .moved) (x .allowed)
+        → Ended (ranOn y price (taskOf w₀ h) events cache₀ memory₀) (allowedOn price (taskOf w₀ h) events) buffer z i (x .moved) (x .allowed) answers (stateOf w x cache memory .core)
         → Serves y price (taskOf w₀ h) events buffer cache₀ memory₀ w₀ q answers cache memory w
     served e d = record {
       returned = e ∙ d .result;
@@ -107,7 +104,8 @@ module _ {y : Eviction} {price : Price} {h : Header} {events buffer cache₀ mem
     }
 
     -- no event is left
-    pub loops-end : {q : RunResult} → length events % 2 ≡ 0 → length events / 2 ≤ length buffer → i ≡ length events / 2 → q ≡ endedWith AllDone i m a
+    pub loops-end : {q : RunResult} → length events % 2 ≡ 0 → length events / 2 ≤ length buffer → i ≡ length events / 2
+        → q ≡ endedWith AllDone i (x .moved) (x .allowed)
         → Serves y price (taskOf w₀ h) events buffer cache₀ memory₀ w₀ q answers cache memory w
     loops-end p b e k =
         served k
@@ -117,7 +115,7 @@ module _ {y : Eviction} {price : Price} {h : Header} {events buffer cache₀ mem
     pub loops-off : {q : RunResult} {v : Verdict} (r : Refusal) → i < length events / 2 → length events / 2 ≤ length buffer
         → v ≡ verdict.Refused r
         → v ≡ rowVerdict (eventRows i (getD events (2 * i) 0) (getD events (2 * i + 1) 0) (runningPlace (taskOf w h) (framesOf w x)))
-        → q ≡ endedWith (Refused r) i m a
+        → q ≡ endedWith (Refused r) i (x .moved) (x .allowed)
         → Serves y price (taskOf w₀ h) events buffer cache₀ memory₀ w₀ q answers cache memory w
     loops-off r b k n e j =
         served j
@@ -126,18 +124,21 @@ module _ {y : Eviction} {price : Price} {h : Header} {events buffer cache₀ mem
         (rw (next-event events i b) at (l .going)))
 
     -- the next event can be done
-    pub loops-more : (kind value : ℕ) {v : Verdict} → v ≡ verdict.Accepted → v ≡ rowVerdict (eventRows i kind value (runningPlace (taskOf w h) (framesOf w x)))
-        → Runs price w h x cache memory × (0 < x .depth)
-    loops-more kind value n e = (l .runs, accepted-runs (taskOf w h) w (x .depth) (x .f) (x .p) i kind value (verdict-none _ (sym e ∙ n)))
+    pub loops-more : (kind value : ℕ) {v : Verdict} → i ≤ mostEventNumbers → v ≡ verdict.Accepted → v ≡ rowVerdict (eventRows i kind value (runningPlace (taskOf w h) (framesOf w x)))
+        → Runs price w h x cache memory × (0 < x .depth) × Counts x
+    loops-more kind value k n e = (
+      l .runs,
+      accepted-runs (taskOf w h) w (x .depth) (x .f) (x .p) i kind value (verdict-none _ (sym e ∙ n)),
+      record { moved = omega (arith, l .small); allowed = omega (arith, l .little) },
+    )
 
     -- the next event is done
     pub loops-on : {v : Verdict} {r : Turned} {w′ cache′ memory′ : List ℕ} → i < length events / 2 → length events / 2 ≤ length buffer
-        → r .bound ≤ mostBound
         → v ≡ verdict.Accepted
         → v ≡ rowVerdict (eventRows i (getD events (2 * i) 0) (getD events (2 * i + 1) 0) (runningPlace (taskOf w h) (framesOf w x)))
         → Turns price w h x cache memory (actOf (getD events (2 * i) 0) (getD events (2 * i + 1) 0)) r w′ cache′ memory′
-        → Loops y price h events buffer cache₀ memory₀ w₀ (i + 1) (r .state) (m + r .moved) (a + r .bound) (set answers i (r .answer)) cache′ memory′ w′
-    loops-on {r = r} {w′ = w′} {cache′ = cache′} {memory′ = memory′} b k f o e u =
+        → Loops y price h events buffer cache₀ memory₀ w₀ (i + 1) (r .state) (set answers i (r .answer)) cache′ memory′ w′
+    loops-on {r = r} {w′ = w′} {cache′ = cache′} {memory′ = memory′} b k o e u =
         let t = taskOf w₀ h in
         let d = actOf (getD events (2 * i) 0) (getD events (2 * i + 1) 0) in
         let n = row-lent (getD events (2 * i) 0) (getD events (2 * i + 1) 0) none (verdict-none _ (sym e ∙ o)) in
@@ -147,18 +148,18 @@ module _ {y : Eviction} {price : Price} {h : Header} {events buffer cache₀ mem
         let p = subst (λ (z : Task).
         turnOf w′ r (turn z (sheetAt price z) (stateOf w x cache memory) d .out) (turn z (sheetAt price z) (stateOf w x cache memory) d .back) cache′ memory′
         ≡ turn z (sheetAt price z) (stateOf w x cache memory) d) (l .task) (u .turn) in
-        let c = subst (λ (z : Task). r .moved
-        ≡ priceOf price (turn z (sheetAt price z) (stateOf w x cache memory) d .out)
-        + priceOf price (turn z (sheetAt price z) (stateOf w x cache memory) d .back)) (l .task) (u .moved) in
-        let q = subst (λ (z : Task). r .bound ≡ eventBound z (sheetAt price z) (l .runs .frames) d) (l .task) (j .bound) in
+        let c = subst (λ (z : Task). r .state .moved
+        ≡ x .moved + (priceOf price (turn z (sheetAt price z) (stateOf w x cache memory) d .out)
+        + priceOf price (turn z (sheetAt price z) (stateOf w x cache memory) d .back))) (l .task) (u .moved .0) in
+        let q = subst (λ (z : Task). r .state .allowed ≡ x .allowed + eventBound z (sheetAt price z) (l .runs .frames) d) (l .task) (j .bound .0) in
         let g = rw (next-event events i b) at (l .going) in
         record {
           runs = j .runs;
           task = j .task ∙ l .task;
           kept = kept-on (l .kept) (u .stays .kept);
           going = rw fs
-              (going-on t (sheetAt price t) _ _ _ _ _ _ _ _ _ _ _ place-same n (omega arith) g (turnOf w′ r (v .out) (v .back) cache′ memory′) (r .moved)
-              (r .bound) p c q);
-          small = omega (arith, l .small, j .moved-few);
-          little = omega (arith, l .little);
+              (going-on t (sheetAt price t) _ _ _ _ _ _ _ _ _ _ _ place-same n (omega arith) g (turnOf w′ r (v .out) (v .back) cache′ memory′)
+              (r .state .moved) (r .state .allowed) p c q);
+          small = omega (arith, l .small, u .moved .1);
+          little = omega (arith, l .little, j .bound .1);
         }

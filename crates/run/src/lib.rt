@@ -38,23 +38,19 @@ pub fn run_events(
 {
     let mut x = turns::start(work, h, eviction, memory.len());
     let count = events.len() / 2;
-    let mut moved: u64 = 0;
-    let mut allowed: u64 = 0;
     let mut i: usize = 0;
     while i < count {
         let done = i as u32;
         let kind = events[2 * i];
         let value = events[2 * i + 1];
         if let Verdict::Refused(r) = turns::event_row(work, h, x, done, kind, value) {
-            return ended(Ending::Refused(r), done, moved, allowed);
+            return ended(Ending::Refused(r), done, x.moved, x.allowed);
         }
         let turned = turns::turn(work, h, price, x, cache, memory, kind, value);
         answers[i] = turned.answer;
-        moved += turned.moved as u64;
-        allowed += turned.bound as u64;
         let next = turned.state;
         x = next;
         i += 1;
     }
-    ended(Ending::AllDone, i as u32, moved, allowed)
+    ended(Ending::AllDone, i as u32, x.moved, x.allowed)
 }

@@ -13,11 +13,11 @@ use Rattle.tables.specs.Tables.{item}
 use Rattle.tables.proofs.Laws.{here, elsewhere}
 use Rattle.prices.specs.declared.Price.{Price}
 use Rattle.prices.specs.Prices.{priceOf}
-use Rattle.machine.specs.Moves.{coreOf}
+use Rattle.machine.specs.Moves.{coreOf, OnCache}
 use Rattle.steps.specs.declared.State.{State}
 use Rattle.steps.specs.declared.Turned.{Turned}
 use Rattle.steps.specs.Frames.{framesAt, framesEnd, putCaller, placesIn, framesFrom, framesOf, turnOf, plainTurn}
-use Rattle.steps.specs.Steps.{Stays, IsTurn}
+use Rattle.steps.specs.Steps.{Stays, Added, IsTurn}
 
 -- the running frame and its callers, where there is one
 pub frames-some : (w : List ℕ) (d f p : ℕ) → 0 < d → framesFrom w d f p ≡ record { fn = f; at = p } ∷ placesIn w (d - 1)
@@ -43,19 +43,20 @@ turn-on r w cache memory f p a o b fs c h i j d k l =
     ∙ (λ t. onwards (i t) (j t) (d t) (k t) (l t) o b)
 
 -- no move has no price
-nothing-moved : (price : Price) → 0 ≡ priceOf price 0 + priceOf price 0
-nothing-moved price = let e = price-moves (price .start) (price .each) .none in omega (arith, e)
+nothing-moved : (price : Price) (m n : ℕ) → n ≡ m → Added m (priceOf price 0 + priceOf price 0) n
+nothing-moved price m n f = let e = price-moves (price .start) (price .each) .none in omega (arith, e)
 
 -- a step that moves nothing
-pub plain-does : (price : Price) (x : State) (r : Turned) (p a p′ a′ : ℕ) (w cache memory : List ℕ) (c : Core) → 0 < x .depth → r ≡ plainTurn x p a
-    → p ≡ p′ → a ≡ a′
-    → coreOf (x .machine) cache memory ≡ c → IsTurn price r w cache memory (onwards (x .f) p′ (placesIn w (x .depth - 1)) c a′ 0 0) 0
-plain-does price x r p a p′ a′ w cache memory c h e i j k =
+pub plain-does : (price : Price) (x : State) (r : Turned) (p a p′ a′ : ℕ) (w cache memory : List ℕ) (c : Core) → 0 < x .depth → OnCache (x .machine) cache
+    → r ≡ plainTurn x p a → p ≡ p′ → a ≡ a′
+    → coreOf (x .machine) cache memory ≡ c → IsTurn price (x .moved) (x .allowed) r w cache memory (onwards (x .f) p′ (placesIn w (x .depth - 1)) c a′ 0 0) 0
+plain-does price x r p a p′ a′ w cache memory c h o e i j k =
     rw e
     (record {
       turn = turn-on (plainTurn x p a) w cache memory _ _ _ _ _ _ _ h refl i refl k j;
-      moved = nothing-moved price;
-      bound = refl;
+      on = o;
+      moved = nothing-moved price (x .moved) (x .moved) refl;
+      bound = omega arith;
     })
 
 -- ---- the callers
@@ -113,12 +114,14 @@ caller-runs w (suc n) f p h a b =
     λ j. record { fn = g j; at = i j } ∷ placesIn w n
 
 -- a step that leaves the running frame
-pub leave-does : (price : Price) (x : State) (w cache memory : List ℕ) (n : ℕ) (c : Core) → framesOf w x ≡ placesIn w n → coreOf (x .machine) cache memory ≡ c
-    → IsTurn price (record { state = x; answer = 0; moved = 0; bound = 0 }) w cache memory
+pub leave-does : (price : Price) (x y : State) (w cache memory : List ℕ) (n : ℕ) (c : Core) → framesOf w y ≡ placesIn w n
+    → coreOf (y .machine) cache memory ≡ c → OnCache (y .machine) cache → y .moved ≡ x .moved → y .allowed ≡ x .allowed
+    → IsTurn price (x .moved) (x .allowed) (record { state = y; answer = 0 }) w cache memory
     (record { state = record { frames = placesIn w n; core = c }; answer = 0; out = 0; back = 0 }) 0
-leave-does price x w cache memory n c e k =
+leave-does price x y w cache memory n c e k o m a =
     record {
       turn = λ i. record { state = record { frames = e i; core = k i }; answer = 0; out = 0; back = 0 };
-      moved = nothing-moved price;
-      bound = refl;
+      on = o;
+      moved = nothing-moved price (x .moved) (y .moved) m;
+      bound = omega arith;
     }

@@ -51,8 +51,6 @@ turnOf w r out back cache memory =
 abbrev pub plainTurn : State → ℕ → ℕ → Turned
 plainTurn x p a =
     record {
-      state = record { depth = x .depth; f = x .f; p = p; machine = x .machine };
+      state = record { depth = x .depth; f = x .f; p = p; machine = x .machine; moved = x .moved; allowed = x .allowed };
       answer = a;
-      moved = 0;
-      bound = 0;
     }

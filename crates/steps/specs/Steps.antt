@@ -13,7 +13,7 @@ use Rattle.tables.specs.Valid.{Kept}
 use Rattle.prices.specs.declared.Price.{Price}
 use Rattle.prices.specs.Prices.{priceOf}
 use Rattle.figures.specs.Figured.{sheetAt}
-use Rattle.machine.specs.Moves.{coreOf, mostAddress}
+use Rattle.machine.specs.Moves.{coreOf, mostAddress, OnCache}
 use Rattle.steps.specs.declared.State.{State}
 use Rattle.steps.specs.declared.Turned.{Turned}
 use Rattle.steps.specs.Frames.{framesAt, framesEnd, placesIn, turnOf}
@@ -23,31 +23,50 @@ pub record Stays (w w′ : List ℕ) : Type 0 where
   pub below : (i : ℕ) → i < framesAt → item w′ i ≡ item w i
   pub kept : Kept framesEnd w w′
 
--- a turn is this one of the model, it costs what both its moves cost, and the sheet allows it this much
-pub record IsTurn (price : Price) (r : Turned) (w cache memory : List ℕ) (u : run.Turn) (allowed : ℕ) : Type 0 where
+-- a sum of a total and a part of it, which is a number of 32 bits
+abbrev pub mostPart : ℕ
+mostPart = 4294967295
+
+abbrev pub Added : ℕ → ℕ → ℕ → Type 0
+Added total part sum = (sum ≡ total + part) × (sum ≤ total + mostPart)
+
+-- a turn, before which m was moved and a allowed, is this one of the model, and its machine stands on the cache. To m comes what both its moves cost, and
+-- to a what the sheet allows it, b
+pub record IsTurn (price : Price) (m a : ℕ) (r : Turned) (w cache memory : List ℕ) (u : run.Turn) (b : ℕ) : Type 0 where
   pub turn : turnOf w r (u .out) (u .back) cache memory ≡ u
-  pub moved : r .moved ≡ priceOf price (u .out) + priceOf price (u .back)
-  pub bound : r .bound ≡ allowed
+  pub on : OnCache (r .state .machine) cache
+  pub moved : Added m (priceOf price (u .out) + priceOf price (u .back)) (r .state .moved)
+  pub bound : Added a b (r .state .allowed)
 
 -- a step with value v at point y of the running frame of x, in a task t at this price
 abbrev pub Steps : Price → Task → State → Point → ℕ → (w cache memory : List ℕ) → Turned → (w′ cache′ memory′ : List ℕ) → Type 0
 Steps price t x y v w cache memory r w′ cache′ memory′ =
-    IsTurn price r w′ cache′ memory′
+    IsTurn price (x .moved) (x .allowed) r w′ cache′ memory′
     (stepTurn t (x .f) (x .p) (placesIn w (x .depth - 1)) (coreOf (x .machine) cache memory) y v)
     (stepBound (sheetAt price t) (x .f) (x .p) y)
 
+-- the totals have room for one part more
+abbrev pub mostTotal : ℕ
+mostTotal = 9223372036854775808
+
+pub record Counts (x : State) : Type 0 where
+  pub moved : x .moved ≤ mostTotal
+  pub allowed : x .allowed ≤ mostTotal
+
 -- ---- what the functions of this crate are given
 
--- offset o of the running frame has an address in a cache with a block, and there is a number for the point after this one
+-- the machine stands on the cache, which is longer than offset o of the running frame, and there is a number for the point after this one
 pub record Reaches (x : State) (cache : List ℕ) (o : ℕ) : Type 0 where
   pub some : 0 < x .depth
   pub small : x .p < mostPoints
-  pub blocks : 0 < length cache
-  pub address : x .machine .st + o ≤ mostAddress
+  pub on : OnCache (x .machine) cache
+  pub offset : o < length cache
 
--- the callers are in the working space, and the frame that is left lies in the memory
-pub record Leaves (w : List ℕ) (x : State) (frame : ℕ) : Type 0 where
+-- the callers are in the working space, the machine stands on the cache, and the frame that is left fits the cache and lies in the memory
+pub record Leaves (w : List ℕ) (x : State) (cache : List ℕ) (frame : ℕ) : Type 0 where
   pub space : framesEnd ≤ length w
   pub some : 0 < x .depth
   pub few : x .depth ≤ mostFuncs
+  pub on : OnCache (x .machine) cache
+  pub fits : frame ≤ length cache
   pub address : x .machine .st + frame ≤ mostAddress

@@ -8,6 +8,7 @@ ghost use Rattle.model.specs.declared.Point.the-variants.{Load, Store, Goto, Ei
 ghost use Rattle.model.specs.Limits.{mostFuncs, mostPoints};
 ghost use Rattle.model.specs.Task.{Task, func};
 ghost use Rattle.prices.specs.declared.Price.{Price as Price·spec};
+ghost use Rattle.machine.specs.Moves.{OnCache};
 ghost use Rattle.steps.specs.Frames.{framesEnd, placesIn, putCaller, framesOf, plainTurn};
 ghost use Rattle.steps.specs.Steps.{Steps, Reaches, Leaves};
 use bounds::Bounds;
@@ -20,20 +21,21 @@ impl Frames {
     pub const AT: usize = Bounds::END;
 }
 
-// How many frames there are, function and point of the running one, and where the stack stands. A finished task has no frames.
+// How many frames there are, function and point of the running one, where the stack stands, and what was moved and what the sheet allows so far: both
+// as prices. A finished task has no frames. A step that moves nothing touches neither total.
 pub struct State {
     pub depth: usize,
     pub f: usize,
     pub p: usize,
     pub machine: Machine,
+    pub moved: u64,
+    pub allowed: u64,
 }
 
-// A state after an event, its answer, what it moved, and what the sheet allows: both as prices.
+// A state after an event, and its answer.
 pub struct Turned {
     pub state: State,
     pub answer: u32,
-    pub moved: u32,
-    pub bound: u32,
 }
 
 pub fn wide(x: u32) -> usize
@@ -55,9 +57,10 @@ pub fn put_caller(work: &mut [u32], n: usize, f: usize, p: usize)
 }
 
 // The last of n callers runs, and a task with none has finished.
-fn resumed(work: &[u32], n: usize, machine: Machine) -> State
+fn resumed(work: &[u32], n: usize, machine: Machine, moved: u64, allowed: u64) -> State
     requires { ⌜ (framesEnd ≤ length (now work)) × (n ≤ mostFuncs) ⌝ }
-    ensures { λ r. ⌜ (framesOf (now (work .entry)) r ≡ placesIn (now (work .entry)) n) × (r .machine ≡ machine) ⌝ }
+    ensures { λ r. ⌜ (framesOf (now (work .entry)) r ≡ placesIn (now (work .entry)) n) × (r .machine ≡ machine) × (r .moved ≡ moved)
+        × (r .allowed ≡ allowed) ⌝ }
 {
     if n == 0 {
         return State {
@@ -65,6 +68,8 @@ fn resumed(work: &[u32], n: usize, machine: Machine) -> State
             f: 0,
             p: 0,
             machine,
+            moved,
+            allowed,
         };
     }
     let at = Frames::AT + 2 * (n - 1);
@@ -75,6 +80,8 @@ fn resumed(work: &[u32], n: usize, machine: Machine) -> State
         f,
         p,
         machine,
+        moved,
+        allowed,
     }
 }
 
@@ -90,13 +97,10 @@ fn onwards(x: State, p: usize, answer: u32) -> Turned
         f: x.f,
         p,
         machine,
+        moved: x.moved,
+        allowed: x.allowed,
     };
-    Turned {
-        state,
-        answer,
-        moved: 0,
-        bound: 0,
-    }
+    Turned { state, answer }
 }
 
 pub fn load_step(x: State, cache: &[u32], o: u32) -> Turned
@@ -121,20 +125,24 @@ pub fn store_step(x: State, cache: &mut [u32], o: u32, v: u32) -> Turned
         f: x.f,
         p: x.p,
         machine: stored,
+        moved: x.moved,
+        allowed: x.allowed,
     };
     onwards(state, x.p + 1, 0)
 }
 
 pub fn goto_step(x: State, q: u32) -> Turned
     requires { ⌜ 0 < x .depth ⌝ }
-    ensures { λ r. ⌜ ((price : Price·spec) (t : Task) (v : ℕ) (w cache memory : List ℕ) → Steps price t x (Goto q) v w cache memory r w cache memory) ⌝ }
+    ensures { λ r. ⌜ ((price : Price·spec) (t : Task) (v : ℕ) (w cache memory : List ℕ) → OnCache (x .machine) cache →
+        Steps price t x (Goto q) v w cache memory r w cache memory) ⌝ }
 {
     onwards(x, wide(q), 0)
 }
 
 pub fn either_step(x: State, q: u32, r: u32, v: u32) -> Turned
     requires { ⌜ 0 < x .depth ⌝ }
-    ensures { λ u. ⌜ ((price : Price·spec) (t : Task) (w cache memory : List ℕ) → Steps price t x (Either q r) v w cache memory u w cache memory) ⌝ }
+    ensures { λ u. ⌜ ((price : Price·spec) (t : Task) (w cache memory : List ℕ) → OnCache (x .machine) cache →
+        Steps price t x (Either q r) v w cache memory u w cache memory) ⌝ }
 {
     if v == 0 {
         return onwards(x, wide(q), 0);
@@ -143,18 +151,13 @@ pub fn either_step(x: State, q: u32, r: u32, v: u32) -> Turned
 }
 
 // The frame of the running function is left, and its caller runs.
-pub fn return_step(work: &[u32], x: State, frame: u32) -> Turned
-    requires { ⌜ Leaves (now work) x frame ⌝ }
-    ensures { λ r. ⌜ ((price : Price·spec) (t : Task) (v : ℕ) (cache memory : List ℕ) → func t (x .f) .frame ≡ frame →
-        Steps price t x Return v (now (work .entry)) cache memory r (now (work .entry)) cache memory) ⌝ }
+pub fn return_step(work: &[u32], x: State, cache: &[u32], frame: u32) -> Turned
+    requires { ⌜ Leaves (now work) x (now cache) frame ⌝ }
+    ensures { λ r. ⌜ ((price : Price·spec) (t : Task) (v : ℕ) (memory : List ℕ) → func t (x .f) .frame ≡ frame →
+        Steps price t x Return v (now (work .entry)) (now (cache .entry)) memory r (now (work .entry)) (now (cache .entry)) memory) ⌝ }
 {
     let machine = x.machine;
-    let freed = machine.free(frame);
-    let state = resumed(work, x.depth - 1, freed);
-    Turned {
-        state,
-        answer: 0,
-        moved: 0,
-        bound: 0,
-    }
+    let freed = machine.free(cache, frame);
+    let state = resumed(work, x.depth - 1, freed, x.moved, x.allowed);
+    Turned { state, answer: 0 }
 }

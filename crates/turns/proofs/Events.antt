@@ -26,7 +26,7 @@ use Rattle.machine.specs.Moves.{coreOf}
 use Rattle.steps.specs.declared.State.{State}
 use Rattle.steps.specs.declared.Turned.{Turned}
 use Rattle.steps.specs.Frames.{placesIn, framesFrom, framesOf, stateOf, turnOf}
-use Rattle.steps.specs.Steps.{Stays, IsTurn, Steps}
+use Rattle.steps.specs.Steps.{Stays, Added, IsTurn, Steps}
 use Rattle.steps.proofs.Laws.{frames-some}
 use Rattle.moves.specs.Moves.{IsPreemption}
 use Rattle.turns.specs.Turns.{Turns, actOf}
@@ -44,11 +44,11 @@ unfolding act
 act-preempt k v n = rw (ne-eqb k 0 n) refl
 
 -- a turn of the model under another name
-turn-as : {price : Price} {r : Turned} {w cache memory : List ℕ} {u u′ : run.Turn} {n : ℕ} → u ≡ u′ → IsTurn price r w cache memory u n
-    → (turnOf w r (u′ .out) (u′ .back) cache memory ≡ u′) × (r .moved ≡ priceOf price (u′ .out) + priceOf price (u′ .back))
-turn-as {price} {r} {w} {cache} {memory} e d = (
+turn-as : {price : Price} {m a : ℕ} {r : Turned} {w cache memory : List ℕ} {u u′ : run.Turn} {n : ℕ} → u ≡ u′ → IsTurn price m a r w cache memory u n
+    → (turnOf w r (u′ .out) (u′ .back) cache memory ≡ u′) × Added m (priceOf price (u′ .out) + priceOf price (u′ .back)) (r .state .moved)
+turn-as {price} {m} {r = r} {w} {cache} {memory} e d = (
   subst (λ (z : run.Turn). turnOf w r (z .out) (z .back) cache memory ≡ z) e (d .turn),
-  d .moved ∙ ap (λ (z : run.Turn). priceOf price (z .out) + priceOf price (z .back)) e,
+  subst (λ (z : run.Turn). Added m (priceOf price (z .out) + priceOf price (z .back)) (r .state .moved)) e (d .moved),
 )
 
 module _ (price : Price) (w : List ℕ) (h : Header) (x : State) (cache memory : List ℕ) (some : 0 < x .depth) where
@@ -67,17 +67,19 @@ module _ (price : Price) (w : List ℕ) (h : Header) (x : State) (cache memory :
       → Stays w w′
       → Turns price w h x cache memory (actOf k v) r w′ cache′ memory′
   unfolding eventBound
-  step-turns y k v i e d s =
+  step-turns {r = r} y k v i e d s =
       let same =
       ap (λ (z : Point). stepTurn t (x .f) (x .p) (placesIn w (x .depth - 1)) (coreOf (x .machine) cache memory) z v) (sym i) ∙ sym (turn-of (takes v)) in
       rw (act-step k v e)
       (record {
         turn = turn-as same d .0;
+        on = d .on;
         moved = turn-as same d .1;
         bound = λ fs j.
-            d .bound
-            ∙ ap (stepBound (sheetAt price t) (x .f) (x .p)) (sym i)
-            ∙ ap (λ (gs : List Frame). eventBound t (sheetAt price t) gs (takes v)) (sym (top-of w (x .depth) (x .f) (x .p) fs some j .whole));
+            let e =
+            ap (stepBound (sheetAt price t) (x .f) (x .p)) (sym i)
+            ∙ ap (λ (gs : List Frame). eventBound t (sheetAt price t) gs (takes v)) (sym (top-of w (x .depth) (x .f) (x .p) fs some j .whole)) in
+            subst (λ (n : ℕ). Added (x .allowed) n (r .state .allowed)) e (d .bound);
         stays = s;
       })
 
@@ -85,14 +87,15 @@ module _ (price : Price) (w : List ℕ) (h : Header) (x : State) (cache memory :
       → IsPreemption price t x v w cache memory r cache′ memory′
       → Turns price w h x cache memory (actOf k v) r w cache′ memory′
   unfolding eventBound
-  preempt-turns k v n d =
+  preempt-turns {r = r} k v n d =
       rw (act-preempt k v n)
       (record {
         turn = turn-as (sym (turn-of (preempted v))) d .0;
+        on = d .on;
         moved = turn-as (sym (turn-of (preempted v))) d .1;
         bound = λ fs j.
-            d .bound
-            ∙ ap (λ (gs : List Frame). eventBound t (sheetAt price t) gs (preempted v)) (sym (top-of w (x .depth) (x .f) (x .p) fs some j .whole));
+            let e = ap (λ (gs : List Frame). eventBound t (sheetAt price t) gs (preempted v)) (sym (top-of w (x .depth) (x .f) (x .p) fs some j .whole)) in
+            subst (λ (n : ℕ). Added (x .allowed) n (r .state .allowed)) e (d .bound);
         stays = stays-same w;
       })
 

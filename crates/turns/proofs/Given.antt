@@ -31,7 +31,7 @@ use Rattle.machine.specs.Moves.{coreOf, mostAddress, Good}
 use Rattle.machine.proofs.Kept.{window-good, window-frame}
 use Rattle.steps.specs.declared.State.{State}
 use Rattle.steps.specs.Frames.{placesIn, framesFrom}
-use Rattle.steps.specs.Steps.{Reaches, Leaves}
+use Rattle.steps.specs.Steps.{Counts, Reaches, Leaves}
 use Rattle.moves.specs.Moves.{Inside, Enters}
 use Rattle.moves.proofs.Laws.{inside-small}
 use Rattle.turns.specs.Turns.{Runs, Placed, StandsAt}
@@ -117,25 +117,26 @@ module _ {price : Price} {w : List ℕ} {h : Header} {x : State} {cache memory :
   pub runs-good : Good (coreOf (x .machine) cache memory)
   runs-good = window-good t (sheetAt price t) _ _ (formed .shaped .stack-low) (runs-top .window) (runs-top .clean)
 
-  pub runs-cache : length cache ≤ mostStack
-  runs-cache = omega (arith, runs-top .window .blocks, formed .shaped .stack-high)
-
   pub depth-few : x .depth ≤ mostFuncs
   depth-few =
       let e = sym (length-callers w (x .depth - 1)) ∙ ap length (top .below) ∙ length-places (top .rest) in
       omega (arith, e, below-few formed top-below, fn-within, k .bounded .figured .settled .holds .few)
 
-  pub runs-inside : (s : Span) → s ≡ spanAt w (x .f) → Inside price w h x s
-  runs-inside s e =
+  pub runs-inside : (s : Span) → s ≡ spanAt w (x .f) → Counts x → Inside price w h x s
+  runs-inside s e c =
       let z : s .size ≡ sizeAt w (x .f) = ap (λ (y : Span). y .size) e in
-      record { bounded = k .bounded; some = some; fn-in = fn-within; span = e; at-in = omega (arith, z, at-within) }
+      record { bounded = k .bounded; some = some; fn-in = fn-within; span = e; at-in = omega (arith, z, at-within); counts = c }
+
+  -- a frame of the task fits the cache
+  pub frame-fits : (g : ℕ) → g < h .funcs → func t g .frame ≤ length cache
+  frame-fits g l = omega (arith, runs-top .window .blocks, formed .shaped .frames g (omega (arith, l, count-is w h)))
 
   -- ---- at a point
 
-  touch-reaches : (o : ℕ) → T (touches (func t (x .f)) o (x .p)) → x .p < mostPoints → length memory ≤ mostAddress → Reaches x cache o
-  touch-reaches o j l m =
+  touch-reaches : (o : ℕ) → T (touches (func t (x .f)) o (x .p)) → x .p < mostPoints → Reaches x cache o
+  touch-reaches o j l =
       let c = touched-cached t (sheetAt price t) formed (k .sound) frame (top .rest) _ o top-in j (runs-top .window) in
-      record { some = some; small = l; blocks = runs-good .nonempty; address = omega (arith, c .1, runs-good .inside) }
+      record { some = some; small = l; on = k .on; offset = omega (arith, c .1, runs-good .fits) }
 
 -- what a run gives at any time
 pub runs-placed : {price : Price} {w : List ℕ} {h : Header} {x : State} {cache memory : List ℕ} → Runs price w h x cache memory → Placed w h x
@@ -160,14 +161,14 @@ module _ {w : List ℕ} {h : Header} {x : State} (k : Placed w h x) (some : 0 < 
 -- ---- each kind of point
 
 module _ {price : Price} {w : List ℕ} {h : Header} {x : State} {cache memory : List ℕ} {s : Span} {y : Point} (k : StandsAt price w h x cache memory s y) where
-  pub load-given : {o : ℕ} → y ≡ Load o → length memory ≤ mostAddress → Reaches x cache o
-  load-given {o} e m =
+  pub load-given : {o : ℕ} → y ≡ Load o → Reaches x cache o
+  load-given {o} e =
       let i = k .here ∙ e in
-      touch-reaches (k .runs) (k .inside .some) o (rw i (or-holds (eqb o o) false .1 (inl (eqb-refl o)))) (inside-small (k .inside)) m
+      touch-reaches (k .runs) (k .inside .some) o (rw i (or-holds (eqb o o) false .1 (inl (eqb-refl o)))) (inside-small (k .inside))
 
-  pub store-given : {o : ℕ} → y ≡ Store o → length memory ≤ mostAddress → Reaches x cache o
-  store-given {o} e m =
-      let i = k .here ∙ e in touch-reaches (k .runs) (k .inside .some) o (rw i (eqb-refl o)) (inside-small (k .inside)) m
+  pub store-given : {o : ℕ} → y ≡ Store o → Reaches x cache o
+  store-given {o} e =
+      let i = k .here ∙ e in touch-reaches (k .runs) (k .inside .some) o (rw i (eqb-refl o)) (inside-small (k .inside))
 
   pub call-given : {g : ℕ} → y ≡ Call g → Enters price w h x cache memory g
   call-given {g} e =
@@ -185,8 +186,11 @@ module _ {price : Price} {w : List ℕ} {h : Header} {x : State} {cache memory :
         fn-in = k .inside .fn-in;
         small = inside-small (k .inside);
         callee = omega (arith, l .1, count-is w h);
+        on = r .on;
         good = runs-good r some;
+        fits = frame-fits r some g (omega (arith, l .1, count-is w h));
         room = room-below t (sheetAt price t) m (r .sound) (frame r some) _ _ g j (top-below r some) i (runs-top r some .window);
+        counts = k .inside .counts;
       }
 
   -- the frame that runs lies in the memory
@@ -204,10 +208,12 @@ module _ {price : Price} {w : List ℕ} {h : Header} {x : State} {cache memory :
   pub frame-same : func (taskOf w h) (x .f) .frame ≡ s .frame
   frame-same = frame-is w h (x .f) (k .inside .fn-in) ∙ sym (ap (λ (z : Span). z .frame) (k .inside .span))
 
-  pub return-given : length memory ≤ mostAddress → Leaves w x (s .frame)
+  pub return-given : length memory ≤ mostAddress → Leaves w x cache (s .frame)
   return-given m = record {
     space = omega (arith, k .runs .bounded .figured .room);
     some = k .inside .some;
     few = depth-few (k .runs) (k .inside .some);
+    on = k .runs .on;
+    fits = omega (arith, frame-same, frame-fits (k .runs) (k .inside .some) (x .f) (k .inside .fn-in));
     address = omega (arith, frame-lies, frame-same);
   }

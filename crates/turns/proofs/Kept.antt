@@ -1,5 +1,5 @@
 -- What an event keeps: the task, its figures, and a state that a run can be in. A loop over events cites these laws.
-use Prim.Native.Nat.{ℕ, zero, suc, _*_, _≤_, _<_}
+use Prim.Native.Nat.{ℕ, zero, suc, _%_, _≤_, _<_}
 use mathlib.Core.List.{List, [], _∷_}
 use mathlib.Core.Option.{none}
 use mathlib.Core.Path.{_≡_, refl, ap, sym, subst, _∙_}
@@ -41,7 +41,7 @@ use Rattle.machine.proofs.Kept.{reserve-blocks, ensure-blocks}
 use Rattle.steps.specs.declared.State.{State}
 use Rattle.steps.specs.declared.Turned.{Turned}
 use Rattle.steps.specs.Frames.{framesFrom, turnOf}
-use Rattle.steps.specs.Steps.{Stays}
+use Rattle.steps.specs.Steps.{Stays, Added}
 use Rattle.turns.specs.Turns.{Runs, modelTurn, Turns, Started}
 
 -- what an event leaves of the working space has the task, its figures and its bounds
@@ -56,41 +56,7 @@ pub record Goes {price : Price} {w : List ℕ} {h : Header} {x : State} {cache m
   pub runs : Runs price w′ h (r .state) cache′ memory′
   pub frames : runs .frames ≡ afterEvent (taskOf w h) (k .frames) a
   pub task : taskOf w′ h ≡ taskOf w h
-  pub bound : r .bound ≡ eventBound (taskOf w h) (sheetAt price (taskOf w h)) (k .frames) a
-  pub moved-few : r .moved ≤ 2 * mostPrice
-
--- no event moves more blocks out or back than the cache has
-pub record Few (t : Task) (u : run.Turn) : Type 0 where
-  pub out : u .out ≤ t .stack
-  pub back : u .back ≤ t .stack
-
-none-moved : (t : Task) (u : run.Turn) → u .out ≡ 0 → u .back ≡ 0 → Few t u
-none-moved t u i j = record { out = omega arith; back = omega arith }
-
-module _ (t : Task) (s : Sheet) (f : WellFormed t) where
-  few-step : (x : Frame) (fs : List Frame) (c : Core) (y : Point) (v : ℕ) → point (func t (x .fn)) (x .at) ≡ y → In t x → Window t s (x ∷ fs) c → Clean c
-      → Few t (stepTurn t (x .fn) (x .at) (places fs) c y v)
-  few-step x fs c (Load o) v e i w k = none-moved t _ refl refl
-  few-step x fs c (Store o) v e i w k = none-moved t _ refl refl
-  few-step x fs c (Call g) v e i w k =
-      let l = callee-later (f .linked) (x .fn) (x .at) g (i .fn-in) (i .at-in) (ap called e) in
-      record {
-        out = omega (arith, reserve-blocks c (func t g .frame) (k .within) (omega (arith, w .fits, w .blocks)), f .shaped .frames g (l .1));
-        back = omega arith;
-      }
-  few-step x fs c (Ensure n) v e i w k = record {
-    out = omega arith;
-    back = omega (arith, ensure-blocks c n, ensures-frame t f x n i e, f .shaped .frames (x .fn) (i .fn-in));
-  }
-  few-step x fs c (Goto q) v e i w k = none-moved t _ refl refl
-  few-step x fs c (Either q r) v e i w k = none-moved t _ refl refl
-  few-step x fs c Return v e i w k = none-moved t _ refl refl
-
-  few-event : (fs : List Frame) (c : Core) (a : Act) → Standing t fs → Window t s fs c → Clean c → Few t (turn t s (record { frames = places fs; core = c }) a)
-  unfolding turn places
-  few-event [] c a j w k = none-moved t _ refl refl
-  few-event (x ∷ fs) c (takes v) (Standing.runs i b) w k = few-step x fs c (point (func t (x .fn)) (x .at)) v refl i w k
-  few-event (x ∷ fs) c (preempted v) (Standing.runs i b) w k = record { out = omega (arith, w .fits, effective-between c k); back = omega (arith, w .fits) }
+  pub bound : Added (x .allowed) (eventBound (taskOf w h) (sheetAt price (taskOf w h)) (k .frames) a) (r .state .allowed)
 
 module _ {price : Price} {w : List ℕ} {h : Header} {x : State} {cache memory : List ℕ} (k : Runs price w h x cache memory) {a : Act} {r : Turned}
     {w′ cache′ memory′ : List ℕ} (u : Turns price w h x cache memory a r w′ cache′ memory′) where
@@ -106,26 +72,12 @@ module _ {price : Price} {w : List ℕ} {h : Header} {x : State} {cache memory :
       ≡ turn t (sheetAt price t) (record { frames = places (k .frames); core = coreOf (x .machine) cache memory }) a
   turn-plain = u .turn ∙ plain-turn
 
-  -- what it moves is at most the cache, each way
-  few-moved : Few t (turn t (sheetAt price t) (record { frames = places (k .frames); core = coreOf (x .machine) cache memory }) a) → t .stack ≤ mostStack
-      → r .moved ≤ 2 * mostPrice
-  few-moved n l =
-      let o = ap (λ (z : run.Turn). z .out) plain-turn in
-      let b = ap (λ (z : run.Turn). z .back) plain-turn in
-      omega (
-        arith,
-        u .moved,
-        price-small price (modelTurn price w h x cache memory a .out) (k .bounded .figured .small) (omega (arith, o, n .out)),
-        price-small price (modelTurn price w h x cache memory a .back) (k .bounded .figured .small) (omega (arith, b, n .back)),
-      )
-
   -- after an event that no row refuses a run can go on
   pub goes-on : Goes k a r w′ cache′ memory′
   goes-on =
       let m = k .bounded .figured .settled .formed in
       let o = coreOf (x .machine) cache memory in
       let f = fair-event t (sheetAt price t) m (k .sound) (k .frames) o a (k .running .standing) (k .running) in
-      let n = few-event t (sheetAt price t) m (k .frames) o a (k .running .standing) (k .running .window) (k .running .clean) in
       let e = task-stays (omega arith) (k .bounded .figured .settled .holds) (stays-bounds (u .stays)) in
       let fs = afterEvent t (k .frames) a in
       let c = coreOf (r .state .machine) cache′ memory′ in
@@ -137,12 +89,12 @@ module _ {price : Price} {w : List ℕ} {h : Header} {x : State} {cache memory :
           frames = fs;
           same = ap (λ (z : run.Turn). z .state .frames) turn-plain ∙ f .frames;
           sound = there .0;
+          on = u .on;
           running = there .1;
         };
         frames = refl;
         task = e;
         bound = u .bound (k .frames) (k .same);
-        moved-few = few-moved n (m .shaped .stack-high);
       }
 
 -- ---- the first state
@@ -160,7 +112,7 @@ begins {price} {w} {h} {x} y cache memory k a i j =
     let t = taskOf w h in
     let f = k .figured .settled .formed in
     let s = sound t f (priceOf price) (price-moves (price .start) (price .each)) in
-    let e = a cache memory i refl in
+    let e = a .state cache memory i refl in
     let r = runs-start t (sheetAt price t) f s (f .shaped .some) (idle y cache memory) (window-idle t (sheetAt price t) y cache memory i j) (clean-idle y cache memory) in
     record {
       runs = record {
@@ -168,6 +120,11 @@ begins {price} {w} {h} {x} y cache memory k a i j =
         frames = firstFrames t;
         same = ap (λ (z : run.State). z .frames) e;
         sound = s;
+        on = record {
+          some = omega (arith, f .shaped .stack-low);
+          few = omega (arith, f .shaped .stack-high);
+          top = a .top ∙ ap (λ (n : ℕ). x .machine .st % n) (sym i);
+        };
         running = subst (λ (z : Core). Running t (sheetAt price t) (s .ground) (firstFrames t) z) (sym (ap (λ (z : run.State). z .core) e)) r;
       };
       frames = refl;

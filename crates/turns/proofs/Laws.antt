@@ -49,23 +49,29 @@ module _ {w : List ℕ} {h : Header} (k : Settled w h) where
   first-frame : (s : Span) → s ≡ spanAt w 0 → s .frame ≡ func (taskOf w h) 0 .frame
   first-frame s e = ap (λ (z : Span). z .frame) e ∙ sym (frame-is w h 0 some-funcs)
 
-  pub start-room : (s : Span) (n : ℕ) → s ≡ spanAt w 0 → longest (taskOf w h) 0 ≤ n → (s .frame ≤ h .stack) × (s .frame ≤ n)
+  pub start-room : (s : Span) (n : ℕ) → s ≡ spanAt w 0 → longest (taskOf w h) 0 ≤ n → (0 < h .stack) × (s .frame ≤ h .stack) × (s .frame ≤ n)
   start-room s n e l =
       let t = k .formed in
       let c : 0 < count (taskOf w h) = t .shaped .some in
       let f = first-frame s e in
-      (omega (arith, f, t .shaped .frames 0 c), omega (arith, f, frame-room (taskOf w h) t 0 c))
+      (omega (arith, t .shaped .stack-low), omega (arith, f, t .shaped .frames 0 c), omega (arith, f, frame-room (taskOf w h) t 0 c))
 
   -- x: the eviction; l, the number that the machine has for it
   pub start-is : (x : Eviction) (s : Span) (l : ℕ) (m r : Machine) (n : ℕ) → s ≡ spanAt w 0 → evictionOf l ≡ x → Entered Eager (h .stack) (s .frame) n m
-      → ((cache memory : List ℕ) → coreOf r cache memory ≡ withEviction (evictionOf l) (coreOf m cache memory))
-      → Started x w h n (record { depth = 1; f = 0; p = 0; machine = r })
+      → ((cache memory : List ℕ) → coreOf r cache memory ≡ withEviction (evictionOf l) (coreOf m cache memory)) × (r .top ≡ m .top)
+      → Started x w h n (record { depth = 1; f = 0; p = 0; machine = r; moved = 0; allowed = 0 })
   unfolding placesIn
-  start-is x s l m r n e y a b cache memory i j =
+  start-is x s l m r n e y a b =
       let f = k .formed .shaped .frames 0 (k .formed .shaped .some) in
       let a′ = entered-with m r (evictionOf l) Eager (h .stack) (s .frame) n (omega (arith, f, first-frame s e)) a b in
-      let core = a′ cache memory i j ∙ (λ z. reserve (first-frame s e z) (idle (y z) cache memory) .core) in
-      λ z. record { frames = record { fn = 0; at = 0 } ∷ []; core = core z }
+      record {
+        state = λ cache memory i j.
+            let core = a′ .core cache memory i j ∙ (λ z. reserve (first-frame s e z) (idle (y z) cache memory) .core) in
+            λ z. record { frames = record { fn = 0; at = 0 } ∷ []; core = core z };
+        top = a′ .top;
+        moved = refl;
+        allowed = refl;
+      }
 
 -- the number of an eviction
 pub number-eager : (x : Eviction) → x ≡ Eager → evictionOf 0 ≡ x

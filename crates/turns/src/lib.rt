@@ -9,7 +9,7 @@ ghost use Rattle.tables.specs.Tables.{taskOf};
 ghost use Rattle.tables.specs.Valid.{Settled};
 ghost use Rattle.machine.specs.Moves.{evictionOf};
 ghost use Rattle.steps.specs.Frames.{framesOf};
-ghost use Rattle.steps.specs.Steps.{Stays, Steps};
+ghost use Rattle.steps.specs.Steps.{Stays, Steps, Counts};
 ghost use Rattle.turns.specs.Turns.{Runs, Placed, Turns, actOf, Started, StandsAt};
 use machine::Machine;
 use model::Eviction;
@@ -46,7 +46,7 @@ fn step(
         Point::Ensure(k) => moves::ensure_step(work, h, price, x, s, cache, memory, k),
         Point::Goto(q) => steps::goto_step(x, q),
         Point::Either(q, r) => steps::either_step(x, q, r, v),
-        Point::Return => steps::return_step(work, x, s.frame),
+        Point::Return => steps::return_step(work, x, cache, s.frame),
     }
 }
 
@@ -60,7 +60,7 @@ fn lazy_of(eviction: Eviction) -> usize
     }
 }
 
-// Function 0 has been entered on a memory of this length, on the core that evicts so.
+// Function 0 has been entered on a memory of this length, on the core that evicts so. Nothing was moved, and nothing is allowed.
 pub fn start(work: &[u32], h: Header, eviction: Eviction, length: usize) -> State
     requires { ⌜ Settled (now work) h × (longest (taskOf (now work) h) 0 ≤ length) ⌝ }
     ensures { λ r. ⌜ Started eviction (now (work .entry)) h length r ⌝ }
@@ -74,6 +74,8 @@ pub fn start(work: &[u32], h: Header, eviction: Eviction, length: usize) -> Stat
         f: 0,
         p: 0,
         machine,
+        moved: 0,
+        allowed: 0,
     }
 }
 
@@ -132,7 +134,7 @@ pub fn turn(
     kind: u32,
     value: u32,
 ) -> Turned
-    requires { ⌜ Runs price (now work) h x (now cache) (now memory) × (0 < x .depth) ⌝ }
+    requires { ⌜ Runs price (now work) h x (now cache) (now memory) × (0 < x .depth) × Counts x ⌝ }
     ensures { λ r. ⌜ Turns price (now (work .entry)) h x (now (cache .entry)) (now (memory .entry)) (actOf kind value)
         r (now (work .exit)) (now (cache .exit)) (now (memory .exit)) ⌝ }
 {

@@ -12,6 +12,4 @@ returns-2 : tie.Need-returns-2
 returns-2 c = let a = c .before .args in wrap-once (a .s) (a .b) (a .o) (omega arith) (omega arith) (omega arith)
 
 pub block-after-spec : {M : Type 1} → statement M
-block-after-spec =
-    tie.close
-    (tie.spec (λ c. search needs) (λ c. search needs) (λ c. search needs) (λ c. search needs) returns returns-2)
+block-after-spec = tie.close (tie.spec (λ c. search needs) returns returns-2)

@@ -27,7 +27,7 @@ loop-again c =
       omega arith,
       area-more (a .cache .now) (a .area .now) _ (a .top) (a .from) (l .loop .i) (l .loop .block) (l .loop .inv .1) (l .loop .inv .3),
       simp length-set (l .loop .inv .2),
-      block-next _ (a .top + a .from) _ (l .loop .i) _ (l .loop .inv .3) (c .block-after2 .ensures .0),
+      block-next _ (a .top + a .from) _ (l .loop .i) _ (l .loop .inv .3) (c .block-next .ensures .0),
       omega arith,
     )
 

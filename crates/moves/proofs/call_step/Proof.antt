@@ -9,49 +9,37 @@ use Rattle.moves.proofs.call_step.Tie as tie
 
 returns : tie.Need-returns
 returns c =
-    let c10 = c .before .before .before .before .before .before .before .before .before .before in
-    let c20 = c10 .before .before .before .before .before .before .before .before .before .before in
-    let e = c .before .before .before .before .before .reserve .ensures in
-    let u = c10 .put-caller .ensures in
-    let i = c10 .before .before .before .before .before .span-at .ensures in
-    let n = c10 .before .before .before .before .before .before .before .wide .ensures in
-    let s = c20 .before in
+    let r = c .before .before .before .before .before .before .before in
+    let u = r .before .before .before .before .before in
+    let i = u .before .before .before .before .before in
+    let n = i .before .before .wide .ensures in
+    let s = i .before .before .before .before .before .before in
     let p = s .pre in (
       λ v.
-          enters-does _ _ (s .args .x) _ _ _ _ _ _ _ v (p .some) (p .few) (omega (arith, p .bounded .figured .room)) n (callee-frame p n i)
-          (callee-spill p n) (c .moves-price .ensures) u e,
-      caller-stays _ (s .args .x .depth - 1) _ _ (omega (arith, p .some, p .few)) _ u,
+          enters-does _ _ (s .args .x) _ _ _ _ _ _ _ v (p .some) (p .few) (omega (arith, p .bounded .figured .room)) n (callee-frame p n (i .span-at .ensures))
+          (callee-spill p n) (c .before .before .before .moves-price .ensures) (c .before .added .ensures) (c .added2 .ensures) (u .put-caller .ensures)
+          (r .reserve .ensures),
+      caller-stays _ (s .args .x .depth - 1) _ _ (omega (arith, p .some, p .few)) _ (u .put-caller .ensures),
     )
 
 reserve-requires : tie.Need-reserve-requires
 reserve-requires c κs =
-    let c10 = c .before .before .before .before .before .before .before .before .before .before in
-    let p = c10 .before .before .before .before .before .pre in (
-      p .good,
-      omega (
-        arith,
-        callee-frame p (c10 .before .wide .ensures)
-            (c .before .before .before .before .before .before .before .before .before .span-at .ensures),
-        p .room,
-      ),
-    )
+    let i = c .before .before .before .before .before .before .before .before .before in
+    let p = i .before .before .before .before .before .before .pre in
+    let e = callee-frame p (i .before .before .wide .ensures) (i .span-at .ensures) in
+    (p .on, p .good, omega (arith, e, p .room), omega (arith, e, p .fits))
 
 moves-price-requires : tie.Need-moves-price-requires
 moves-price-requires c κs =
-    let c10 = c .before .before .before .before .before .before .before .before .before .before in
-    let c20 = c10 .before .before .before .before .before .before .before .before .before .before in
-    let p = c20 .pre in (
+    let i = c .before .before .before .before .before .before .before .before .before .before .before .before .before in
+    let p = i .before .before .before .before .before .before .pre in (
       p .bounded .figured .small,
-      callee-few p (c10 .before .before .before .before .before .before .wide .ensures) (c10 .before .before .before .before .span-at .ensures)
-          (c .before .before .before .before .reserve .ensures .blocks),
+      callee-few p (i .before .before .wide .ensures) (i .span-at .ensures) (c .before .before .before .reserve .ensures .blocks),
       omega arith,
     )
 
-add-t17 : tie.Need-add-t17
-add-t17 c =
-    let c10 = c .before .before .before .before .before .before .before .before .before .before in
-    let c20 = c10 .before .before .before .before .before .before .before .before .before .before in
-    let h = c20 .pre .few in omega arith
+add-t18 : tie.Need-add-t18
+add-t18 c = let h = c .before .before .before .before .before .before .before .before .before .before .before .before .before .before .before .before .before .before .before .before .before .pre .few in omega arith
 
 pub call-step-spec : {M : Type 1} → statement M
 call-step-spec =
@@ -64,10 +52,12 @@ call-step-spec =
     (λ c. search needs)
     (λ c. search needs)
     (λ c. search needs)
-    (λ c κs. search needs)
+    (λ c κs. let p = c .before .before .before .before .before .before .before .before .before .before .pre in omega (arith, p .bounded .figured .room, p .some, p .few, p .fn-in, p .small))
     reserve-requires
-    add-t17
     moves-price-requires
+    add-t18
+    (λ c κs. c .before .before .before .before .before .before .before .before .before .before .before .before .before .before .before .before .before .before .before .before .before .pre .counts .moved)
+    (λ c κs. c .before .before .before .before .before .before .before .before .before .before .before .before .before .before .before .before .before .before .before .before .before .before .pre .counts .allowed)
     (λ c. search needs)
     (λ c. search needs)
     returns)

@@ -10,20 +10,17 @@ use Rattle.moves.proofs.ensure_step.Tie as tie
 
 moves-price-requires : tie.Need-moves-price-requires
 moves-price-requires c κs =
-    let c10 = c .before .before .before .before .before .before .before .before .before .before in
-    let p = c10 .before .pre in
-    let a = c10 .before .args in
-    let o = coreOf (a .x .machine) (a .cache .now) (a .memory .now) in
-    (p .0 .bounded .figured .small, omega arith, omega (arith, c .before .before .before .before .ensure .ensures .blocks, ensure-blocks o (a .k), p .3))
+    let e = c .before .before .before in
+    let s = e .before .before .before .before .before .before .before in
+    let o = coreOf (s .args .x .machine) (s .args .cache .now) (s .args .memory .now) in
+    (s .pre .0 .bounded .figured .small, omega arith, omega (arith, e .ensure .ensures .blocks, ensure-blocks o (s .args .k), s .pre .4))
 
 returns : tie.Need-returns
 returns c =
-    let c10 = c .before .before .before .before .before .before .before .before .before .before in
-    let e = c .before .before .before .before .before .ensure .ensures in
-    let s = c10 .before .before in
-    λ v. ensure-does _ _ (s .args .x) _ _ _ _ v (s .pre .0 .some) _ _ (omega arith) (fill-inside (s .pre .0)
-    (c .before .before .before .before .before .before .before .before .figure-at .ensures))
-    (c .moves-price .ensures) e
+    let e = c .before .before .before .before .before .before .before in
+    let s = e .before .before .before .before .before .before .before in
+    λ v. ensure-does _ _ (s .args .x) _ _ _ _ v (s .pre .0 .some) _ _ (omega arith) (fill-inside (s .pre .0) (e .before .before .before .figure-at .ensures))
+    (c .before .before .before .moves-price .ensures) (c .before .added .ensures) (c .added2 .ensures) (e .ensure .ensures)
 
 pub ensure-step-spec : {M : Type 1} → statement M
 ensure-step-spec =
@@ -31,7 +28,9 @@ ensure-step-spec =
     (tie.spec
     (λ c κs. read-inside (c .before .before .before .pre .0) fillBounds (omega arith))
     (λ c κs. search needs)
-    (λ c. omega (arith, inside-small (c .before .before .before .before .before .before .before .before .before .before .before .pre .0)))
     moves-price-requires
+    (λ c. omega (arith, inside-small (c .before .before .before .before .before .before .before .before .before .before .before .before .pre .0)))
+    (λ c κs. search needs)
+    (λ c κs. search needs)
     (λ c. search needs)
     returns)

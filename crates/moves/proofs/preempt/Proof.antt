@@ -10,18 +10,19 @@ use Rattle.moves.proofs.preempt.Tie as tie
 
 moves-price-requires : tie.Need-moves-price-requires
 moves-price-requires c κs =
-    let p = c .before .before .before .before .before .before .before .before .before .before .before .before .before .before .before .pre in
-    let e = c .before .before .before .before .before .preempt .ensures in
-    (p .0 .bounded .figured .small, omega (arith, e .out, written-few _ (p .1), p .1 .fits, p .2), omega (arith, e .back, p .1 .fits, p .2))
+    let e = c .before .before .before .before .before in
+    let p = e .before .before .before .before .before .before .before .before .before .before .pre in
+    let d = e .preempt .ensures in
+    (p .0 .bounded .figured .small, omega (arith, d .out, written-few _ (p .2), p .2 .fits, p .1 .few), omega (arith, d .back, p .2 .fits, p .1 .few))
 
 returns : tie.Need-returns
 returns c =
-    let c10 = c .before .before .before .before .before .before .before .before .before .before in
-    let s = c10 .before .before .before .before .before .before in
+    let e = c .before .before .before .before .before .before .before .before in
+    let f = e .before .before .before .before in
+    let s = f .before .before .before .before .before .before in
     let k = s .pre .0 in
-    preempt-does _ _ (s .args .x) _ _ _ _ _ (k .some) _ _ (dead-inside k (c10 .before .before .figure-at .ensures)) (need-inside k
-    (c10 .before .figure-at2 .ensures))
-    (cost-inside k (c10 .figure-at3 .ensures)) (c .moves-price .ensures) (c .before .before .before .before .before .before .preempt .ensures)
+    preempt-does _ _ (s .args .x) _ _ _ _ _ (k .some) _ _ (dead-inside k (f .before .before .figure-at .ensures)) (need-inside k (f .before .figure-at2 .ensures))
+    (cost-inside k (f .figure-at3 .ensures)) (c .before .before .moves-price .ensures) (c .before .added .ensures) (c .added2 .ensures) (e .preempt .ensures)
 
 pub preempt-spec : {M : Type 1} → statement M
 preempt-spec =
@@ -32,6 +33,8 @@ preempt-spec =
     (λ c κs. read-inside (c .before .before .before .before .before .pre .0) costBounds (omega arith))
     (λ c κs. search needs)
     moves-price-requires
+    (λ c κs. c .before .before .before .before .before .before .before .before .before .before .before .before .before .before .before .before .pre .0 .counts .moved)
+    (λ c κs. c .before .before .before .before .before .before .before .before .before .before .before .before .before .before .before .before .before .pre .0 .counts .allowed)
     (λ c. search needs)
     (λ c. search needs)
     returns)

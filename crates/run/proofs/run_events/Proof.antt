@@ -1,73 +1,62 @@
 -- The loop keeps what is done and what is left of the run; its measure is the number of events left.
-use Prim.Native.Nat.{_-_, _*_, _/_, _≤_, _<_}
+use Prim.Native.Nat.{_-_, _/_, _≤_, _<_}
 use mathlib.Core.Path.{_≡_, refl}
 use native.Mathlib.Omega.{arith}
 use lib.ListN.{length}
 use borrow.Author.Needs.{needs}
 use Rattle.model.specs.Limits.{mostEventNumbers}
-use Rattle.prices.specs.Prices.{mostPrice}
 use Rattle.machine.specs.Moves.{evictionOf}
 use Rattle.turns.proofs.Given.{runs-placed}
-use Rattle.run.proofs.Loop.{mostBound, Loops, loops-start, serves-as, loops-end, loops-off, loops-more, loops-on}
+use Rattle.run.proofs.Loop.{Loops, loops-start, serves-as, loops-end, loops-off, loops-more, loops-on}
 use Rattle.run.proofs.run_events.Statement.{statement}
 use Rattle.run.proofs.run_events.Tie as tie
 
 abbrev Inv-loop : tie.InvT-loop
-Inv-loop events answers₀ cache₀ memory₀ work₀ h price x₀ count moved₀ allowed₀ i₀ answers cache memory work x moved allowed i =
-    Loops (evictionOf (x₀ .machine .lazy)) price h events answers₀ cache₀ memory₀ work₀ i x moved allowed answers cache memory work
+Inv-loop events answers₀ cache₀ memory₀ work₀ h price x₀ count i₀ answers cache memory work x i =
+    Loops (evictionOf (x₀ .machine .lazy)) price h events answers₀ cache₀ memory₀ work₀ i x answers cache memory work
     × (i ≤ count)
     × (length cache ≡ length cache₀)
     × (length memory ≡ length memory₀)
 
 abbrev μ-loop : tie.MeasureT-loop
-μ-loop events answers₀ cache₀ memory₀ work₀ h price x₀ count moved₀ allowed₀ i₀ answers cache memory work x moved allowed i = count - i
+μ-loop events answers₀ cache₀ memory₀ work₀ h price x₀ count i₀ answers cache memory work x i = count - i
 
--- an event is left, its answer has a place, and the counts before it are small
+-- an event is left, and its answer has a place
 bounds : (l : tie.In-loop Inv-loop μ-loop)
     → let s = l .before .before .before .before .before .before .before .before .before in
     let x = l .before .loop in
     (x .i < length (s .args .events .now) / 2) × (length (s .args .events .now) ≤ mostEventNumbers) × (x .i < length (x .answers))
-    × (x .moved ≤ 2 * mostPrice * x .i)
-    × (x .allowed ≤ mostBound * x .i)
 bounds l =
     let p = l .before .before .before .before .before .before .before .before .before .pre in
-    let j = l .before .loop .inv .0 in
     let t = l .loop-test .taken in
-    (omega (arith, t), p .few, omega (arith, p .answered, j .going .size, t), j .small, j .little)
+    (omega (arith, t), p .few, omega (arith, p .answered, l .before .loop .inv .0 .going .size, t))
 
 returns : tie.Need-returns Inv-loop μ-loop
 returns c =
-    let s = c .before .before .before .before .before .before .before .before .before .before in
+    let l = c .before .before .before .before .before .before .before .before in
+    let s = l .before .before in
     let a = s .before .before .before .before .before .before .before in
     serves-as (a .args .eviction) (s .start .result) (a .pre) (s .start .ensures)
-    (loops-off (c .before .before .before .before .before .before .before .before .before .loop .inv .0) _ (bounds
-    (c .before .before .before .before .before .before .before .before) .0)
-    (c .before .before .before .before .before .before .before .before .before .before .before .before .before .before .before .before .before .pre
-    .answered) (c .before .before .r .given .1) (c .before .before .before .before .event-row .ensures) (c .ended .ensures))
+    (loops-off (l .before .loop .inv .0) _ (bounds l .0) (a .pre .answered) (c .before .before .r .given .1)
+    (c .before .before .before .before .event-row .ensures) (c .ended .ensures))
 
 turn-requires : tie.Need-turn-requires Inv-loop μ-loop
-turn-requires c κs = loops-more (c .before .before .before .before .before .before .before .before .before .before .loop .inv .0) _ _
-    (c .before .before .before .enum-told .given .1) (c .before .before .before .before .before .event-row .ensures)
-
-add-moved : tie.Need-add-moved Inv-loop μ-loop
-add-moved c =
-    let c10 = c .before .before .before .before .before .before .before .before .before .before in
-    omega (arith, bounds (c10 .before .before .before .before .before .before .before), c .struct-known .given)
+turn-requires c κs =
+    let l = c .before .before .before .before .before .before .before .before .before in
+    loops-more (l .before .loop .inv .0) _ _ (omega (arith, bounds l)) (c .before .before .before .enum-told .given .1)
+    (c .before .before .before .before .before .event-row .ensures)
 
 loop-again : tie.Need-loop-again Inv-loop μ-loop
 loop-again c =
-    let l = c .before .before .before .before .before .before .before .before .before .before .before .before .before .before .before .before .before
-    .before .before in
-    let k = l .before .loop .inv in
-    let t = c .before .before .before .before .before .before .before .before .before .turn in (
-      loops-on (k .0) {r = t .result} (bounds l .0) (l .before .before .before .before .before .before .before .before .before .pre .answered)
-          (omega (arith, c .before .struct-known2 .given))
-          (c .before .before .before .before .before .before .before .before .before .before .before .before .before .enum-told .given .1)
-          (c .before .before .before .before .before .before .before .before .before .before .before .before .before .before .before .event-row .ensures)
-          (t .ensures),
+    let t = c .before .before .before .before .before .before .before in
+    let l = t .before .before .before .before .before .before .before .before .before .before in
+    let k = l .before .loop .inv in (
+      loops-on (k .0) {r = t .turn .result} (bounds l .0) (l .before .before .before .before .before .before .before .before .before .pre .answered)
+          (t .before .before .before .before .enum-told .given .1) (t .before .before .before .before .before .before .event-row .ensures)
+          (t .turn .ensures),
       omega (arith, bounds l),
-      omega (arith, k .2, t .kept),
-      omega (arith, k .3, t .kept),
+      omega (arith, k .2, t .turn .kept),
+      omega (arith, k .3, t .turn .kept),
     )
 
 returns-2 : tie.Need-returns-2 Inv-loop μ-loop
@@ -85,14 +74,8 @@ run-events-spec =
     (tie.spec
     Inv-loop
     μ-loop
-    (λ c κs. (c .before .before .before .before .before .before .pre .bounded .figured .settled, c .before .before .before .before .before .before .pre .room))
-    (λ c. (
-      loops-start (c .before .before .before .before .before .before .before .args .eviction) (c .start .result)
-          (c .before .before .before .before .before .before .before .pre) (c .start .ensures),
-      omega arith,
-      refl,
-      refl,
-    ))
+    (λ c κs. let p = c .before .before .before .before .before .before .pre in (p .bounded .figured .settled, p .room))
+    (λ c. let s = c .before .before .before .before .before .before .before in (loops-start (s .args .eviction) (c .start .result) (s .pre) (c .start .ensures), omega arith, refl, refl))
     (λ c. omega arith)
     (λ c. omega arith)
     (λ c. omega arith)
@@ -111,34 +94,10 @@ run-events-spec =
     returns
     (λ c. search needs)
     turn-requires
-    (λ c. omega (
-      arith,
-      bounds (c .before .before .before .before .before .before .before .before .before .before .before .before .before .before
-          .before .before),
-    ))
-    (λ c. omega (
-      arith,
-      bounds (c .before .before .before .before .before .before .before .before .before .before .before .before .before .before
-          .before .before),
-    ))
-    (λ c. omega arith)
-    add-moved
-    (λ c. omega arith)
-    (λ c. omega (
-      arith,
-      bounds (c .before .before .before .before .before .before .before .before .before .before .before .before .before .before
-          .before .before .before .before),
-    ))
-    (λ c. omega (
-      arith,
-      bounds (c .before .before .before .before .before .before .before .before .before .before .before .before .before .before
-          .before .before .before .before .before),
-    ))
-    (λ c. omega (
-      arith,
-      bounds (c .before .before .before .before .before .before .before .before .before .before .before .before .before .before
-          .before .before .before .before .before),
-    ))
+    (λ c. omega (arith, bounds (c .before .before .before .before .before .before .before .before .before .before .before .before .before .before .before .before)))
+    (λ c. omega (arith, bounds (c .before .before .before .before .before .before .before .before .before .before .before .before .before .before .before .before)))
+    (λ c. omega (arith, bounds (c .before .before .before .before .before .before .before .before .before .before .before .before .before .before .before .before .before)))
+    (λ c. omega (arith, bounds (c .before .before .before .before .before .before .before .before .before .before .before .before .before .before .before .before .before)))
     loop-again
     (λ c. omega arith)
     (λ c κs. search needs)

@@ -9,7 +9,7 @@ pub resumed-spec : {M : Type 1} → statement M
 resumed-spec =
     tie.close
     (tie.spec
-    (λ c. (callers-none _ _ (c .if1 .taken), refl))
+    (λ c. (callers-none _ _ (c .if1 .taken), refl, refl, refl))
     (λ c. search needs)
     (λ c. search needs)
     (λ c. search needs)
@@ -20,4 +20,4 @@ resumed-spec =
     (λ c. search needs)
     (λ c. search needs)
     (λ c κs. search needs)
-    (λ c. (caller-runs _ _ _ _ (c .before .before .before .before .if1 .left) (c .before .before .wide .ensures) (c .wide2 .ensures), refl)))
+    (λ c. (caller-runs _ _ _ _ (c .before .before .before .before .if1 .left) (c .before .before .wide .ensures) (c .wide2 .ensures), refl, refl, refl)))

@@ -12,8 +12,8 @@ returns c =
     let s = l .before .before .before .before in
     let x = s .args .x in
     λ z t w memory.
-    plain-does z (record { depth = x .depth; f = x .f; p = x .p; machine = l .store .result }) _ _ _ _ _ w _ memory _ (s .pre .some) (c .onwards .ensures)
-    (omega arith) refl (l .store .ensures memory)
+    plain-does z (record { depth = x .depth; f = x .f; p = x .p; machine = l .store .result; moved = x .moved; allowed = x .allowed }) _ _ _ _ _ w _ memory _ (s .pre .some) (l .store .ensures .1) (c .onwards .ensures)
+    (omega arith) refl (l .store .ensures .0 memory)
 
 pub store-step-spec : {M : Type 1} → statement M
 store-step-spec = tie.close (tie.spec (λ c κs. search needs) (λ c. search needs) (λ c κs. search needs) (λ c. search needs) returns)

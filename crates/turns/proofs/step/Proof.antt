@@ -58,7 +58,7 @@ returns-5 c =
     let a = s .args in
     let t = taskOf (a .work .now) (a .h) in (
       steps-at (a .price) t (a .x) (a .y) _ (a .v) (a .work .now) (a .cache .now) (a .memory .now) (y .y5 .given .1)
-          (c .goto-step .ensures (a .price) t (a .v) (a .work .now) (a .cache .now) (a .memory .now)),
+          (c .goto-step .ensures (a .price) t (a .v) (a .work .now) (a .cache .now) (a .memory .now) (s .pre .runs .on)),
       stays-same (a .work .now),
     )
 
@@ -69,18 +69,18 @@ returns-6 c =
     let a = s .args in
     let t = taskOf (a .work .now) (a .h) in (
       steps-at (a .price) t (a .x) (a .y) _ (a .v) (a .work .now) (a .cache .now) (a .memory .now) (y .y6 .given .1)
-          (c .either-step .ensures (a .price) t (a .work .now) (a .cache .now) (a .memory .now)),
+          (c .either-step .ensures (a .price) t (a .work .now) (a .cache .now) (a .memory .now) (s .pre .runs .on)),
       stays-same (a .work .now),
     )
 
 returns-7 : tie.Need-returns-7
 returns-7 c =
-    let y = c .before .before in
+    let y = c .before .before .before in
     let s = y .before .before .before .before .before in
     let a = s .args in
     let t = taskOf (a .work .now) (a .h) in (
       steps-at (a .price) t (a .x) (a .y) _ (a .v) (a .work .now) (a .cache .now) (a .memory .now) (y .enum-told .given .1)
-          (c .return-step .ensures (a .price) t (a .v) (a .cache .now) (a .memory .now) (frame-same (s .pre))),
+          (c .return-step .ensures (a .price) t (a .v) (a .memory .now) (frame-same (s .pre))),
       stays-same (a .work .now),
     )
 
@@ -94,18 +94,16 @@ ensure-step-requires : tie.Need-ensure-step-requires
 ensure-step-requires c κs =
     let y = c .before .before .before .before in
     let s = y .before .before .before .before .before in
-    let g = ensure-given (s .pre) (y .y4 .given .1) in (s .pre .inside, g .0, g .1, g .2)
+    let g = ensure-given (s .pre) (y .y4 .given .1) in (s .pre .inside, s .pre .runs .on, g .0, g .1, g .2)
 
 pub step-spec : {M : Type 1} → statement M
 step-spec =
     tie.close
     (tie.spec
     (λ c. search needs)
-    (λ c κs. load-given (c .before .before .before .before .before .before .before .pre) (c .before .before .y .given .1) (omega
-    (arith, c .before .before .before .before .before .before .before .good)))
+    (λ c κs. load-given (c .before .before .before .before .before .before .before .pre) (c .before .before .y .given .1))
     (λ c. search needs)
-    (λ c κs. store-given (c .before .before .before .before .before .before .before .pre) (c .before .before .y2 .given .1) (omega
-    (arith, c .before .before .before .before .before .before .before .good)))
+    (λ c κs. store-given (c .before .before .before .before .before .before .before .pre) (c .before .before .y2 .given .1))
     (λ c. search needs)
     call-step-requires
     (λ c. search needs)
@@ -115,7 +113,7 @@ step-spec =
     (λ c. search needs)
     (λ c κs. search needs)
     (λ c. search needs)
-    (λ c κs. return-given (c .before .before .before .before .before .before .pre) (omega (arith, c .before .before .before .before .before .before .good)))
+    (λ c κs. let s = c .before .before .before .before .before .before .before in return-given (s .pre) (omega (arith, s .good)))
     (λ c. search needs)
     returns
     (λ c. search needs)
@@ -130,5 +128,6 @@ step-spec =
     returns-4
     returns-5
     returns-6
+    (λ c. search needs)
     (λ c. search needs)
     returns-7)

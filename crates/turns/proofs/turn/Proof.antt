@@ -1,7 +1,7 @@
 -- A step or a preemption, by the kind.
 use native.Mathlib.Omega.{arith}
 use borrow.Author.Needs.{needs}
-use Rattle.turns.proofs.Given.{runs-placed, runs-good, runs-cache, runs-inside, placed-few, placed-point, placed-is}
+use Rattle.turns.proofs.Given.{runs-placed, runs-good, runs-inside, placed-few, placed-point, placed-is}
 use Rattle.turns.proofs.Events.{step-turns, preempt-turns}
 use Rattle.turns.proofs.turn.Statement.{statement}
 use Rattle.turns.proofs.turn.Tie as tie
@@ -31,7 +31,7 @@ step-requires c κs =
     let e = f .span-at .ensures in
     record {
       runs = s .pre .0;
-      inside = runs-inside (s .pre .0) (s .pre .1) _ e;
+      inside = runs-inside (s .pre .0) (s .pre .1) _ e (s .pre .2);
       here = placed-is (runs-placed (s .pre .0)) (s .pre .1) _ _ e (y .point-at .ensures);
     }
 
@@ -39,7 +39,7 @@ preempt-requires : tie.Need-preempt-requires
 preempt-requires c κs =
     let f = c .before .before .before .before in
     let s = f .before .before .before .before .before in
-    (runs-inside (s .pre .0) (s .pre .1) _ (f .span-at .ensures), runs-good (s .pre .0) (s .pre .1), runs-cache (s .pre .0) (s .pre .1))
+    (runs-inside (s .pre .0) (s .pre .1) _ (f .span-at .ensures) (s .pre .2), s .pre .0 .on, runs-good (s .pre .0) (s .pre .1))
 
 point-at-requires : tie.Need-point-at-requires
 point-at-requires c κs =

@@ -1,7 +1,7 @@
 -- What goes out, what the other task leaves, and what comes back.
 use borrow.Author.Needs.{needs}
 use Rattle.machine.specs.Moves.{coreOf}
-use Rattle.machine.proofs.Laws.{between-halves, both-halves}
+use Rattle.machine.proofs.Laws.{between-on, between-halves, both-halves}
 use Rattle.machine.proofs.Machine.preempt.Statement.{statement}
 use Rattle.machine.proofs.Machine.preempt.Tie as tie
 
@@ -10,8 +10,10 @@ resume-requires c κs =
     let o = c .before .before .before .before .before in
     let s = o .before .before .before .before in
     let p = s .before .before .before .before .before in
-    between-halves (coreOf (p .args .self) (p .args .cache .now) (p .args .memory .now)) _ _ _ _ (p .args .v)
-    (p .pre) (s .save .ensures) (o .overwrite .ensures)
+    let k = coreOf (p .args .self) (p .args .cache .now) (p .args .memory .now) in (
+      between-on k _ _ _ _ (p .args .v) (s .save .ensures) (o .overwrite .ensures),
+      between-halves k _ _ _ _ (p .args .v) (p .pre .1) (s .save .ensures) (o .overwrite .ensures),
+    )
 
 returns : tie.Need-returns
 returns c =
