@@ -2,9 +2,9 @@
  * Felknost: the preemption sheet of a task on a core with a stack cache.
  *
  * felknost_check judges a task text, given as its bytes; felknost_report writes its preemption sheet; felknost_dearest_points writes the ten dearest
- * points of that sheet; felknost_run steps and preempts the task on the machine. All return for every byte string and every length of the buffers, and
- * touch nothing but the buffers that they are lent and their own stack. Threads may call them at the same time, each with buffers of its own. Link with
- * libfelknost.a and a C library for memset and memcpy.
+ * points of that sheet; felknost_run steps and preempts the task on the machine, and felknost_run_lazy does so on a core with a lazy pointer. All return for
+ * every byte string and every length of the buffers, and touch nothing but the buffers that they are lent and their own stack. Threads may call them at the
+ * same time, each with buffers of its own. Link with libfelknost.a and a C library for memset and memcpy.
  */
 #ifndef FELKNOST_H
 #define FELKNOST_H
@@ -110,6 +110,17 @@ uint32_t felknost_dearest_points(const uint8_t *text, size_t text_length, uint32
 uint32_t felknost_run(const uint8_t *text, size_t text_length, uint32_t start, uint32_t each, const uint32_t *events, size_t events_length,
                       uint32_t *answers, size_t answers_length, uint32_t *cache, size_t cache_length, uint32_t *memory, size_t memory_length,
                       uint32_t *work, size_t work_length, uint64_t *result, size_t result_length);
+
+/*
+ * The same run on a core with a lazy pointer. The cached blocks from the pointer up equal memory, so this core writes back only those below it. A store lifts
+ * the pointer above its own block; a fill leaves it where it is.
+ *
+ * For every input it returns what felknost_run returns and leaves what felknost_run leaves in answers, cache, memory and work, but for the fourth number of
+ * result: the price of all that was moved, which is never more than on the other core. The same sheet limits both, so the fifth number is the same.
+ */
+uint32_t felknost_run_lazy(const uint8_t *text, size_t text_length, uint32_t start, uint32_t each, const uint32_t *events, size_t events_length,
+                           uint32_t *answers, size_t answers_length, uint32_t *cache, size_t cache_length, uint32_t *memory, size_t memory_length,
+                           uint32_t *work, size_t work_length, uint64_t *result, size_t result_length);
 
 /*
  * The stack that a call takes, in bytes, measured and rounded up: its own, and what memset and memcpy take, which it calls, with the dynamic

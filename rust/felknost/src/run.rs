@@ -1,4 +1,4 @@
-//! A run of an event list.
+//! A run of an event list on either core.
 
 use crate::{raw, Refusal};
 
@@ -29,18 +29,39 @@ pub fn run(
     memory: &mut [u32],
     work: &mut [u32],
 ) -> RunResult {
+    let call = |result: &mut [u64]| {
+        raw::run(
+            text, start, each, events, answers, cache, memory, work, result,
+        )
+    };
+    result_of(call)
+}
+
+/// Runs an event list on the core with a lazy pointer, which writes back only the blocks below it. What it is lent, returns and leaves is as for [`run`],
+/// but for what is moved, which is no more.
+#[allow(clippy::too_many_arguments, reason = "the C function has them")]
+pub fn run_lazy(
+    text: &[u8],
+    start: u32,
+    each: u32,
+    events: &[u32],
+    answers: &mut [u32],
+    cache: &mut [u32],
+    memory: &mut [u32],
+    work: &mut [u32],
+) -> RunResult {
+    let call = |result: &mut [u64]| {
+        raw::run_lazy(
+            text, start, each, events, answers, cache, memory, work, result,
+        )
+    };
+    result_of(call)
+}
+
+/// What a call returns that is lent a result of five numbers.
+fn result_of(call: impl FnOnce(&mut [u64]) -> u32) -> RunResult {
     let mut result = [0; 5];
-    let answer = raw::run(
-        text,
-        start,
-        each,
-        events,
-        answers,
-        cache,
-        memory,
-        work,
-        &mut result,
-    );
+    let answer = call(&mut result);
     debug_assert_eq!(answer, 1);
     let [code, place, done, moved, allowed] = result;
     RunResult {
