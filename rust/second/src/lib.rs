@@ -1,5 +1,5 @@
-//! A second implementation of the preemption sheet: check, report, the dearest points and run over
-//! one task text.
+//! A second implementation of the preemption sheet: check, report, the dearest points and run, on a
+//! core with a lazy pointer and on one without, over one task text.
 //!
 //! It is written for comparison with another implementation and depends on nothing else.
 
@@ -8,6 +8,7 @@
 
 pub mod dearest;
 pub mod figures;
+pub mod lazy;
 pub mod links;
 pub mod machine;
 pub mod plain;
@@ -22,7 +23,7 @@ pub mod written;
 pub use dearest::dearest_points;
 pub use price::Price;
 pub use refusal::{code_and_place, Refusal, Row, Verdict};
-pub use run::{run, RunResult};
+pub use run::{run, run_lazy, RunResult};
 pub use sheet::report;
 pub use written::WriteResult;
 

@@ -1,6 +1,34 @@
-//! The stack cache: occupancy, spill, fill and preemption on lent cache and memory.
+//! What a run asks of a core, and the stack cache: occupancy, spill, fill and preemption on lent
+//! cache and memory.
 
 use crate::price::Moves;
+
+/// A core on lent cache and memory.
+pub trait Core<'a> {
+    /// A core with an empty stack, its top at the end of the memory.
+    fn idle(cache: &'a mut [u32], memory: &'a mut [u32]) -> Self;
+
+    /// All moves so far.
+    fn moves(&self) -> Moves;
+
+    /// Enters a function: reserves its frame and spills the highest cached addresses.
+    fn enter(&mut self, frame: usize);
+
+    /// Leaves a function: frees its frame.
+    fn leave(&mut self, frame: usize);
+
+    /// Fills the frame from the first address that is not cached.
+    fn ensure(&mut self, frame: usize);
+
+    /// The number in the cache block of an offset.
+    fn load(&self, offset: usize) -> u32;
+
+    /// Sets the number in the cache block of an offset.
+    fn store(&mut self, offset: usize, value: u32);
+
+    /// Lets another task use the cache, which leaves `left` in every block.
+    fn preempt(&mut self, dead: usize, need: usize, left: u32);
+}
 
 /// Blocks spilled by a reserve of `frame` at `occupancy`, and the occupancy after it.
 pub fn reserve(stack: usize, occupancy: usize, frame: usize) -> (usize, usize) {
@@ -18,7 +46,7 @@ pub fn ensure(occupancy: usize, frame: usize) -> (usize, usize) {
     (frame.saturating_sub(occupancy), occupancy.max(frame))
 }
 
-/// The machine. Its cached addresses are the `occupancy` ones from `top` upward.
+/// The core without a lazy pointer. Its cached addresses are the `occupancy` ones from `top` upward.
 #[derive(Debug)]
 pub struct Machine<'a> {
     cache: &'a mut [u32],
@@ -28,24 +56,7 @@ pub struct Machine<'a> {
     moves: Moves,
 }
 
-impl<'a> Machine<'a> {
-    /// A machine with an empty stack, its top at the end of the memory.
-    pub fn new(cache: &'a mut [u32], memory: &'a mut [u32]) -> Self {
-        let top = memory.len();
-        Machine {
-            cache,
-            memory,
-            top,
-            occupancy: 0,
-            moves: Moves::default(),
-        }
-    }
-
-    /// All moves so far.
-    pub fn moves(&self) -> Moves {
-        self.moves
-    }
-
+impl Machine<'_> {
     fn block(&self, address: usize) -> usize {
         address % self.cache.len()
     }
@@ -66,41 +77,52 @@ impl<'a> Machine<'a> {
         }
         self.moves.add(to - from);
     }
+}
 
-    /// Enters a function: reserves its frame and spills the highest cached addresses.
-    pub fn enter(&mut self, frame: usize) {
+impl<'a> Core<'a> for Machine<'a> {
+    fn idle(cache: &'a mut [u32], memory: &'a mut [u32]) -> Self {
+        let top = memory.len();
+        Machine {
+            cache,
+            memory,
+            top,
+            occupancy: 0,
+            moves: Moves::default(),
+        }
+    }
+
+    fn moves(&self) -> Moves {
+        self.moves
+    }
+
+    fn enter(&mut self, frame: usize) {
         let (spilled, occupancy) = reserve(self.cache.len(), self.occupancy, frame);
         self.write_back(self.occupancy - spilled, self.occupancy);
         self.top -= frame;
         self.occupancy = occupancy;
     }
 
-    /// Leaves a function: frees its frame.
-    pub fn leave(&mut self, frame: usize) {
+    fn leave(&mut self, frame: usize) {
         self.top += frame;
         self.occupancy = free(self.occupancy, frame);
     }
 
-    /// Fills the frame from the first address that is not cached.
-    pub fn ensure(&mut self, frame: usize) {
+    fn ensure(&mut self, frame: usize) {
         let (filled, occupancy) = ensure(self.occupancy, frame);
         self.read_in(self.occupancy, self.occupancy + filled);
         self.occupancy = occupancy;
     }
 
-    /// The number in the cache block of an offset.
-    pub fn load(&self, offset: usize) -> u32 {
+    fn load(&self, offset: usize) -> u32 {
         self.cache[self.block(self.top + offset)]
     }
 
-    /// Sets the number in the cache block of an offset.
-    pub fn store(&mut self, offset: usize, value: u32) {
+    fn store(&mut self, offset: usize, value: u32) {
         let block = self.block(self.top + offset);
         self.cache[block] = value;
     }
 
-    /// Lets another task use the cache, which leaves `left` in every block.
-    pub fn preempt(&mut self, dead: usize, need: usize, left: u32) {
+    fn preempt(&mut self, dead: usize, need: usize, left: u32) {
         let skipped = self.occupancy.min(dead);
         self.write_back(skipped, self.occupancy);
         self.cache.fill(left);

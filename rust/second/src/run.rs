@@ -1,7 +1,8 @@
-//! The run of an event list on the machine.
+//! The run of an event list on either core.
 
 use crate::figures::{figures, Figures};
-use crate::machine::Machine;
+use crate::lazy::LazyCore;
+use crate::machine::{Core, Machine};
 use crate::price::Price;
 use crate::refusal::{code_and_place, Refusal, Row, Verdict};
 use crate::text::{Point, Task};
@@ -48,13 +49,74 @@ pub fn run(
     cache: &mut [u32],
     memory: &mut [u32],
 ) -> RunResult {
-    match crate::admit_at(text, start, each, work_len) {
-        Ok((task, price)) => {
-            let figures = figures(&task, price);
+    match admitted(text, start, each, work_len) {
+        Ok((task, price, figures)) => {
             run_with(&figures, &task, price, events, answers, cache, memory)
         }
         Err(refusal) => refused(refusal),
     }
+}
+
+/// Runs a task on the core with a lazy pointer.
+#[allow(clippy::too_many_arguments, reason = "the service has them")]
+pub fn run_lazy(
+    text: &[u8],
+    start: u32,
+    each: u32,
+    work_len: usize,
+    events: &[u32],
+    answers: &mut [u32],
+    cache: &mut [u32],
+    memory: &mut [u32],
+) -> RunResult {
+    run_lazy_seen(
+        text,
+        start,
+        each,
+        work_len,
+        events,
+        answers,
+        cache,
+        memory,
+        |_| (),
+    )
+}
+
+/// The same, and shows the core to `see` before each event, a refused one included, and at the end:
+/// so after each event.
+#[allow(
+    clippy::too_many_arguments,
+    reason = "those of the service, and one more"
+)]
+pub fn run_lazy_seen(
+    text: &[u8],
+    start: u32,
+    each: u32,
+    work_len: usize,
+    events: &[u32],
+    answers: &mut [u32],
+    cache: &mut [u32],
+    memory: &mut [u32],
+    see: impl FnMut(&LazyCore),
+) -> RunResult {
+    match admitted(text, start, each, work_len) {
+        Ok((task, price, figures)) => {
+            run_on(&figures, &task, price, events, answers, cache, memory, see)
+        }
+        Err(refusal) => refused(refusal),
+    }
+}
+
+/// Takes a price and reads a text that pass the rows 15, 23 and 1 to 13, with the figures.
+fn admitted(
+    text: &[u8],
+    start: u32,
+    each: u32,
+    work_len: usize,
+) -> Result<(Task, Price, Figures), Refusal> {
+    let (task, price) = crate::admit_at(text, start, each, work_len)?;
+    let figures = figures(&task, price);
+    Ok((task, price, figures))
 }
 
 /// Runs a task that has passed the checks, with the figures of it at this price by any rule.
@@ -67,8 +129,27 @@ pub fn run_with(
     cache: &mut [u32],
     memory: &mut [u32],
 ) -> RunResult {
+    let unseen = |_: &Machine| ();
+    run_on(figures, task, price, events, answers, cache, memory, unseen)
+}
+
+/// Runs such a task on any core, and shows the core to `see` before each event and at the end.
+#[allow(
+    clippy::too_many_arguments,
+    reason = "those of the services, and one more"
+)]
+fn run_on<'a, C: Core<'a>>(
+    figures: &'a Figures,
+    task: &'a Task,
+    price: Price,
+    events: &[u32],
+    answers: &mut [u32],
+    cache: &'a mut [u32],
+    memory: &'a mut [u32],
+    see: impl FnMut(&C),
+) -> RunResult {
     match lengths(task, figures, events, answers, cache, memory) {
-        Ok(()) => Run::new(task, figures, cache, memory).all(price, events, answers),
+        Ok(()) => Run::new(task, figures, cache, memory).all(price, events, answers, see),
         Err(refusal) => refused(refusal),
     }
 }
@@ -114,39 +195,46 @@ struct Frame {
 }
 
 /// The state of a run between two events.
-struct Run<'a> {
+struct Run<'a, C> {
     task: &'a Task,
     figures: &'a Figures,
-    machine: Machine<'a>,
+    core: C,
     frames: Vec<Frame>,
     allowed: u64,
 }
 
-impl<'a> Run<'a> {
+impl<'a, C: Core<'a>> Run<'a, C> {
     fn new(
         task: &'a Task,
         figures: &'a Figures,
         cache: &'a mut [u32],
         memory: &'a mut [u32],
     ) -> Self {
-        let mut machine = Machine::new(cache, memory);
+        let mut core = C::idle(cache, memory);
         // A frame fits the empty cache, so nothing is spilled here.
-        machine.enter(task.funcs[0].frame as usize);
+        core.enter(task.funcs[0].frame as usize);
         Run {
             task,
             figures,
-            machine,
+            core,
             frames: vec![Frame { func: 0, point: 0 }],
             allowed: 0,
         }
     }
 
-    /// Does the events up to the first that is refused. The machine counts the moves; they are
-    /// priced at the end.
-    fn all(mut self, price: Price, events: &[u32], answers: &mut [u32]) -> RunResult {
+    /// Does the events up to the first that is refused. The core counts the moves; they are priced
+    /// at the end.
+    fn all(
+        mut self,
+        price: Price,
+        events: &[u32],
+        answers: &mut [u32],
+        mut see: impl FnMut(&C),
+    ) -> RunResult {
         let mut ending = Ok(());
         let mut done = 0;
         for (pair, answer) in events.chunks_exact(2).zip(answers) {
+            see(&self.core);
             match self.event(pair[0], pair[1]) {
                 Ok(number) => *answer = number,
                 Err(row) => {
@@ -156,10 +244,11 @@ impl<'a> Run<'a> {
             }
             done += 1;
         }
+        see(&self.core);
         RunResult {
             ending,
             done,
-            moved: price.of_all(self.machine.moves()),
+            moved: price.of_all(self.core.moves()),
             allowed: self.allowed,
         }
     }
@@ -183,7 +272,7 @@ impl<'a> Run<'a> {
     fn preempt(&mut self, index: usize, left: u32) {
         let point = &self.figures.points[index];
         self.allowed += u64::from(point.cost);
-        self.machine
+        self.core
             .preempt(point.dead as usize, point.need as usize, left);
     }
 
@@ -192,11 +281,11 @@ impl<'a> Run<'a> {
         let mut next = frame.point + 1;
         let mut answer = 0;
         match self.task.points[index] {
-            Point::Load(offset) => answer = self.machine.load(offset as usize),
-            Point::Store(offset) => self.machine.store(offset as usize, value),
+            Point::Load(offset) => answer = self.core.load(offset as usize),
+            Point::Store(offset) => self.core.store(offset as usize, value),
             Point::Ensure(_) => {
                 self.allowed += u64::from(self.figures.points[index].fill);
-                self.machine.ensure(own);
+                self.core.ensure(own);
             }
             Point::Goto(target) => next = target as usize,
             Point::Either(first, second) => match value {
@@ -210,7 +299,7 @@ impl<'a> Run<'a> {
                 return Ok(0);
             }
             Point::Return => {
-                self.machine.leave(own);
+                self.core.leave(own);
                 self.frames.pop();
                 return Ok(0);
             }
@@ -227,7 +316,7 @@ impl<'a> Run<'a> {
 
     fn call(&mut self, func: usize) {
         self.allowed += u64::from(self.figures.funcs[func].spill);
-        self.machine.enter(self.task.funcs[func].frame as usize);
+        self.core.enter(self.task.funcs[func].frame as usize);
         self.frames.push(Frame { func, point: 0 });
     }
 }
