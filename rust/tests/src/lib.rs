@@ -1,6 +1,7 @@
 //! Each service, called in the proved archive and in the second implementation. The two have to agree, and in the archive nothing but what
-//! the rules name may change.
+//! the rules name may change. A run is made on both cores.
 
+mod cores;
 mod guarded;
 mod rules;
 mod services;
@@ -8,9 +9,10 @@ mod sheets;
 mod texts;
 mod written;
 
+pub use cores::{run, run_at, run_both_at, BothRan, Lent, Ran};
 pub use guarded::{is_noise_from, noise, Guarded, Noise};
 pub use rules::{figures_of, report_by, run_by};
-pub use services::{check, run, run_at, verdict, Lent, Ran};
+pub use services::{check, verdict};
 pub use sheets::{rows, split_total, sum_of_costs, whole_report};
 pub use texts::{called, deep, prices, steps, text, TWO};
 pub use written::{

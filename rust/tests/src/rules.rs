@@ -7,7 +7,7 @@ use second::sheet::{print_with, Foot};
 use second::text::Task;
 use second::{admit_at, WORK_MIN};
 
-use crate::services::{Lent, Ran};
+use crate::cores::{Lent, Ran};
 
 /// An accepted text as read, a price that fits, and the figures by a rule.
 fn ruled(rule: Displacement, text: &[u8], price: Price) -> (Task, second::Price, Figures) {

@@ -297,41 +297,63 @@ mod in_archive {
 
     #[test]
     fn a_result_that_is_too_short_leaves_all_as_it_was() {
-        for length in 0..5 {
-            let mut answers = Guarded::noisy(7);
-            let mut cache = Guarded::noisy(5);
-            let mut memory = Guarded::noisy(6);
-            let mut work = Guarded::noisy(WORK_MIN);
-            let mut result = Guarded::noisy(length);
-            let answer = raw::run(
-                TWO.as_bytes(),
-                0,
-                1,
-                &steps(7, 3),
-                answers.lent(),
-                cache.lent(),
-                memory.lent(),
-                work.lent(),
-                result.lent(),
-            );
-            assert_eq!(answer, 0);
-            assert_eq!(answers.held("the answers"), noise::<u32>(7));
-            assert_eq!(cache.held("the cache"), noise::<u32>(5));
-            assert_eq!(memory.held("the memory"), noise::<u32>(6));
-            assert_eq!(work.held("the working space"), noise::<u32>(WORK_MIN));
-            assert_eq!(result.held("the result"), noise::<u64>(length));
+        for function in [raw::run, raw::run_lazy] {
+            (0..5).for_each(|length| assert_short_result(function, length));
         }
+    }
+
+    fn assert_short_result(function: raw::Runner, length: usize) {
+        let mut answers = Guarded::noisy(7);
+        let mut cache = Guarded::noisy(5);
+        let mut memory = Guarded::noisy(6);
+        let mut work = Guarded::noisy(WORK_MIN);
+        let mut result = Guarded::noisy(length);
+        let answer = function(
+            TWO.as_bytes(),
+            0,
+            1,
+            &steps(7, 3),
+            answers.lent(),
+            cache.lent(),
+            memory.lent(),
+            work.lent(),
+            result.lent(),
+        );
+        assert_eq!(answer, 0);
+        assert_eq!(answers.held("the answers"), noise::<u32>(7));
+        assert_eq!(cache.held("the cache"), noise::<u32>(5));
+        assert_eq!(memory.held("the memory"), noise::<u32>(6));
+        assert_eq!(work.held("the working space"), noise::<u32>(WORK_MIN));
+        assert_eq!(result.held("the result"), noise::<u64>(length));
     }
 
     #[test]
     fn binding() {
+        for function in [felknost::run, felknost::run_lazy] {
+            assert_binding(function);
+        }
+    }
+
+    /// A function of the binding that runs.
+    type Binding = fn(
+        &[u8],
+        u32,
+        u32,
+        &[u32],
+        &mut [u32],
+        &mut [u32],
+        &mut [u32],
+        &mut [u32],
+    ) -> felknost::RunResult;
+
+    fn assert_binding(function: Binding) {
         let mut answers = [7; 7];
         let (mut cache, mut memory) = ([7; 5], [7; 6]);
         let mut work = vec![7; felknost::WORK];
         let mut call = |start, each, answers: &mut [u32]| {
             let (text, events) = (TWO.as_bytes(), steps(7, 3));
             let (cache, memory) = (&mut cache, &mut memory);
-            felknost::run(
+            function(
                 text, start, each, &events, answers, cache, memory, &mut work,
             )
         };

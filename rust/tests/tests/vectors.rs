@@ -7,8 +7,8 @@ use second::figures::Displacement;
 use second::sheet::Foot;
 use second::WORK_MIN;
 use tests::{
-    is_noise_from, prices, report, report_at, report_by, run, run_at, run_by, split_total,
-    sum_of_costs, verdict, whole_report, Lent,
+    is_noise_from, prices, report, report_at, report_by, run, run_at, run_both_at, run_by,
+    split_total, sum_of_costs, verdict, whole_report, Lent,
 };
 use vectors::{amended, expected, in_force, original, read, read_text, tasks};
 
@@ -154,6 +154,29 @@ fn vectors_run() {
         assert_eq!(ran.result.numbers()[..], case.result, "{}", case.name);
         assert_eq!(ran.lent, case.back, "{}", case.name);
     }
+}
+
+/// On the core with a lazy pointer every run gives the same, but for moved, which is no more.
+#[test]
+fn vectors_run_lazy() {
+    let mut less = 0;
+    for case in run_vectors() {
+        let ran = run_both_at(
+            &case.text,
+            Price::BLOCKS,
+            &case.events,
+            &case.lent,
+            WORK_MIN,
+        );
+        let numbers = ran.lazy.result.numbers();
+        assert_eq!(numbers[..3], case.result[..3], "{}", case.name);
+        assert!(numbers[3] <= case.result[3], "{}", case.name);
+        assert_eq!(numbers[4], case.result[4], "{}", case.name);
+        assert_eq!(ran.lazy.lent, case.back, "{}", case.name);
+        less += usize::from(numbers[3] < case.result[3]);
+    }
+    println!("runs of the vectors that move less on the lazy core: {less}");
+    assert!(less > 0);
 }
 
 /// A price that fits changes nothing but moved and allowed.

@@ -1,0 +1,337 @@
+//! Run on the core with a lazy pointer, beside the core without: the worked lists, random lists at any price, every short list of small tasks, and every
+//! row of refusal. Each run here is made in the archive and in the second implementation, which has to be clean after each event, and the cores agree in
+//! all but moved, which is no more on the lazy one (`run_both_at`).
+
+use std::collections::BTreeSet;
+use std::fmt::Display;
+
+use generate::{Price, RunCase};
+use second::{RunResult, WORK_MIN};
+use tests::{run_both_at, steps, text, BothRan, Lent, TWO};
+
+/// The tasks of the random lists, of two kinds, and how many lists each has: 200,000 in all.
+const VALID: u64 = 14_000;
+const WRAPPERS: u64 = 6_000;
+const LISTS: usize = 10;
+
+/// The most events of a list of a small task.
+const EVENTS: usize = 9;
+
+const START_OF_10: Price = Price { start: 10, each: 1 };
+
+/// The result of a run whose events are all done.
+fn all_done(done: u32, moved: u64, allowed: u64) -> RunResult {
+    RunResult {
+        ending: Ok(()),
+        done,
+        moved,
+        allowed,
+    }
+}
+
+/// Runs a list on buffers of these lengths that hold noise.
+fn run_both(text: &str, price: Price, events: &[u32], cache: usize, memory: usize) -> BothRan {
+    let lent = Lent::noisy(events.len() / 2, cache, memory);
+    run_both_at(text.as_bytes(), price, events, &lent, WORK_MIN)
+}
+
+/// Document 01's two lists. No block is written back twice in them, so the cores move the same.
+#[test]
+fn worked_lists() {
+    let plain = steps(7, 3);
+    let preempted = [steps(3, 3), vec![1, 8], steps(4, 3)].concat();
+    for (price, events, wanted) in [
+        (Price::BLOCKS, &plain, all_done(7, 2, 2)),
+        (Price::BLOCKS, &preempted, all_done(8, 9, 9)),
+        (START_OF_10, &plain, all_done(7, 22, 22)),
+        (START_OF_10, &preempted, all_done(8, 49, 59)),
+    ] {
+        let ran = run_both(TWO, price, events, 5, 6);
+        assert_eq!(ran.eager.result, wanted);
+        assert_eq!(ran.lazy.result, wanted);
+    }
+}
+
+/// A caller of three blocks that calls twice, and a callee of three, in a cache of four.
+fn two_calls() -> String {
+    let caller = [
+        "store 2", "call 1", "ensure 3", "call 1", "ensure 3", "load 2", "return",
+    ];
+    text(4, &[(3, &caller), (3, &["store 0", "return"])])
+}
+
+/// Each call pushes two blocks of the caller out, and each ensure brings two back. The second call finds them clean, and the lazy core writes none of them.
+#[test]
+fn the_second_call_finds_clean_blocks() {
+    let text = two_calls();
+    let lent = Lent {
+        answers: vec![9; 12],
+        cache: vec![8; 4],
+        memory: vec![9; 6],
+    };
+    let events: Vec<u32> = (1..=11).flat_map(|value| [0, value]).collect();
+    let ran = run_both_at(text.as_bytes(), Price::BLOCKS, &events, &lent, WORK_MIN);
+    assert_eq!(ran.eager.result, all_done(11, 8, 8));
+    assert_eq!(ran.lazy.result, all_done(11, 6, 8));
+    // The caller's offsets 1 and 2 are the addresses 4 and 5, in the blocks 0 and 1. The callee stores to block 0, and the ensure fills it again.
+    let held = Lent {
+        answers: vec![0, 0, 0, 0, 0, 0, 0, 0, 0, 1, 0, 9],
+        cache: vec![8, 1, 8, 8],
+        memory: vec![9, 9, 9, 9, 8, 1],
+    };
+    assert_eq!(ran.lazy.lent, held);
+    assert_eq!(ran.eager.lent, held);
+}
+
+/// The service of the second implementation, which the other tests call by the form that shows its core.
+#[test]
+fn second_service() {
+    let (mut answers, mut cache, mut memory) = ([9; 11], [8; 4], [9; 6]);
+    let result = second::run_lazy(
+        two_calls().as_bytes(),
+        10,
+        1,
+        WORK_MIN,
+        &steps(11, 3),
+        &mut answers,
+        &mut cache,
+        &mut memory,
+    );
+    // A spill and two fills of two blocks, of four moves that are allowed.
+    assert_eq!(result, all_done(11, 36, 48));
+    assert_eq!(answers[9], 3);
+}
+
+/// How often the lazy core moves less.
+#[derive(Debug, Default)]
+struct Counted {
+    runs: usize,
+    less: usize,
+    refused: usize,
+}
+
+impl Counted {
+    fn count(&mut self, case: &impl Display, ran: &BothRan) {
+        let result = ran.lazy.result;
+        assert!(result.moved <= result.allowed, "{case}: {result:?}");
+        self.runs += 1;
+        self.less += usize::from(ran.lazy_moves_less());
+        self.refused += usize::from(result.ending.is_err());
+    }
+}
+
+/// Every other list counts blocks.
+fn random_price(case: &RunCase) -> Price {
+    match case.list % 2 {
+        0 => Price::BLOCKS,
+        _ => generate::price(case.seed * LISTS as u64 + case.list as u64),
+    }
+}
+
+/// Random tasks, prices, lists with preemptions and some refused events, and buffers of any numbers.
+#[test]
+fn random_runs() {
+    let mut counted = Counted::default();
+    let valid = (0..VALID).map(|seed| generate::runs(seed + 30_000_000, LISTS));
+    let wrappers = (0..WRAPPERS).map(|seed| generate::wrapper_runs(seed + 31_000_000, LISTS));
+    for case in valid.chain(wrappers).flatten() {
+        let price = random_price(&case);
+        let lent = Lent {
+            answers: case.lent.answers.clone(),
+            cache: case.lent.cache.clone(),
+            memory: case.lent.memory.clone(),
+        };
+        let ran = run_both_at(&case.text, price, &case.lent.events, &lent, WORK_MIN);
+        counted.count(&format_args!("{case} {price:?}"), &ran);
+    }
+    println!("random runs on both cores: {counted:?}");
+    assert_eq!(counted.runs, 200_000);
+    assert!(
+        counted.less > 20_000 && counted.refused > 2_000,
+        "{counted:?}"
+    );
+}
+
+/// Small tasks in which blocks are stored to above and below the lazy pointer, spilled, filled, and pushed out again.
+fn small_tasks() -> [String; 8] {
+    [
+        text(1, &[(1, &["store 0", "load 0", "goto 0"])]),
+        text(
+            2,
+            &[(
+                2,
+                &["store 1", "load 1", "store 0", "load 0", "load 1", "goto 2"],
+            )],
+        ),
+        text(
+            3,
+            &[(
+                3,
+                &[
+                    "store 0",
+                    "store 2",
+                    "either 3 5",
+                    "store 1",
+                    "load 1",
+                    "load 0",
+                    "load 2",
+                    "goto 2",
+                ],
+            )],
+        ),
+        text(
+            1,
+            &[
+                (1, &["store 0", "call 1", "ensure 1", "load 0", "goto 1"]),
+                (1, &["store 0", "return"]),
+            ],
+        ),
+        text(
+            2,
+            &[
+                (
+                    2,
+                    &[
+                        "store 0",
+                        "store 1",
+                        "call 1",
+                        "ensure 2",
+                        "load 0",
+                        "either 2 0",
+                    ],
+                ),
+                (1, &["return"]),
+            ],
+        ),
+        text(
+            2,
+            &[
+                (1, &["store 0", "call 1", "ensure 1", "goto 1"]),
+                (1, &["call 2", "ensure 1", "return"]),
+                (1, &["store 0", "load 0", "return"]),
+            ],
+        ),
+        TWO.to_string(),
+        two_calls(),
+    ]
+}
+
+/// Hands every list of up to `more` events to `take`, each a step with 0 or with 1, or a preemption that leaves 2.
+fn every_list(events: &mut Vec<u32>, more: usize, take: &mut impl FnMut(&[u32])) {
+    take(events);
+    if more == 0 {
+        return;
+    }
+    for event in [[0, 0], [0, 1], [1, 2]] {
+        events.extend(event);
+        every_list(events, more - 1, take);
+        events.truncate(events.len() - 2);
+    }
+}
+
+/// Every list of up to `EVENTS` events of the small tasks, those that go on behind the finish included.
+#[test]
+fn every_short_list() {
+    let tasks = small_tasks();
+    let mut all = 0;
+    for text in &tasks {
+        let mut counted = Counted::default();
+        let stack = text.as_bytes()["(stack ".len()] - b'0';
+        // 3 and more, so that what was there before differs from all that is stored or left.
+        let lent = Lent {
+            answers: vec![3; EVENTS],
+            cache: (4..).take(stack.into()).collect(),
+            memory: (10..).take(6).collect(),
+        };
+        every_list(&mut Vec::new(), EVENTS, &mut |events| {
+            let ran = run_both_at(text.as_bytes(), Price::BLOCKS, events, &lent, WORK_MIN);
+            counted.count(&format_args!("{text}{events:?}"), &ran);
+        });
+        println!("every list of up to {EVENTS} events: {counted:?} of\n{text}");
+        assert!(counted.less > 0, "{text}");
+        all += counted.runs;
+    }
+    // 1 + 3 + 9 + .. + 3^9 lists of each task.
+    assert_eq!(all, tasks.len() * 29_524);
+}
+
+/// Runs, and what they are refused with.
+#[derive(Default)]
+struct Refused {
+    codes: BTreeSet<u32>,
+}
+
+impl Refused {
+    /// Requires that both cores refuse the run by this row after some events, in which nothing moves, and change nothing but the answers of these, which
+    /// are 0.
+    fn by(&mut self, row: (u32, u32), done: usize, text: &[u8], given: &Given) {
+        let Given { price, events, .. } = *given;
+        let BothRan { eager, lazy } = run_both_at(text, price, events, &given.lent, given.work);
+        let mut wanted = given.lent.clone();
+        wanted.answers[..done].fill(0);
+        let numbers = [row.0.into(), row.1.into(), done as u64, 0, 0];
+        for ran in [eager, lazy] {
+            assert_eq!(ran.result.numbers(), numbers);
+            assert_eq!(ran.lent, wanted);
+        }
+        self.codes.insert(row.0);
+    }
+}
+
+/// What a run is given beside its text.
+struct Given<'a> {
+    price: Price,
+    events: &'a [u32],
+    lent: Lent,
+    work: usize,
+}
+
+/// Each row, met together with those that come after it.
+#[test]
+fn every_row() {
+    let mut refused = Refused::default();
+    let odd = Given {
+        price: Price {
+            start: 0,
+            each: 256,
+        },
+        events: &[0; 3],
+        lent: Lent::noisy(0, 0, 0),
+        work: WORK_MIN,
+    };
+    let short = Given {
+        lent: odd.lent.clone(),
+        work: WORK_MIN - 1,
+        ..odd
+    };
+    let fits = Given {
+        lent: odd.lent.clone(),
+        price: Price::BLOCKS,
+        ..odd
+    };
+    for (_, text, code, place) in vectors::refused() {
+        refused.by((15, 16_384), 0, &text, &short);
+        refused.by((23, 0), 0, &text, &odd);
+        refused.by((code, place), 0, &text, &fits);
+    }
+    let choice = text(5, &[(5, &["either 1 1", "return"])]);
+    let mut on = |row, done, events, [answers, cache, memory]: [usize; 3]| {
+        let given = Given {
+            events,
+            lent: Lent::noisy(answers, cache, memory),
+            ..fits
+        };
+        refused.by(row, done, choice.as_bytes(), &given);
+    };
+    on((16, 0), 0, &[2, 2, 0], [0, 0, 0]);
+    on((16, 0), 0, &[2; 131_074], [0, 0, 0]);
+    on((17, 2), 0, &[2, 2, 0, 0], [1, 0, 0]);
+    on((18, 5), 0, &[2, 2, 0, 0], [2, 6, 0]);
+    on((19, 5), 0, &[2, 2, 0, 0], [2, 5, 4]);
+    on((20, 0), 0, &[2, 2, 0, 0], [2, 5, 5]);
+    on((21, 0), 0, &[0, 2, 2, 2], [2, 5, 5]);
+    on((20, 1), 1, &[0, 1, 2, 2], [2, 5, 5]);
+    on((22, 2), 2, &[0, 1, 0, 2, 2, 2], [4, 5, 5]);
+    let codes: Vec<u32> = refused.codes.into_iter().collect();
+    assert_eq!(codes, (1..=13).chain(15..=23).collect::<Vec<u32>>());
+}
