@@ -12,7 +12,7 @@ use tests::{run_both_at, steps, text, BothRan, Lent, TWO};
 /// The tasks of the random lists, of two kinds, and how many lists each has: 200,000 in all.
 const VALID: u64 = 14_000;
 const WRAPPERS: u64 = 6_000;
-const LISTS: usize = 10;
+const LISTS: u64 = 10;
 
 /// The most events of a list of a small task.
 const EVENTS: usize = 9;
@@ -105,9 +105,9 @@ fn second_service() {
 /// How often the lazy core moves less.
 #[derive(Debug, Default)]
 struct Counted {
-    runs: usize,
-    less: usize,
-    refused: usize,
+    runs: u64,
+    less: u64,
+    refused: u64,
 }
 
 impl Counted {
@@ -115,27 +115,19 @@ impl Counted {
         let result = ran.lazy.result;
         assert!(result.moved <= result.allowed, "{case}: {result:?}");
         self.runs += 1;
-        self.less += usize::from(ran.lazy_moves_less());
-        self.refused += usize::from(result.ending.is_err());
+        self.less += u64::from(ran.lazy_moves_less());
+        self.refused += u64::from(result.ending.is_err());
     }
 }
 
-/// Every other list counts blocks.
-fn random_price(case: &RunCase) -> Price {
-    match case.list % 2 {
-        0 => Price::BLOCKS,
-        _ => generate::price(case.seed * LISTS as u64 + case.list as u64),
-    }
-}
-
-/// Random tasks, prices, lists with preemptions and some refused events, and buffers of any numbers.
-#[test]
-fn random_runs() {
+/// Runs lists with preemptions and some refused events, on buffers of any numbers. Every other list counts blocks, and the others have random prices.
+fn random(name: &str, cases: impl Iterator<Item = Vec<RunCase>>) -> Counted {
     let mut counted = Counted::default();
-    let valid = (0..VALID).map(|seed| generate::runs(seed + 30_000_000, LISTS));
-    let wrappers = (0..WRAPPERS).map(|seed| generate::wrapper_runs(seed + 31_000_000, LISTS));
-    for case in valid.chain(wrappers).flatten() {
-        let price = random_price(&case);
+    for case in cases.flatten() {
+        let price = match case.list % 2 {
+            0 => Price::BLOCKS,
+            _ => generate::price(case.seed * LISTS + case.list as u64),
+        };
         let lent = Lent {
             answers: case.lent.answers.clone(),
             cache: case.lent.cache.clone(),
@@ -144,75 +136,56 @@ fn random_runs() {
         let ran = run_both_at(&case.text, price, &case.lent.events, &lent, WORK_MIN);
         counted.count(&format_args!("{case} {price:?}"), &ran);
     }
-    println!("random runs on both cores: {counted:?}");
-    assert_eq!(counted.runs, 200_000);
-    assert!(
-        counted.less > 20_000 && counted.refused > 2_000,
-        "{counted:?}"
-    );
+    println!("random runs of {name} on both cores: {counted:?}");
+    assert!(counted.less * 10 > counted.runs, "{counted:?}");
+    assert!(counted.refused * 100 > counted.runs, "{counted:?}");
+    counted
+}
+
+#[test]
+fn random_runs_of_valid_tasks() {
+    let seeds = (30_000_000..).take(VALID as usize);
+    let cases = seeds.map(|seed| generate::runs(seed, LISTS as usize));
+    let counted = random("valid tasks", cases);
+    assert_eq!(counted.runs, VALID * LISTS);
+}
+
+#[test]
+fn random_runs_of_wrappers() {
+    let seeds = (31_000_000..).take(WRAPPERS as usize);
+    let cases = seeds.map(|seed| generate::wrapper_runs(seed, LISTS as usize));
+    let counted = random("wrappers", cases);
+    assert_eq!(counted.runs, WRAPPERS * LISTS);
+    assert_eq!((VALID + WRAPPERS) * LISTS, 200_000);
+}
+
+/// A text whose functions are a frame and their points in one string, with its cache blocks.
+fn task(stack: usize, funcs: &[(usize, &str)]) -> (usize, String) {
+    let points = funcs.iter().map(|func| func.1.split(", ").collect());
+    let points: Vec<Vec<&str>> = points.collect();
+    let funcs = funcs.iter().zip(&points);
+    let funcs: Vec<(usize, &[&str])> = funcs.map(|(func, points)| (func.0, &points[..])).collect();
+    (stack, text(stack, &funcs))
 }
 
 /// Small tasks in which blocks are stored to above and below the lazy pointer, spilled, filled, and pushed out again.
-fn small_tasks() -> [String; 8] {
+fn small_tasks() -> [(usize, String); 8] {
+    let alone = "store 1, load 1, store 0, load 0, load 1, goto 2";
+    let branch = "store 0, store 2, either 3 5, store 1, load 1, load 0, load 2, goto 2";
+    let caller = "store 0, call 1, ensure 1, load 0, goto 1";
+    let branching_caller = "store 0, store 1, call 1, ensure 2, load 0, either 2 0";
+    let first = "store 0, call 1, ensure 1, goto 1";
+    let between = "call 2, ensure 1, return";
+    let last = "store 0, load 0, return";
     [
-        text(1, &[(1, &["store 0", "load 0", "goto 0"])]),
-        text(
-            2,
-            &[(
-                2,
-                &["store 1", "load 1", "store 0", "load 0", "load 1", "goto 2"],
-            )],
-        ),
-        text(
-            3,
-            &[(
-                3,
-                &[
-                    "store 0",
-                    "store 2",
-                    "either 3 5",
-                    "store 1",
-                    "load 1",
-                    "load 0",
-                    "load 2",
-                    "goto 2",
-                ],
-            )],
-        ),
-        text(
-            1,
-            &[
-                (1, &["store 0", "call 1", "ensure 1", "load 0", "goto 1"]),
-                (1, &["store 0", "return"]),
-            ],
-        ),
-        text(
-            2,
-            &[
-                (
-                    2,
-                    &[
-                        "store 0",
-                        "store 1",
-                        "call 1",
-                        "ensure 2",
-                        "load 0",
-                        "either 2 0",
-                    ],
-                ),
-                (1, &["return"]),
-            ],
-        ),
-        text(
-            2,
-            &[
-                (1, &["store 0", "call 1", "ensure 1", "goto 1"]),
-                (1, &["call 2", "ensure 1", "return"]),
-                (1, &["store 0", "load 0", "return"]),
-            ],
-        ),
-        TWO.to_string(),
-        two_calls(),
+        task(1, &[(1, "store 0, load 0, goto 0")]),
+        task(2, &[(2, alone)]),
+        task(3, &[(3, branch)]),
+        task(1, &[(1, caller), (1, "store 0, return")]),
+        task(2, &[(2, branching_caller), (1, "return")]),
+        task(2, &[(1, first), (1, between), (1, last)]),
+        (5, TWO.to_string()),
+        (4, two_calls()),
     ]
 }
 
@@ -232,27 +205,23 @@ fn every_list(events: &mut Vec<u32>, more: usize, take: &mut impl FnMut(&[u32]))
 /// Every list of up to `EVENTS` events of the small tasks, those that go on behind the finish included.
 #[test]
 fn every_short_list() {
-    let tasks = small_tasks();
-    let mut all = 0;
-    for text in &tasks {
+    for (stack, text) in small_tasks() {
         let mut counted = Counted::default();
-        let stack = text.as_bytes()["(stack ".len()] - b'0';
-        // 3 and more, so that what was there before differs from all that is stored or left.
+        // What was there before differs from all that is stored or left.
         let lent = Lent {
             answers: vec![3; EVENTS],
-            cache: (4..).take(stack.into()).collect(),
-            memory: (10..).take(6).collect(),
+            cache: (4..).take(stack).collect(),
+            memory: (10..16).collect(),
         };
         every_list(&mut Vec::new(), EVENTS, &mut |events| {
             let ran = run_both_at(text.as_bytes(), Price::BLOCKS, events, &lent, WORK_MIN);
             counted.count(&format_args!("{text}{events:?}"), &ran);
         });
         println!("every list of up to {EVENTS} events: {counted:?} of\n{text}");
+        // 1 + 3 + 9 + .. + 3^9 lists.
+        assert_eq!(counted.runs, 29_524, "{text}");
         assert!(counted.less > 0, "{text}");
-        all += counted.runs;
     }
-    // 1 + 3 + 9 + .. + 3^9 lists of each task.
-    assert_eq!(all, tasks.len() * 29_524);
 }
 
 /// Runs, and what they are refused with.
