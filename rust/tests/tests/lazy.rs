@@ -83,6 +83,39 @@ fn the_second_call_finds_clean_blocks() {
     assert_eq!(ran.eager.lent, held);
 }
 
+/// Three preemptions of a frame of two blocks, each of which brings both back. The second finds both clean. The store before the third lifts the lazy pointer
+/// above its block, so both are written again.
+#[test]
+fn a_preemption_writes_below_the_lazy_pointer() {
+    let points = [
+        "store 0", "store 1", "load 0", "store 1", "load 1", "load 0", "return",
+    ];
+    let text = text(2, &[(2, &points)]);
+    let events = [
+        [0, 5],
+        [0, 6],
+        [1, 3],
+        [1, 4],
+        [0, 0],
+        [0, 7],
+        [1, 3],
+        [0, 0],
+        [0, 0],
+        [0, 0],
+    ];
+    for (price, eager, lazy) in [(Price::BLOCKS, 12, 10), (START_OF_10, 72, 60)] {
+        let ran = run_both(&text, price, events.as_flattened(), 2, 2);
+        assert_eq!(ran.eager.result, all_done(10, eager, eager));
+        assert_eq!(ran.lazy.result, all_done(10, lazy, eager));
+        let held = Lent {
+            answers: vec![0, 0, 0, 0, 5, 0, 0, 7, 5, 0],
+            cache: vec![5, 7],
+            memory: vec![5, 7],
+        };
+        assert_eq!(ran.lazy.lent, held);
+    }
+}
+
 /// The service of the second implementation, which the other tests call by the form that shows its core.
 #[test]
 fn second_service() {

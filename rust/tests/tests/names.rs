@@ -75,3 +75,28 @@ fn lengths_agree() {
     assert_eq!(defined("OUTPUT"), felknost::OUTPUT);
     assert_eq!(defined("DEAREST_OUTPUT"), felknost::DEAREST_OUTPUT);
 }
+
+/// The functions that the header declares, each with its parameters.
+fn declared() -> Vec<(String, String)> {
+    let text = vectors::read_text(&root("include/felknost.h"));
+    let declarations = text.split("\nuint32_t felknost_").skip(1);
+    let one = |declaration: &str| {
+        let (name, rest) = declaration.split_once('(').expect("parameters");
+        let parameters = rest.split(");").next().expect("an end");
+        let words: Vec<&str> = parameters.split_whitespace().collect();
+        (name.to_string(), words.join(" "))
+    };
+    declarations.map(one).collect()
+}
+
+#[test]
+fn header_declares_the_services() {
+    let declared = declared();
+    let names: Vec<&str> = declared.iter().map(|(name, _)| &name[..]).collect();
+    assert_eq!(
+        names,
+        ["check", "report", "dearest_points", "run", "run_lazy"]
+    );
+    assert_eq!(declared[2].1, declared[1].1);
+    assert_eq!(declared[4].1, declared[3].1);
+}
