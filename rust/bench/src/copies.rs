@@ -26,13 +26,18 @@ struct Room {
 /// A service that writes bytes about a text.
 type Writer = fn(&[u8], &mut Room) -> u64;
 
+/// A service that runs a list.
+type Runner = fn(&List, &mut Room) -> u64;
+
 /// The services of one copy. Each gives a number in which all copies of an archive have to agree: the answer, the bytes written, what is moved.
 struct Services {
     check: fn(&[u8]) -> u64,
     report: Writer,
     #[cfg(dearest_copies)]
     dearest_points: Writer,
-    run: fn(&List, &mut Room) -> u64,
+    run: Runner,
+    #[cfg(lazy_copies)]
+    run_lazy: Runner,
 }
 
 /// A service that writes, in one copy.
@@ -72,62 +77,73 @@ macro_rules! writer {
     }};
 }
 
+/// A service that runs a list, in one copy.
+macro_rules! runner {
+    ($service:literal $copy:literal) => {{
+        extern "C" {
+            #[link_name = concat!("felknost_", $service, "_", $copy)]
+            fn run(
+                text: *const u8,
+                text_length: usize,
+                start: u32,
+                each: u32,
+                events: *const u32,
+                events_length: usize,
+                answers: *mut u32,
+                answers_length: usize,
+                cache: *mut u32,
+                cache_length: usize,
+                memory: *mut u32,
+                memory_length: usize,
+                work: *mut u32,
+                work_length: usize,
+                result: *mut u64,
+                result_length: usize,
+            ) -> u32;
+        }
+        // SAFETY: as in the binding.
+        |list, room| unsafe {
+            let cache = &mut room.cache[..list.cache];
+            let memory = &mut room.memory[..list.memory];
+            run(
+                list.text.as_ptr(),
+                list.text.len(),
+                START,
+                EACH,
+                list.events.as_ptr(),
+                list.events.len(),
+                room.answers.as_mut_ptr(),
+                room.answers.len(),
+                cache.as_mut_ptr(),
+                cache.len(),
+                memory.as_mut_ptr(),
+                memory.len(),
+                room.work.as_mut_ptr(),
+                room.work.len(),
+                room.result.as_mut_ptr(),
+                room.result.len(),
+            );
+            room.result[3]
+        }
+    }};
+}
+
 macro_rules! services {
     ($($copy:literal)*) => {
         [$({
             extern "C" {
                 #[link_name = concat!("felknost_check_", $copy)]
                 fn check(text: *const u8, length: usize) -> u32;
-
-                #[link_name = concat!("felknost_run_", $copy)]
-                fn run(
-                    text: *const u8,
-                    text_length: usize,
-                    start: u32,
-                    each: u32,
-                    events: *const u32,
-                    events_length: usize,
-                    answers: *mut u32,
-                    answers_length: usize,
-                    cache: *mut u32,
-                    cache_length: usize,
-                    memory: *mut u32,
-                    memory_length: usize,
-                    work: *mut u32,
-                    work_length: usize,
-                    result: *mut u64,
-                    result_length: usize,
-                ) -> u32;
             }
             Services {
-                // SAFETY, here and below: as in the binding.
+                // SAFETY: as in the binding.
                 check: |text| unsafe { check(text.as_ptr(), text.len()).into() },
                 report: writer!("report" $copy),
                 #[cfg(dearest_copies)]
                 dearest_points: writer!("dearest_points" $copy),
-                run: |list, room| unsafe {
-                    let cache = &mut room.cache[..list.cache];
-                    let memory = &mut room.memory[..list.memory];
-                    run(
-                        list.text.as_ptr(),
-                        list.text.len(),
-                        START,
-                        EACH,
-                        list.events.as_ptr(),
-                        list.events.len(),
-                        room.answers.as_mut_ptr(),
-                        room.answers.len(),
-                        cache.as_mut_ptr(),
-                        cache.len(),
-                        memory.as_mut_ptr(),
-                        memory.len(),
-                        room.work.as_mut_ptr(),
-                        room.work.len(),
-                        room.result.as_mut_ptr(),
-                        room.result.len(),
-                    );
-                    room.result[3]
-                },
+                run: runner!("run" $copy),
+                #[cfg(lazy_copies)]
+                run_lazy: runner!("run_lazy" $copy),
             }
         }),*]
     };
@@ -150,32 +166,40 @@ fn written_rows(service: fn(&Services) -> Writer) -> Vec<Row> {
     report_texts().into_iter().map(row).collect()
 }
 
-/// The tables: the service, how it is timed, and the rows. The dearest points are there where both archives have them.
+/// The rows of a service that runs.
+fn run_rows(service: fn(&Services) -> Runner) -> Vec<Row> {
+    let row = |list: List| -> Row {
+        let name = list.name;
+        let call = move |copy: &Services, room: &mut Room| service(copy)(black_box(&list), room);
+        (name, Box::new(call))
+    };
+    run::lists().into_iter().map(row).collect()
+}
+
+/// The tables: the service, how it is timed, and the rows. The dearest points and the run with a lazy pointer are there where both archives have them.
 fn tables() -> Vec<(&'static str, Rounds, Vec<Row>)> {
     let checked = |(name, text): (_, Vec<u8>)| -> Row {
         let call = move |copy: &Services, _: &mut Room| (copy.check)(black_box(&text));
         (name, Box::new(call))
     };
-    let ran = |list: List| -> Row {
-        let name = list.name;
-        let call = move |copy: &Services, room: &mut Room| (copy.run)(black_box(&list), room);
-        (name, Box::new(call))
-    };
     let checks = texts().into_iter().map(checked).collect();
-    let runs = run::lists().into_iter().map(ran).collect();
-    let tables = [
+    vec![
         ("Check", check::ROUNDS, checks),
         ("Report", ROUNDS, written_rows(|copy| copy.report)),
-        ("Run", run::ROUNDS, runs),
-    ];
-    let tables = tables.into_iter();
-    #[cfg(dearest_copies)]
-    let tables = tables.chain([(
-        "Dearest points",
-        ROUNDS,
-        written_rows(|copy| copy.dearest_points),
-    )]);
-    tables.collect()
+        ("Run", run::ROUNDS, run_rows(|copy| copy.run)),
+        #[cfg(dearest_copies)]
+        (
+            "Dearest points",
+            ROUNDS,
+            written_rows(|copy| copy.dearest_points),
+        ),
+        #[cfg(lazy_copies)]
+        (
+            "Run with a lazy pointer",
+            run::ROUNDS,
+            run_rows(|copy| copy.run_lazy),
+        ),
+    ]
 }
 
 /// Whether both archives give the same number. The rules of a later archive may ask for another one.

@@ -26,13 +26,13 @@ fn main() -> ExitCode {
     return tables();
 }
 
-/// The table that the argument names.
+/// The table or tables that the argument names.
 fn tables() -> ExitCode {
     match std::env::args().nth(1).as_deref() {
         Some("check") => check::table(),
         Some("report") => report::table(),
         Some("dearest") => dearest::table(),
-        Some("run") => run::table(),
+        Some("run") => run::tables(),
         _ => {
             eprintln!("usage: bench check | report | dearest | run");
             return ExitCode::from(2);
@@ -46,6 +46,7 @@ mod tests {
     use felknost::Row;
 
     use crate::dearest::Room;
+    use crate::run;
     use crate::texts::{report_texts, texts};
     use crate::timing::grouped;
 
@@ -76,15 +77,17 @@ mod tests {
         }
     }
 
-    /// The document's table of runs has the rows of the program.
+    /// The document's tables of runs have the heads and the rows of the program.
     #[test]
     fn document_has_the_same_lists() {
-        let rows = rows("| Events, 65,536 of them |");
-        let lists = crate::run::lists();
-        assert_eq!(rows.len(), lists.len());
-        for (row, list) in rows.iter().zip(lists) {
-            let start = format!("| {} | ", list.name);
-            assert!(row.starts_with(&start), "{row} should start with {start}");
+        for head in [run::HEAD, run::LAZY_HEAD] {
+            let rows = rows(head);
+            let lists = run::lists();
+            assert_eq!(rows.len(), lists.len(), "{head}");
+            for (row, list) in rows.iter().zip(lists) {
+                let start = format!("| {} | ", list.name);
+                assert!(row.starts_with(&start), "{row} should start with {start}");
+            }
         }
     }
 

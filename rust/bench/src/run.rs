@@ -1,4 +1,4 @@
-//! Run: the proved archive against the second implementation and against the plain stack alone.
+//! Run on both cores: the proved archive against the second implementation, and against the plain stack alone or the other core.
 
 use std::hint::black_box;
 use std::time::Duration;
@@ -82,52 +82,107 @@ fn deep_calls() -> Vec<u8> {
     text.into_bytes()
 }
 
-/// The table of runs.
-pub fn table() {
-    println!("| Events, 65,536 of them | Proved, µs | Second, µs | Plain stack, µs | To second | To plain |");
+/// The first lines of the two tables.
+pub const HEAD: &str =
+    "| Events, 65,536 of them | Proved, µs | Second, µs | Plain stack, µs | To second | To plain |";
+pub const LAZY_HEAD: &str =
+    "| The same with a lazy pointer | Proved, µs | Second, µs | To second | To run |";
+
+/// What a run is lent.
+struct Room {
+    answers: Vec<u32>,
+    cache: Vec<u32>,
+    memory: Vec<u32>,
+    work: Vec<u32>,
+}
+
+impl Room {
+    fn of(list: &List) -> Self {
+        Room {
+            answers: vec![0; EVENTS],
+            cache: vec![7; list.cache],
+            memory: vec![7; list.memory],
+            work: vec![0; felknost::WORK],
+        }
+    }
+}
+
+/// A run of the archive: text, start, each, events, answers, cache, memory, working space.
+type Proved = fn(
+    &[u8],
+    u32,
+    u32,
+    &[u32],
+    &mut [u32],
+    &mut [u32],
+    &mut [u32],
+    &mut [u32],
+) -> felknost::RunResult;
+
+/// A run of the second implementation, with the length of a working space behind the price.
+type Second =
+    fn(&[u8], u32, u32, usize, &[u32], &mut [u32], &mut [u32], &mut [u32]) -> second::RunResult;
+
+/// A call of the archive on a list. It gives the events done.
+fn proved(run: Proved, list: &List) -> impl FnMut() -> u64 + '_ {
+    let mut room = Room::of(list);
+    move || {
+        let ran = run(
+            black_box(&list.text),
+            START,
+            EACH,
+            &list.events,
+            &mut room.answers,
+            &mut room.cache,
+            &mut room.memory,
+            &mut room.work,
+        );
+        ran.done.into()
+    }
+}
+
+/// A call of the second implementation on a list.
+fn second(run: Second, list: &List) -> impl FnMut() -> u64 + '_ {
+    let mut room = Room::of(list);
+    move || {
+        let ran = run(
+            black_box(&list.text),
+            START,
+            EACH,
+            room.work.len(),
+            &list.events,
+            &mut room.answers,
+            &mut room.cache,
+            &mut room.memory,
+        );
+        ran.done.into()
+    }
+}
+
+/// A call of the plain stack on a list.
+fn plain(list: &List) -> impl FnMut() -> u64 + '_ {
+    move || {
+        let ran = second::plain::run(black_box(&list.text), &list.events);
+        ran.expect("an accepted text").done.into()
+    }
+}
+
+/// The two tables of runs.
+pub fn tables() {
+    table();
+    println!();
+    lazy_table();
+}
+
+fn table() {
+    println!("{HEAD}");
     println!("|---|---|---|---|---|---|");
-    let mut work = vec![0; felknost::WORK];
     for list in lists() {
-        let mut lent = [vec![0; EVENTS], vec![7; list.cache], vec![7; list.memory]];
-        let mut others = lent.clone();
-        let (text, events) = (&list.text[..], &list.events[..]);
-        let proved = &mut || {
-            let [answers, cache, memory] = &mut lent;
-            felknost::run(
-                black_box(text),
-                START,
-                EACH,
-                events,
-                answers,
-                cache,
-                memory,
-                &mut work,
-            )
-            .done
-            .into()
-        };
-        let second = &mut || {
-            let [answers, cache, memory] = &mut others;
-            second::run(
-                black_box(text),
-                START,
-                EACH,
-                second::WORK_MIN,
-                events,
-                answers,
-                cache,
-                memory,
-            )
-            .done
-            .into()
-        };
-        let plain = &mut || {
-            second::plain::run(black_box(text), events)
-                .expect("an accepted text")
-                .done
-                .into()
-        };
-        let [proved, second, plain] = ROUNDS.times([proved, second, plain]);
+        let [proved, second, plain] = ROUNDS.times([
+            &mut proved(felknost::run, &list),
+            &mut second(second::run, &list),
+            &mut plain(&list),
+        ]);
         println!(
             "| {} | {} | {} | {} | {:.2} | {:.2} |",
             list.name,
@@ -136,6 +191,26 @@ pub fn table() {
             micros(plain),
             proved / second,
             proved / plain
+        );
+    }
+}
+
+fn lazy_table() {
+    println!("{LAZY_HEAD}");
+    println!("|---|---|---|---|---|");
+    for list in lists() {
+        let [lazy, second, eager] = ROUNDS.times([
+            &mut proved(felknost::run_lazy, &list),
+            &mut second(second::run_lazy, &list),
+            &mut proved(felknost::run, &list),
+        ]);
+        println!(
+            "| {} | {} | {} | {:.2} | {:.2} |",
+            list.name,
+            micros(lazy),
+            micros(second),
+            lazy / second,
+            lazy / eager
         );
     }
 }
