@@ -1,5 +1,5 @@
-//! Report, the dearest points and the runs on both cores as C calls them, with slices in place of pointers and lengths. The numbers of a result go to a buffer; the answer is
-//! 1, or 0 with nothing touched where that buffer is too short.
+//! Report, the dearest points and the runs on both cores as C calls them, with slices in place of pointers and lengths. The numbers of a result go to a
+//! buffer; the answer is 1, or 0 with nothing touched where that buffer is too short.
 
 /// A function that writes bytes about a text at a price.
 pub type Writer = fn(&[u8], u32, u32, &mut [u8], &mut [u32], &mut [u64]) -> u32;

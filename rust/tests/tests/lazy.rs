@@ -257,7 +257,7 @@ fn every_short_list() {
     }
 }
 
-/// Runs, and what they are refused with.
+/// The codes of the refused runs.
 #[derive(Default)]
 struct Refused {
     codes: BTreeSet<u32>,
@@ -288,52 +288,50 @@ struct Given<'a> {
     work: usize,
 }
 
+impl<'a> Given<'a> {
+    /// Answers, cache and memory of these lengths that hold noise.
+    fn noisy(events: &'a [u32], [answers, cache, memory]: [usize; 3]) -> Self {
+        Given {
+            price: Price::BLOCKS,
+            events,
+            lent: Lent::noisy(answers, cache, memory),
+            work: WORK_MIN,
+        }
+    }
+}
+
+/// A row, how many events are done before it, the events, and the lengths of answers, cache and memory.
+type EventRow = ((u32, u32), usize, &'static [u32], [usize; 3]);
+
+/// The rows behind those of the text, of a task with five blocks that begins with an either.
+const EVENT_ROWS: [EventRow; 9] = [
+    ((16, 0), 0, &[2, 2, 0], [0, 0, 0]),
+    ((16, 0), 0, &[2; 131_074], [0, 0, 0]),
+    ((17, 2), 0, &[2, 2, 0, 0], [1, 0, 0]),
+    ((18, 5), 0, &[2, 2, 0, 0], [2, 6, 0]),
+    ((19, 5), 0, &[2, 2, 0, 0], [2, 5, 4]),
+    ((20, 0), 0, &[2, 2, 0, 0], [2, 5, 5]),
+    ((21, 0), 0, &[0, 2, 2, 2], [2, 5, 5]),
+    ((20, 1), 1, &[0, 1, 2, 2], [2, 5, 5]),
+    ((22, 2), 2, &[0, 1, 0, 2, 2, 2], [4, 5, 5]),
+];
+
 /// Each row, met together with those that come after it.
 #[test]
 fn every_row() {
     let mut refused = Refused::default();
-    let odd = Given {
-        price: Price {
-            start: 0,
-            each: 256,
-        },
-        events: &[0; 3],
-        lent: Lent::noisy(0, 0, 0),
-        work: WORK_MIN,
-    };
-    let short = Given {
-        lent: odd.lent.clone(),
-        work: WORK_MIN - 1,
-        ..odd
-    };
-    let fits = Given {
-        lent: odd.lent.clone(),
-        price: Price::BLOCKS,
-        ..odd
-    };
     for (_, text, code, place) in vectors::refused() {
-        refused.by((15, 16_384), 0, &text, &short);
-        refused.by((23, 0), 0, &text, &odd);
-        refused.by((code, place), 0, &text, &fits);
+        let mut given = Given::noisy(&[0; 3], [0, 0, 0]);
+        refused.by((code, place), 0, &text, &given);
+        given.price.each = 256;
+        refused.by((23, 0), 0, &text, &given);
+        given.work -= 1;
+        refused.by((15, 16_384), 0, &text, &given);
     }
     let choice = text(5, &[(5, &["either 1 1", "return"])]);
-    let mut on = |row, done, events, [answers, cache, memory]: [usize; 3]| {
-        let given = Given {
-            events,
-            lent: Lent::noisy(answers, cache, memory),
-            ..fits
-        };
+    for (row, done, events, lengths) in EVENT_ROWS {
+        let given = Given::noisy(events, lengths);
         refused.by(row, done, choice.as_bytes(), &given);
-    };
-    on((16, 0), 0, &[2, 2, 0], [0, 0, 0]);
-    on((16, 0), 0, &[2; 131_074], [0, 0, 0]);
-    on((17, 2), 0, &[2, 2, 0, 0], [1, 0, 0]);
-    on((18, 5), 0, &[2, 2, 0, 0], [2, 6, 0]);
-    on((19, 5), 0, &[2, 2, 0, 0], [2, 5, 4]);
-    on((20, 0), 0, &[2, 2, 0, 0], [2, 5, 5]);
-    on((21, 0), 0, &[0, 2, 2, 2], [2, 5, 5]);
-    on((20, 1), 1, &[0, 1, 2, 2], [2, 5, 5]);
-    on((22, 2), 2, &[0, 1, 0, 2, 2, 2], [4, 5, 5]);
-    let codes: Vec<u32> = refused.codes.into_iter().collect();
-    assert_eq!(codes, (1..=13).chain(15..=23).collect::<Vec<u32>>());
+    }
+    assert!(refused.codes.into_iter().eq((1..=13).chain(15..=23)));
 }
