@@ -144,12 +144,27 @@ struct Counted {
 }
 
 impl Counted {
-    fn count(&mut self, case: &impl Display, ran: &BothRan) {
+    /// Runs a list on both cores and counts it. A failure names the case.
+    fn run(&mut self, case: &impl Display, text: &[u8], price: Price, events: &[u32], lent: &Lent) {
+        let named = Named(case);
+        let ran = run_both_at(text, price, events, lent, WORK_MIN);
         let result = ran.lazy.result;
-        assert!(result.moved <= result.allowed, "{case}: {result:?}");
+        assert!(result.moved <= result.allowed, "{result:?}");
         self.runs += 1;
         self.less += u64::from(ran.lazy_moves_less());
         self.refused += u64::from(result.ending.is_err());
+        drop(named);
+    }
+}
+
+/// Prints the name of a case if its test fails before this is dropped.
+struct Named<'a, T: Display>(&'a T);
+
+impl<T: Display> Drop for Named<'_, T> {
+    fn drop(&mut self) {
+        if std::thread::panicking() {
+            eprintln!("case: {}", self.0);
+        }
     }
 }
 
@@ -166,8 +181,8 @@ fn random(name: &str, cases: impl Iterator<Item = Vec<RunCase>>) -> Counted {
             cache: case.lent.cache.clone(),
             memory: case.lent.memory.clone(),
         };
-        let ran = run_both_at(&case.text, price, &case.lent.events, &lent, WORK_MIN);
-        counted.count(&format_args!("{case} {price:?}"), &ran);
+        let named = format_args!("{case} {price:?}");
+        counted.run(&named, &case.text, price, &case.lent.events, &lent);
     }
     println!("random runs of {name} on both cores: {counted:?}");
     assert!(counted.less * 10 > counted.runs, "{counted:?}");
@@ -247,8 +262,8 @@ fn every_short_list() {
             memory: (10..16).collect(),
         };
         every_list(&mut Vec::new(), EVENTS, &mut |events| {
-            let ran = run_both_at(text.as_bytes(), Price::BLOCKS, events, &lent, WORK_MIN);
-            counted.count(&format_args!("{text}{events:?}"), &ran);
+            let named = format_args!("{text}{events:?}");
+            counted.run(&named, text.as_bytes(), Price::BLOCKS, events, &lent);
         });
         println!("every list of up to {EVENTS} events: {counted:?} of\n{text}");
         // 1 + 3 + 9 + .. + 3^9 lists.
