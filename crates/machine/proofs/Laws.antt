@@ -15,7 +15,8 @@ use Rattle.model.specs.Core as core
 use Rattle.model.specs.Core.{Core, written, spilled, filled, reserved, resumeMoves, reserve, save, withCache, filledWith, resume}
 use Rattle.machine.specs.declared.Machine.{Machine}
 use Rattle.machine.specs.declared.Moved.{Moved}
-use Rattle.machine.specs.Moves.{evictionOf, withEviction, coreOf, OnCache, Good, Does, Preempts, Entered, spilledArea}
+use Rattle.theory.specs.Cores.{withEviction}
+use Rattle.machine.specs.Moves.{evictionOf, coreOf, OnCache, Good, Does, Preempts, Entered, spilledArea}
 use Rattle.machine.proofs.Kept.{start-memory, save-good, between-good}
 
 -- ---- blocks

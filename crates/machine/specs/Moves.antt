@@ -29,10 +29,6 @@ coreOf m cache memory =
       memory = memory;
     }
 
-abbrev pub withEviction : Eviction → Core → Core
-withEviction x c =
-    record { st = c .st; occupancy = c .occupancy; pointer = c .pointer; eviction = x; cache = c .cache; memory = c .memory }
-
 -- the highest address that the code can hold
 abbrev pub mostAddress : ℕ
 mostAddress = 18446744073709551615

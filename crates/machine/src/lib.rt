@@ -7,7 +7,8 @@ ghost use lib.ListN.{length, replicate};
 ghost use Rattle.model.specs.Core as core;
 ghost use Rattle.model.specs.declared.Eviction.the-variants.{Eager};
 ghost use Rattle.model.specs.Limits.{mostStack};
-ghost use Rattle.machine.specs.Moves.{evictionOf, withEviction, coreOf, mostAddress, OnCache, Good, Does, Preempts, Entered, spilledArea};
+ghost use Rattle.theory.specs.Cores.{withEviction};
+ghost use Rattle.machine.specs.Moves.{evictionOf, coreOf, mostAddress, OnCache, Good, Does, Preempts, Entered, spilledArea};
 use model::Limits;
 
 // Where the stack stands: the stack top ST, its block, how many blocks from ST up are cached, and how many of them lie below LP. The block is kept so
@@ -132,7 +133,7 @@ fn block_after(s: usize, b: usize, o: usize) -> usize
     if n < s { n } else { n - s }
 }
 
-// The block before which block b lies by o blocks: that of any address x, where b is that of x + o.
+// The block o blocks before block b: that of address x, where b is the block of x + o.
 fn block_before(s: usize, b: usize, o: usize) -> usize
     requires { ⌜ (b < s) × (o ≤ s) ⌝ }
     ensures { λ r. ⌜ ((x : ℕ) → b ≡ (x + o) % s → r ≡ x % s) × (r < s) ⌝ }
@@ -216,7 +217,8 @@ impl Machine {
 
     // The same, but for which blocks are written back.
     pub fn evicting(self, lazy: usize) -> Machine
-        ensures { λ r. ⌜ ((cache memory : List ℕ) → coreOf r cache memory ≡ withEviction (evictionOf lazy) (coreOf self cache memory)) × (r .top ≡ self .top) ⌝ }
+        ensures { λ r. ⌜ ((cache memory : List ℕ) → coreOf r cache memory ≡ withEviction (evictionOf lazy) (coreOf self cache memory))
+            × (r .top ≡ self .top) ⌝ }
     {
         Machine {
             st: self.st,
@@ -294,8 +296,8 @@ impl Machine {
         requires { ⌜ OnCache self (now cache) × (o ≤ length (now cache)) ⌝ }
         ensures { λ r. ⌜ ((memory : List ℕ) → r ≡ core.load o (coreOf self (now (cache .entry)) memory)) ⌝ }
     {
-        let block = block_after(cache.len(), self.top, o as usize);
-        cache[block]
+        let at = block_after(cache.len(), self.top, o as usize);
+        cache[at]
     }
 
     // Sets the number at offset o, and lifts LP past it if below.

@@ -160,17 +160,21 @@ save dead c =
       blocks = saveMoves dead (c .occupancy) (effective c);
     }
 
--- between the halves others use the cache
-abbrev pub withCache : List ℕ → Core → Core
-withCache cache c =
+-- ST, MT and LP of a core, with this cache and this memory
+abbrev pub holding : List ℕ → List ℕ → Core → Core
+holding cache memory c =
     record {
       st = c .st;
       occupancy = c .occupancy;
       pointer = c .pointer;
       eviction = c .eviction;
       cache = cache;
-      memory = c .memory;
+      memory = memory;
     }
+
+-- between the halves others use the cache
+abbrev pub withCache : List ℕ → Core → Core
+withCache cache c = holding cache (c .memory) c
 
 -- its second half: what comes back, whatever the cache holds. LP is where that begins
 unfoldable pub resume : ℕ → ℕ → Core → Moved
@@ -199,18 +203,6 @@ preempt dead need cache c = resume dead need (withCache cache (save dead c .core
 -- one other task, which left v in every block
 abbrev pub filledWith : ℕ → Core → List ℕ
 filledWith v c = replicate (length (c .cache)) v
-
--- ST, MT and LP of a core, with this cache and this memory
-abbrev pub holding : List ℕ → List ℕ → Core → Core
-holding cache memory c =
-    record {
-      st = c .st;
-      occupancy = c .occupancy;
-      pointer = c .pointer;
-      eviction = c .eviction;
-      cache = cache;
-      memory = memory;
-    }
 
 -- a core before its task: ST is the length of the memory, nothing is cached, and LP = MT
 abbrev pub idle : Eviction → List ℕ → List ℕ → Core

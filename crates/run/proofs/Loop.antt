@@ -29,10 +29,9 @@ use Rattle.tables.proofs.Valid.{kept-on}
 use Rattle.prices.specs.declared.Price.{Price}
 use Rattle.prices.specs.Prices.{priceOf}
 use Rattle.figures.specs.Figured.{sheetAt}
-use Rattle.machine.specs.Moves.{evictionOf}
 use Rattle.steps.specs.declared.State.{State}
 use Rattle.steps.specs.declared.Turned.{Turned}
-use Rattle.steps.specs.Frames.{framesEnd, framesOf, stateOf, turnOf}
+use Rattle.steps.specs.Frames.{framesEnd, framesOf, evictionAt, stateOf, turnOf}
 use Rattle.steps.specs.Steps.{mostPart, Counts}
 use Rattle.turns.specs.Turns.{Runs, Turns, actOf, Started}
 use Rattle.turns.proofs.Kept.{goes-on, begins, accepted-runs}
@@ -54,7 +53,7 @@ pub record Loops (y : Eviction) (price : Price) (h : Header) (events buffer cach
 -- function 0 has been entered on the core that evicts as y
 module _ {price : Price} {h : Header} {events buffer cache₀ memory₀ w₀ : List ℕ} (y : Eviction) (x : State)
     (f : Fitting price w₀ h events buffer cache₀ memory₀) (s : Started y w₀ h (length memory₀) x) where
-  started-as : evictionOf (x .machine .lazy) ≡ y
+  started-as : evictionAt x ≡ y
   unfolding reserve
   started-as = ap (λ (z : run.State). z .core .eviction) (s .state cache₀ memory₀ (f .blocks) refl)
 
@@ -70,13 +69,13 @@ module _ {price : Price} {h : Header} {events buffer cache₀ memory₀ w₀ : L
         little = omega (arith, s .allowed);
       }
 
-  -- the loop knows y by the number that its first machine has
-  pub loops-start : Loops (evictionOf (x .machine .lazy)) price h events buffer cache₀ memory₀ w₀ 0 x buffer cache₀ memory₀ w₀
+  -- the loop knows y by its first state
+  pub loops-start : Loops (evictionAt x) price h events buffer cache₀ memory₀ w₀ 0 x buffer cache₀ memory₀ w₀
   loops-start =
       subst (λ (z : Eviction). Loops z price h events buffer cache₀ memory₀ w₀ 0 x buffer cache₀ memory₀ w₀) (sym started-as) loops-first
 
   pub serves-as : {q : RunResult} {answers cache memory w : List ℕ}
-      → Serves (evictionOf (x .machine .lazy)) price (taskOf w₀ h) events buffer cache₀ memory₀ w₀ q answers cache memory w
+      → Serves (evictionAt x) price (taskOf w₀ h) events buffer cache₀ memory₀ w₀ q answers cache memory w
       → Serves y price (taskOf w₀ h) events buffer cache₀ memory₀ w₀ q answers cache memory w
   serves-as {q = q} {answers = answers} {cache = cache} {memory = memory} {w = w} d =
       subst (λ (z : Eviction). Serves z price (taskOf w₀ h) events buffer cache₀ memory₀ w₀ q answers cache memory w) started-as d

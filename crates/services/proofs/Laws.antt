@@ -27,7 +27,7 @@ module _ {text w w′ : List ℕ} {r : Judgement} (a : Lent (workRow (length w))
   checked e = e ∙ a .after
 
 -- each part of what a run has left, as the contract has them, and what more is so of it
-pub run-parts : {x y : AfterRun} {P : Type 0} → x ≡ y → P
+pub run-parts : {x : AfterRun} (y : AfterRun) {P : Type 0} → x ≡ y → P
     → (x .result ≡ y .result)
     × ((x .work ≡ y .work) × ((x .answers ≡ y .answers) × ((x .cache ≡ y .cache) × ((x .memory ≡ y .memory) × P))))
-run-parts e p = (λ i. e i .result, (λ i. e i .work, (λ i. e i .answers, (λ i. e i .cache, (λ i. e i .memory, p)))))
+run-parts y e p = (λ i. e i .result, (λ i. e i .work, (λ i. e i .answers, (λ i. e i .cache, (λ i. e i .memory, p)))))

@@ -3,12 +3,13 @@
 use Prim.Native.Nat.{ℕ, zero, suc, _+_, _*_}
 use mathlib.Core.List.{List, [], _∷_}
 use lib.ListN.{set}
+use Rattle.model.specs.declared.Eviction.{Eviction}
 use Rattle.model.specs.Limits.{mostFuncs}
 use Rattle.model.specs.Run as run
 use Rattle.model.specs.Run.{Place}
 use Rattle.tables.specs.Tables.{item}
 use Rattle.bounds.specs.Bounds.{boundsEnd}
-use Rattle.machine.specs.Moves.{coreOf}
+use Rattle.machine.specs.Moves.{evictionOf, coreOf}
 use Rattle.steps.specs.declared.State.{State}
 use Rattle.steps.specs.declared.Turned.{Turned}
 
@@ -38,6 +39,10 @@ framesFrom w (suc n) f p = record { fn = f; at = p } ∷ placesIn w n
 
 abbrev pub framesOf : List ℕ → State → List Place
 framesOf w x = framesFrom w (x .depth) (x .f) (x .p)
+
+-- how the core of a state evicts
+abbrev pub evictionAt : State → Eviction
+evictionAt x = evictionOf (x .machine .lazy)
 
 abbrev pub stateOf : List ℕ → State → List ℕ → List ℕ → run.State
 stateOf w x cache memory = record { frames = framesOf w x; core = coreOf (x .machine) cache memory }

@@ -1,15 +1,20 @@
 -- The two cores compared: what is so of an event, of a run and of the service, on a core and on the same core that writes back every block.
 use Prim.Native.Nat.{_≤_}
 use mathlib.Core.Path.{_≡_}
+use Rattle.model.specs.declared.Eviction.{Eviction}
 use Rattle.model.specs.declared.Eviction.the-variants.{Eager}
 use Rattle.model.specs.Core.{Core}
 use Rattle.model.specs.Run.{Turn, Ran}
 use Rattle.model.specs.Services.{AfterRun}
 
+-- the same core, which evicts so
+abbrev pub withEviction : Eviction → Core → Core
+withEviction x c =
+    record { st = c .st; occupancy = c .occupancy; pointer = c .pointer; eviction = x; cache = c .cache; memory = c .memory }
+
 -- the same core, which writes back every block
 abbrev pub eagerly : Core → Core
-eagerly c =
-    record { st = c .st; occupancy = c .occupancy; pointer = c .pointer; eviction = Eager; cache = c .cache; memory = c .memory }
+eagerly c = withEviction Eager c
 
 -- an event's turn u on a core, and its turn v on the same core that writes back every block: they leave the same and answer the same, the
 -- same comes back, and no more goes out

@@ -1,43 +1,34 @@
 -- What an event keeps: the task, its figures, and a state that a run can be in. A loop over events cites these laws.
 use Prim.Native.Nat.{ℕ, zero, suc, _%_, _≤_, _<_}
-use mathlib.Core.List.{List, [], _∷_}
+use mathlib.Core.List.{List}
 use mathlib.Core.Option.{none}
 use mathlib.Core.Path.{_≡_, refl, ap, sym, subst, _∙_}
 use native.Mathlib.Omega.{arith}
 use lib.ListN.{length}
-use Rattle.model.specs.Limits.{mostStack}
 use Rattle.model.specs.declared.Eviction.{Eviction}
-use Rattle.model.specs.declared.Point.{Point}
-use Rattle.model.specs.declared.Point.the-variants.{Load, Store, Call, Ensure, Goto, Either, Return}
 use Rattle.model.specs.Refusal.{eventRows}
-use Rattle.model.specs.Task.{Task, func, point}
-use Rattle.model.specs.Walk.{called}
-use Rattle.model.specs.Core.{Core, Clean, idle}
+use Rattle.model.specs.Task.{Task}
+use Rattle.model.specs.Core.{Core, idle}
 use Rattle.model.specs.Figures as model
-use Rattle.model.specs.Sheet.{Sheet}
-use Rattle.model.specs.Plain.{Frame, Act, takes, preempted, afterEvent, firstFrames}
+use Rattle.model.specs.Plain.{Act, afterEvent, firstFrames}
 use Rattle.model.specs.Run as run
-use Rattle.model.specs.Run.{runningPlace, stepTurn, turn, eventBound}
-use Rattle.model.specs.WellFormed.{WellFormed}
+use Rattle.model.specs.Run.{runningPlace, turn, eventBound}
 use Rattle.theory.specs.Sound.{Sound}
-use Rattle.theory.proofs.Links.{callee-later}
-use Rattle.theory.proofs.Frames.{places, In, Standing, Window}
-use Rattle.theory.proofs.Window.{ensures-frame, window-idle}
-use Rattle.theory.proofs.Clean.{effective-between, clean-idle}
+use Rattle.theory.proofs.Frames.{places}
+use Rattle.theory.proofs.Window.{window-idle}
+use Rattle.theory.proofs.Clean.{clean-idle}
 use Rattle.theory.proofs.Fair.{Running, fair-event, runs-start}
 use Rattle.theory.proofs.Lawful.{sound}
 use Rattle.theory.proofs.Prices.{price-moves}
 use Rattle.tables.specs.declared.Header.{Header}
 use Rattle.tables.specs.Tables.{taskOf}
 use Rattle.prices.specs.declared.Price.{Price}
-use Rattle.prices.specs.Prices.{priceOf, mostPrice}
-use Rattle.prices.proofs.Laws.{price-small}
+use Rattle.prices.specs.Prices.{priceOf}
 use Rattle.figures.specs.Figured.{sheetAt}
 use Rattle.figures.proofs.Same.{Same, task-stays}
 use Rattle.bounds.specs.Bounds.{boundsEnd, Bounded}
 use Rattle.bounds.proofs.Laws.{bounded-same}
 use Rattle.machine.specs.Moves.{coreOf}
-use Rattle.machine.proofs.Kept.{reserve-blocks, ensure-blocks}
 use Rattle.steps.specs.declared.State.{State}
 use Rattle.steps.specs.declared.Turned.{Turned}
 use Rattle.steps.specs.Frames.{framesFrom, turnOf}

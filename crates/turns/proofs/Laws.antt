@@ -24,7 +24,8 @@ use Rattle.tables.proofs.Laws.{count-is, frame-is}
 use Rattle.tables.proofs.Valid.{kept-same}
 use Rattle.prices.specs.declared.Price.{Price}
 use Rattle.machine.specs.declared.Machine.{Machine}
-use Rattle.machine.specs.Moves.{evictionOf, withEviction, coreOf, Entered}
+use Rattle.theory.specs.Cores.{withEviction}
+use Rattle.machine.specs.Moves.{evictionOf, coreOf, Entered}
 use Rattle.machine.proofs.Laws.{entered-with}
 use Rattle.steps.specs.declared.State.{State}
 use Rattle.steps.specs.declared.Turned.{Turned}

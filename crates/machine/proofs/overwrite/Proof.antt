@@ -1,6 +1,6 @@
 -- The loop fills the cache from the front.
 use Prim.Native.Nat.{_-_, _≤_}
-use mathlib.Core.List.{List, _++_}
+use mathlib.Core.List.{_++_}
 use mathlib.Core.Path.{_≡_, refl}
 use native.Mathlib.Omega.{arith}
 use borrow.Author.Fill.{fill-none, fill-more}

@@ -5,7 +5,7 @@ use native.Mathlib.Omega.{arith}
 use lib.ListN.{length}
 use borrow.Author.Needs.{needs}
 use Rattle.model.specs.Limits.{mostEventNumbers}
-use Rattle.machine.specs.Moves.{evictionOf}
+use Rattle.steps.specs.Frames.{evictionAt}
 use Rattle.turns.proofs.Given.{runs-placed}
 use Rattle.run.proofs.Loop.{Loops, loops-start, serves-as, loops-end, loops-off, loops-more, loops-on}
 use Rattle.run.proofs.run_events.Statement.{statement}
@@ -13,7 +13,7 @@ use Rattle.run.proofs.run_events.Tie as tie
 
 abbrev Inv-loop : tie.InvT-loop
 Inv-loop events answers₀ cache₀ memory₀ work₀ h price x₀ count i₀ answers cache memory work x i =
-    Loops (evictionOf (x₀ .machine .lazy)) price h events answers₀ cache₀ memory₀ work₀ i x answers cache memory work
+    Loops (evictionAt x₀) price h events answers₀ cache₀ memory₀ work₀ i x answers cache memory work
     × (i ≤ count)
     × (length cache ≡ length cache₀)
     × (length memory ≡ length memory₀)

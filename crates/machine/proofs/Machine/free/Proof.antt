@@ -1,5 +1,6 @@
 -- ST rises with its block, and the occupancy and LP are what the rule leaves.
 use Prim.Native.Nat.{_+_}
+use native.Mathlib.Omega.{arith}
 use borrow.Author.Needs.{needs}
 use Rattle.model.specs.Core.{free}
 use Rattle.machine.specs.Moves.{evictionOf}
@@ -29,7 +30,7 @@ free-spec =
     tie.close
     (tie.spec
     (λ c. search needs)
-    (λ c κs. let p = c .before .before .pre in (top-in (p .0), p .2, p .0 .few))
+    (λ c κs. let p = c .before .before .pre in (top-in (p .0), omega (arith, p .2), p .0 .few))
     (λ c κs. search needs)
     (λ c κs. search needs)
     returns)

@@ -1,6 +1,7 @@
 -- The number in the block of the offset.
 use mathlib.Core.Path.{ap}
 use lib.ListN.{getD}
+use native.Mathlib.Omega.{arith}
 use borrow.Author.Needs.{needs}
 use Rattle.model.specs.Core.{load}
 use Rattle.machine.proofs.Laws.{top-in, top-after}
@@ -16,4 +17,4 @@ returns c memory =
 pub load-spec : {M : Type 1} → statement M
 load-spec =
     tie.close
-    (tie.spec (λ c κs. (top-in (c .before .pre .0), c .before .pre .1, c .before .pre .0 .few)) (λ c. search needs) (λ c. search needs) returns)
+    (tie.spec (λ c κs. (top-in (c .before .pre .0), omega (arith, c .before .pre .1), c .before .pre .0 .few)) (λ c. search needs) (λ c. search needs) returns)

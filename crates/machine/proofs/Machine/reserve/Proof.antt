@@ -1,7 +1,6 @@
 -- ST falls with its block, and the blocks that find no room go to memory, as far as they are written back.
 use Prim.Native.Nat.{ℕ}
 use mathlib.Core.Path.{refl, ap, _∙_}
-use native.Mathlib.Omega.{arith}
 use borrow.Author.Needs.{needs}
 use lib.ListN.{length}
 use Rattle.model.specs.Core.{reserve, reserveMoves}

@@ -33,7 +33,7 @@ pub store-spec : {M : Type 1} → statement M
 store-spec =
     tie.close
     (tie.spec
-    (λ c κs. (top-in (c .before .pre .0), c .before .pre .1, c .before .pre .0 .few))
+    (λ c κs. (top-in (c .before .pre .0), omega (arith, c .before .pre .1), c .before .pre .0 .few))
     (λ c. search needs)
     (λ c. search needs)
     (λ c. search needs)
