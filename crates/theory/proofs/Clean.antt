@@ -80,7 +80,7 @@ clean-resume c d n l =
       within = omega arith;
       equal = λ a m j.
           ap (λ r. getD (resume d n c .core .cache) (a % r) 0) (length-filled (c .cache) (c .memory) from k)
-          ∙ filled-in (c .cache) (c .memory) from k a (omega arith) m (omega arith);
+          ∙ filled-in (c .cache) (c .memory) from k a (omega arith) (omega arith) (omega arith);
     }
 
 -- nothing is cached before the first reserve
