@@ -33,7 +33,7 @@ use Rattle.theory.proofs.Fair.{fair-run}
 use Rattle.theory.proofs.Lawful.{sound}
 use Rattle.theory.proofs.Prices.{price-moves}
 
--- of every sheet that obeys the rules, from every core that has no frames
+-- of every sheet that obeys the rules, from every clean core that has no frames
 pub faithful : (t : Task) (s : Sheet) → WellFormed t → Sound t s → 0 < count t → (c : Core) (es : List Event) → Window t s [] c → Clean c
     → Faithful t s c es
 faithful t s w r h c es u k =
