@@ -17,7 +17,7 @@ unfoldable pub evictionOf : ℕ → Eviction
 evictionOf zero = Eager
 evictionOf (suc n) = Lazy
 
--- ST, the occupancy and LP are the machine's, the numbers those of the buffers
+-- ST, the occupancy, LP and the eviction are the machine's, the numbers those of the buffers
 abbrev pub coreOf : Machine → List ℕ → List ℕ → Core
 coreOf m cache memory =
     record {
@@ -46,7 +46,7 @@ pub record Good (c : Core) : Type 0 where
   pub fits : c .occupancy ≤ length (c .cache)
   pub inside : c .st + c .occupancy ≤ length (c .memory)
 
--- what a move returns, with the buffers as it leaves them, is the model's core and blocks
+-- what a move returns, with the buffers as it leaves them, is the model's core and blocks, and the machine stands on the cache
 pub record Does (r : Moved) (cache memory : List ℕ) (to : core.Moved) : Type 0 where
   pub core : coreOf (r .machine) cache memory ≡ to .core
   pub on : OnCache (r .machine) cache
@@ -59,7 +59,7 @@ pub record Preempts (r : Preempted) (cache memory : List ℕ) (dead need v : ℕ
   pub out : r .out ≡ saveMoves dead (c .occupancy) (effective c)
   pub back : r .back ≡ resumeMoves dead need (c .occupancy)
 
--- function 0 has been entered, on the core that evicts so, with any cache of this many blocks and any memory of this many numbers
+-- function 0 has been entered, on the core that evicts so, with any cache of this many blocks and any memory of this many numbers; top is the block of ST
 pub record Entered (x : Eviction) (stack frame numbers : ℕ) (m : Machine) : Type 0 where
   pub core : (cache memory : List ℕ) → length cache ≡ stack → length memory ≡ numbers
       → coreOf m cache memory ≡ reserve frame (idle x cache memory) .core

@@ -11,6 +11,7 @@ use Rattle.model.specs.declared.Ending.the-variants.{AllDone}
 use Rattle.model.specs.Rows.{refuse}
 use Rattle.model.specs.Basic.{joined}
 use Rattle.model.specs.Text.{bytes}
+use Rattle.model.specs.declared.Eviction.{Eviction}
 use Rattle.model.specs.declared.Eviction.the-variants.{Eager}
 use Rattle.model.specs.Core.{Core, reserve, ensure, free}
 use Rattle.model.specs.Services.{AfterCheck, checkOf, reportOf, AfterRun, runOf}
@@ -78,8 +79,8 @@ unfoldable pub withPreemption : List ℕ
 withPreemption = 0 ∷ 11 ∷ 0 ∷ 0 ∷ 0 ∷ 22 ∷ 1 ∷ 99 ∷ 0 ∷ 0 ∷ 0 ∷ 0 ∷ 0 ∷ 0 ∷ 0 ∷ 0 ∷ []
 
 -- what is lent to the runs: eight answers and one number more, five blocks, a memory of seven numbers
-abbrev pub sampleRun : List ℕ → AfterRun
-sampleRun events = runOf Eager sample 0 1 space events (replicate 9 5) (replicate 5 6) (replicate 7 8)
+abbrev pub sampleRun : Eviction → List ℕ → AfterRun
+sampleRun x events = runOf x sample 0 1 space events (replicate 9 5) (replicate 5 6) (replicate 7 8)
 
 -- the verdict on a text of these lines
 abbrev pub verdictOn : List String → AfterCheck
@@ -97,7 +98,7 @@ pub starred :
       work = spaceAfter;
       output = sampleReport ++ replicate 119 7;
     })
-    × (sampleRun sevenSteps
+    × (sampleRun Eager sevenSteps
     ≡ record {
       result = record { ending = AllDone; done = 7; moved = 2; allowed = 2 };
       work = spaceAfter;
@@ -105,7 +106,7 @@ pub starred :
       cache = 6 ∷ 11 ∷ 6 ∷ 6 ∷ 6 ∷ [];
       memory = 8 ∷ 8 ∷ 8 ∷ 8 ∷ 8 ∷ 8 ∷ 11 ∷ [];
     })
-    × (sampleRun withPreemption
+    × (sampleRun Eager withPreemption
     ≡ record {
       result = record { ending = AllDone; done = 8; moved = 9; allowed = 9 };
       work = spaceAfter;
@@ -113,7 +114,7 @@ pub starred :
       cache = 6 ∷ 11 ∷ 99 ∷ 99 ∷ 99 ∷ [];
       memory = 8 ∷ 22 ∷ 6 ∷ 6 ∷ 6 ∷ 6 ∷ 11 ∷ [];
     })
-    × (sampleRun [] .result ≡ record { ending = AllDone; done = 0; moved = 0; allowed = 0 })
+    × (sampleRun Eager [] .result ≡ record { ending = AllDone; done = 0; moved = 0; allowed = 0 })
     × (verdictOn [] ≡ record { verdict = verdict.Refused (refuse Form 1); work = spaceAfter })
     × (verdictOn ("(stack 65)" ∷ []) ≡ record { verdict = verdict.Refused (refuse StackSize 1); work = spaceAfter })
     × (verdictOn ("(stack 5)" ∷ "(func 5" ∷ "  (return)" ∷ ")" ∷ []) ≡ record { verdict = Accepted; work = spaceAfter })

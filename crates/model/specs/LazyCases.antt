@@ -14,30 +14,16 @@ use Rattle.model.specs.Refusal.{judged}
 use Rattle.model.specs.Run.{Ran, ran}
 use Rattle.model.specs.Services.{AfterRun, runOf}
 use Rattle.model.specs.Opened.{opened}
-use Rattle.model.specs.Examples.{lines, sample, space, spaceAfter, sevenSteps, withPreemption}
+use Rattle.model.specs.Examples.{lines, sample, space, spaceAfter, sevenSteps, withPreemption, sampleRun}
 use Rattle.model.specs.Cases.{the}
 
--- the runs of document 01, and one at a price
+-- the runs of document 01 return and leave what they do on its core (Examples.starred), and so does one at a price
 pub sampleRuns :
-    (runOf Lazy sample 0 1 space sevenSteps (replicate 9 5) (replicate 5 6) (replicate 7 8)
-    ≡ record {
-      result = record { ending = AllDone; done = 7; moved = 2; allowed = 2 };
-      work = spaceAfter;
-      answers = 0 ∷ 0 ∷ 0 ∷ 22 ∷ 0 ∷ 0 ∷ 11 ∷ 5 ∷ 5 ∷ [];
-      cache = 6 ∷ 11 ∷ 6 ∷ 6 ∷ 6 ∷ [];
-      memory = 8 ∷ 8 ∷ 8 ∷ 8 ∷ 8 ∷ 8 ∷ 11 ∷ [];
-    })
-    × (runOf Lazy sample 0 1 space withPreemption (replicate 9 5) (replicate 5 6) (replicate 7 8)
-    ≡ record {
-      result = record { ending = AllDone; done = 8; moved = 9; allowed = 9 };
-      work = spaceAfter;
-      answers = 0 ∷ 0 ∷ 0 ∷ 0 ∷ 22 ∷ 0 ∷ 0 ∷ 11 ∷ 5 ∷ [];
-      cache = 6 ∷ 11 ∷ 99 ∷ 99 ∷ 99 ∷ [];
-      memory = 8 ∷ 22 ∷ 6 ∷ 6 ∷ 6 ∷ 6 ∷ 11 ∷ [];
-    })
+    (sampleRun Lazy sevenSteps ≡ sampleRun Eager sevenSteps)
+    × (sampleRun Lazy withPreemption ≡ sampleRun Eager withPreemption)
     × (runOf Lazy sample 10 1 space withPreemption (replicate 8 0) (replicate 5 0) (replicate 6 0) .result
     ≡ record { ending = AllDone; done = 8; moved = 49; allowed = 59 })
-unfolding opened lines sample space spaceAfter sevenSteps withPreemption
+unfolding opened lines sample space sevenSteps withPreemption
 sampleRuns = (refl, refl, refl)
 
 -- eleven steps: function 0 calls function 1 twice, and stores nothing between the calls, so the second finds its blocks clean

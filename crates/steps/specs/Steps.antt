@@ -23,10 +23,11 @@ pub record Stays (w w′ : List ℕ) : Type 0 where
   pub below : (i : ℕ) → i < framesAt → item w′ i ≡ item w i
   pub kept : Kept framesEnd w w′
 
--- a sum of a total and a part of it, which is a number of 32 bits
+-- the most that a turn adds to a total: a number of 32 bits
 abbrev pub mostPart : ℕ
 mostPart = 4294967295
 
+-- a total after a part was added to it
 abbrev pub Added : ℕ → ℕ → ℕ → Type 0
 Added total part sum = (sum ≡ total + part) × (sum ≤ total + mostPart)
 
@@ -45,10 +46,11 @@ Steps price t x y v w cache memory r w′ cache′ memory′ =
     (stepTurn t (x .f) (x .p) (placesIn w (x .depth - 1)) (coreOf (x .machine) cache memory) y v)
     (stepBound (sheetAt price t) (x .f) (x .p) y)
 
--- the totals have room for one part more
+-- a total that has room for one part more in 64 bits
 abbrev pub mostTotal : ℕ
 mostTotal = 9223372036854775808
 
+-- both totals of a state have that room
 pub record Counts (x : State) : Type 0 where
   pub moved : x .moved ≤ mostTotal
   pub allowed : x .allowed ≤ mostTotal

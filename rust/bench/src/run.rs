@@ -107,24 +107,8 @@ impl Room {
     }
 }
 
-/// A run of the archive: text, start, each, events, answers, cache, memory, working space.
-type Proved = fn(
-    &[u8],
-    u32,
-    u32,
-    &[u32],
-    &mut [u32],
-    &mut [u32],
-    &mut [u32],
-    &mut [u32],
-) -> felknost::RunResult;
-
-/// A run of the second implementation, with the length of a working space behind the price.
-type Second =
-    fn(&[u8], u32, u32, usize, &[u32], &mut [u32], &mut [u32], &mut [u32]) -> second::RunResult;
-
 /// A call of the archive on a list. It gives the events done.
-fn proved(run: Proved, list: &List) -> impl FnMut() -> u64 + '_ {
+fn proved(run: felknost::Run, list: &List) -> impl FnMut() -> u64 + '_ {
     let mut room = Room::of(list);
     move || {
         let ran = run(
@@ -142,7 +126,7 @@ fn proved(run: Proved, list: &List) -> impl FnMut() -> u64 + '_ {
 }
 
 /// A call of the second implementation on a list.
-fn second(run: Second, list: &List) -> impl FnMut() -> u64 + '_ {
+fn second(run: second::run::Service, list: &List) -> impl FnMut() -> u64 + '_ {
     let mut room = Room::of(list);
     move || {
         let ran = run(

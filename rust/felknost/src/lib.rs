@@ -20,7 +20,7 @@ mod run;
 pub use dearest::dearest_points;
 pub use refusal::{Refusal, Row};
 pub use report::report;
-pub use run::{run, run_lazy, RunResult};
+pub use run::{run, run_lazy, Run, RunResult};
 
 extern "C" {
     fn felknost_check(text: *const u8, length: usize) -> u32;

@@ -37,6 +37,10 @@ pub fn run(
     result_of(call)
 }
 
+/// What [`run`] and [`run_lazy`] are: text, start, each, events, answers, cache, memory, working space.
+pub type Run =
+    fn(&[u8], u32, u32, &[u32], &mut [u32], &mut [u32], &mut [u32], &mut [u32]) -> RunResult;
+
 /// Runs an event list on the core with a lazy pointer, which writes back only the blocks below it. What it is lent, returns and leaves is as for [`run`],
 /// but for what is moved, which is no more.
 #[allow(clippy::too_many_arguments, reason = "the C function has them")]

@@ -57,6 +57,10 @@ pub fn run(
     }
 }
 
+/// What [`run`] and [`run_lazy`] are: text, start, each, length of the working space, events, answers, cache, memory.
+pub type Service =
+    fn(&[u8], u32, u32, usize, &[u32], &mut [u32], &mut [u32], &mut [u32]) -> RunResult;
+
 /// Runs a task on the core with a lazy pointer.
 #[allow(clippy::too_many_arguments, reason = "the service has them")]
 pub fn run_lazy(

@@ -3,7 +3,7 @@
 use felknost::raw;
 use generate::Price;
 use second::lazy::{LazyCore, View};
-use second::run::run_lazy_seen;
+use second::run::{run_lazy_seen, Service};
 use second::{code_and_place, RunResult};
 
 use crate::guarded::{noise, Guarded};
@@ -25,6 +25,16 @@ impl Lent {
             cache: noise(cache),
             memory: noise(memory),
         }
+    }
+}
+
+/// The result of a run whose events are all done.
+pub fn all_done(done: u32, moved: u64, allowed: u64) -> RunResult {
+    RunResult {
+        ending: Ok(()),
+        done,
+        moved,
+        allowed,
     }
 }
 
@@ -81,14 +91,11 @@ pub fn run_both_at(text: &[u8], price: Price, events: &[u32], lent: &Lent, work:
     BothRan { eager, lazy }
 }
 
-/// A run of the second implementation: text, start, each, length of the working space, events, answers, cache, memory.
-type Second = fn(&[u8], u32, u32, usize, &[u32], &mut [u32], &mut [u32], &mut [u32]) -> RunResult;
-
 /// A core in the archive and in the second implementation.
 struct Core {
     name: &'static str,
     proved: raw::Runner,
-    second: Second,
+    second: Service,
 }
 
 const EAGER: Core = Core {

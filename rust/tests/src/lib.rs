@@ -9,7 +9,7 @@ mod sheets;
 mod texts;
 mod written;
 
-pub use cores::{run, run_at, run_both_at, BothRan, Lent, Ran};
+pub use cores::{all_done, run, run_at, run_both_at, BothRan, Lent, Ran};
 pub use guarded::{is_noise_from, noise, Guarded, Noise};
 pub use rules::{figures_of, report_by, run_by};
 pub use services::{check, verdict};

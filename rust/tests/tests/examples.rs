@@ -5,8 +5,8 @@ use second::figures::{figures, Displacement, PointFigures};
 use second::sheet::Foot;
 use second::{admit, machine, plain, Row, RunResult, WORK_MIN};
 use tests::{
-    dearest_points_at, figures_of, report, report_at, report_by, run, run_at, run_by, steps, text,
-    verdict, Lent, Ran, Written, TWO,
+    all_done, dearest_points_at, figures_of, report, report_at, report_by, run, run_at, run_by,
+    steps, text, verdict, Lent, Ran, Written, TWO,
 };
 
 const TWO_REPORT: &str = "(report
@@ -86,16 +86,6 @@ fn run_like_plain(text: &str, cache: usize, memory: usize, events: &[u32]) -> Ru
     assert_eq!(ran.lent.answers[..plain.answers.len()], plain.answers);
     assert!(result.moved <= result.allowed);
     result
-}
-
-/// The result of a run whose events are all done.
-fn all_done(done: u32, moved: u64, allowed: u64) -> RunResult {
-    RunResult {
-        ending: Ok(()),
-        done,
-        moved,
-        allowed,
-    }
 }
 
 #[test]

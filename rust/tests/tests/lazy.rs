@@ -6,8 +6,8 @@ use std::collections::BTreeSet;
 use std::fmt::Display;
 
 use generate::{Price, RunCase};
-use second::{RunResult, WORK_MIN};
-use tests::{run_both_at, steps, text, BothRan, Lent, TWO};
+use second::WORK_MIN;
+use tests::{all_done, run_both_at, steps, text, BothRan, Lent, TWO};
 
 /// The tasks of the random lists, of two kinds, and how many lists each has: 200,000 in all.
 const VALID: u64 = 14_000;
@@ -18,16 +18,6 @@ const LISTS: u64 = 10;
 const EVENTS: usize = 9;
 
 const START_OF_10: Price = Price { start: 10, each: 1 };
-
-/// The result of a run whose events are all done.
-fn all_done(done: u32, moved: u64, allowed: u64) -> RunResult {
-    RunResult {
-        ending: Ok(()),
-        done,
-        moved,
-        allowed,
-    }
-}
 
 /// Runs a list on buffers of these lengths that hold noise.
 fn run_both(text: &str, price: Price, events: &[u32], cache: usize, memory: usize) -> BothRan {

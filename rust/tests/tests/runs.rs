@@ -334,19 +334,7 @@ mod in_archive {
         }
     }
 
-    /// A function of the binding that runs.
-    type Binding = fn(
-        &[u8],
-        u32,
-        u32,
-        &[u32],
-        &mut [u32],
-        &mut [u32],
-        &mut [u32],
-        &mut [u32],
-    ) -> felknost::RunResult;
-
-    fn assert_binding(function: Binding) {
+    fn assert_binding(function: felknost::Run) {
         let mut answers = [7; 7];
         let (mut cache, mut memory) = ([7; 5], [7; 6]);
         let mut work = vec![7; felknost::WORK];

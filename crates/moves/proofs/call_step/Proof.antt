@@ -38,8 +38,24 @@ moves-price-requires c κs =
       omega arith,
     )
 
+-- the depth after the call, and the totals
 add-t18 : tie.Need-add-t18
-add-t18 c = let h = c .before .before .before .before .before .before .before .before .before .before .before .before .before .before .before .before .before .before .before .before .before .pre .few in omega arith
+add-t18 c =
+    let c10 = c .before .before .before .before .before .before .before .before .before .before in
+    let h = c10 .before .before .before .before .before .before .before .before .before .before .before .pre .few in omega arith
+
+added-requires : tie.Need-added-requires
+added-requires c κs =
+    let c10 = c .before .before .before .before .before .before .before .before .before .before in c10 .before .before .before .before .before .before .before .before .before .before .before .pre .counts .moved
+
+added-requires-2 : tie.Need-added-requires-2
+added-requires-2 c κs =
+    let c10 = c .before .before .before .before .before .before .before .before .before .before in c10 .before .before .before .before .before .before .before .before .before .before .before .before .pre .counts .allowed
+
+put-caller-requires : tie.Need-put-caller-requires
+put-caller-requires c κs =
+    let p = c .before .before .before .before .before .before .before .before .before .before .pre in
+    omega (arith, p .bounded .figured .room, p .some, p .few, p .fn-in, p .small)
 
 pub call-step-spec : {M : Type 1} → statement M
 call-step-spec =
@@ -52,12 +68,12 @@ call-step-spec =
     (λ c. search needs)
     (λ c. search needs)
     (λ c. search needs)
-    (λ c κs. let p = c .before .before .before .before .before .before .before .before .before .before .pre in omega (arith, p .bounded .figured .room, p .some, p .few, p .fn-in, p .small))
+    put-caller-requires
     reserve-requires
     moves-price-requires
     add-t18
-    (λ c κs. c .before .before .before .before .before .before .before .before .before .before .before .before .before .before .before .before .before .before .before .before .before .pre .counts .moved)
-    (λ c κs. c .before .before .before .before .before .before .before .before .before .before .before .before .before .before .before .before .before .before .before .before .before .before .pre .counts .allowed)
+    added-requires
+    added-requires-2
     (λ c. search needs)
     (λ c. search needs)
     returns)

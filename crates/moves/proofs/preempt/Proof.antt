@@ -24,6 +24,14 @@ returns c =
     preempt-does _ _ (s .args .x) _ _ _ _ _ (k .some) _ _ (dead-inside k (f .before .before .figure-at .ensures)) (need-inside k (f .before .figure-at2 .ensures))
     (cost-inside k (f .figure-at3 .ensures)) (c .before .before .moves-price .ensures) (c .before .added .ensures) (c .added2 .ensures) (e .preempt .ensures)
 
+added-requires : tie.Need-added-requires
+added-requires c κs =
+    let c10 = c .before .before .before .before .before .before .before .before .before .before in c10 .before .before .before .before .before .before .pre .0 .counts .moved
+
+added-requires-2 : tie.Need-added-requires-2
+added-requires-2 c κs =
+    let c10 = c .before .before .before .before .before .before .before .before .before .before in c10 .before .before .before .before .before .before .before .pre .0 .counts .allowed
+
 pub preempt-spec : {M : Type 1} → statement M
 preempt-spec =
     tie.close
@@ -33,8 +41,8 @@ preempt-spec =
     (λ c κs. read-inside (c .before .before .before .before .before .pre .0) costBounds (omega arith))
     (λ c κs. search needs)
     moves-price-requires
-    (λ c κs. c .before .before .before .before .before .before .before .before .before .before .before .before .before .before .before .before .pre .0 .counts .moved)
-    (λ c κs. c .before .before .before .before .before .before .before .before .before .before .before .before .before .before .before .before .before .pre .0 .counts .allowed)
+    added-requires
+    added-requires-2
     (λ c. search needs)
     (λ c. search needs)
     returns)
