@@ -1,6 +1,7 @@
 -- Outside cases and cases of refusal order, by computation: the definitions are tried on them before any code rests on them.
 use Prim.Native.Nat.{ℕ}
 use Prim.Native.String.{String}
+use mathlib.Core.Bool.{true, false}
 use mathlib.Core.Path.{_≡_, refl}
 use mathlib.Core.List.{List, [], _∷_, _++_}
 use lib.ListN.{replicate}
@@ -10,13 +11,16 @@ use Rattle.model.specs.declared.Row.the-variants.{OutputTooSmall, Memory
 use Rattle.model.specs.declared.Eviction.the-variants.{Eager}
 use Rattle.model.specs.declared.Verdict.the-variants as verdict
 use Rattle.model.specs.declared.Ending.the-variants.{AllDone, Refused}
+use Rattle.model.specs.declared.RunResult.{RunResult}
 use Rattle.model.specs.Text.{bytes}
 use Rattle.model.specs.Task.{Task, Judged, refused, task}
 use Rattle.model.specs.Figures.{shortest}
-use Rattle.model.specs.Sheet.{movePrice, inBlocks, pricedSheet, recordsOf, totalOf, reportText}
+use Rattle.model.specs.Sheet.{movePrice, inBlocks, pricedSheet, sheetOf, onceOf, chargingOnce, recordsOf, totalOf, reportText}
 use Rattle.model.specs.Dearest.{dearestText}
 use Rattle.model.specs.Rows.{refuse}
 use Rattle.model.specs.Refusal.{judged, workRow, pricedRows, judge, noRows}
+use Rattle.model.specs.Plain.{eventsOf}
+use Rattle.model.specs.Run.{allowed}
 use Rattle.model.specs.Services.{reportOf, dearestOf, runOf}
 use Rattle.model.specs.Opened.{opened}
 use Rattle.model.specs.Examples.{lines, sample, sevenSteps, withPreemption}
@@ -71,32 +75,32 @@ refusals = (refl, refl, refl, refl, refl, refl, refl, refl, refl, refl, refl, re
 
 -- reports: loops and branches; calls in a row; a chain of calls in a small cache
 pub reports :
-    (reportText inBlocks (the (judged (lines ("(stack 4)" ∷ "(func 4" ∷ "  (either 1 3)" ∷ "  (store 0)" ∷ "  (goto 5)"
+    (reportText true inBlocks (the (judged (lines ("(stack 4)" ∷ "(func 4" ∷ "  (either 1 3)" ∷ "  (store 0)" ∷ "  (goto 5)"
     ∷ "  (store 3)" ∷ "  (either 5 1)" ∷ "  (either 6 6)" ∷ "  (either 7 1)" ∷ "  (store 0)" ∷ "  (either 7 4)" ∷ ")" ∷ []))))
-    ≡ lines ("(report" ∷ "  (func 0 4 4 4 0 0)" ∷ "  (at 0 4 4 4 0 0 0 0 0 0)" ∷ "  (at 1 4 4 1 0 0 0 0 0 0)"
-    ∷ "  (at 2 4 4 1 0 0 0 0 0 0)" ∷ "  (at 3 4 4 4 0 0 0 0 0 0)" ∷ "  (at 4 4 4 1 0 0 0 0 0 0)" ∷ "  (at 5 4 4 1 0 0 0 0 0 0)"
-    ∷ "  (at 6 4 4 1 0 0 0 0 0 0)" ∷ "  (at 7 4 4 1 0 0 0 0 0 0)" ∷ "  (at 8 4 4 1 0 0 0 0 0 0)" ∷ "  (total 0)" ∷ ")" ∷ []))
-    × (reportText inBlocks (the (judged (lines ("(stack 6)" ∷ "(func 0" ∷ "  (goto 1)" ∷ "  (call 1)" ∷ "  (ensure 0)"
+    ≡ lines ("(report" ∷ "  (func 0 4 4 4 0 0)" ∷ "  (at 0 4 4 4 0 0 0 0 0 0 0)" ∷ "  (at 1 4 4 1 0 0 0 0 0 0 0)"
+    ∷ "  (at 2 4 4 1 0 0 0 0 0 0 0)" ∷ "  (at 3 4 4 4 0 0 0 0 0 0 0)" ∷ "  (at 4 4 4 1 0 0 0 0 0 0 0)" ∷ "  (at 5 4 4 1 0 0 0 0 0 0 0)"
+    ∷ "  (at 6 4 4 1 0 0 0 0 0 0 0)" ∷ "  (at 7 4 4 1 0 0 0 0 0 0 0)" ∷ "  (at 8 4 4 1 0 0 0 0 0 0 0)" ∷ "  (total 0)" ∷ ")" ∷ []))
+    × (reportText true inBlocks (the (judged (lines ("(stack 6)" ∷ "(func 0" ∷ "  (goto 1)" ∷ "  (call 1)" ∷ "  (ensure 0)"
     ∷ "  (goto 4)" ∷ "  (goto 5)" ∷ "  (goto 4)" ∷ ")" ∷ "(func 6" ∷ "  (store 2)" ∷ "  (store 5)" ∷ "  (store 1)"
     ∷ "  (call 2)" ∷ "  (ensure 6)" ∷ "  (call 2)" ∷ "  (ensure 6)" ∷ "  (store 2)" ∷ "  (either 9 9)" ∷ "  (return)" ∷ ")"
     ∷ "(func 5" ∷ "  (store 2)" ∷ "  (store 0)" ∷ "  (goto 2)" ∷ ")" ∷ [])))) ≡ lines ("(report" ∷ "  (func 0 0 11 11 0 0)"
-    ∷ "  (at 0 0 0 0 0 0 0 0 0 0)" ∷ "  (at 1 0 0 0 0 0 0 0 0 0)" ∷ "  (at 2 0 0 0 0 0 0 0 0 0)" ∷ "  (at 3 0 0 0 0 0 0 0 0 0)"
-    ∷ "  (at 4 0 0 0 0 0 0 0 0 0)" ∷ "  (at 5 0 0 0 0 0 0 0 0 0)" ∷ "  (func 1 6 11 11 0 0)" ∷ "  (at 0 6 6 6 0 0 0 0 0 0)"
-    ∷ "  (at 1 6 6 6 0 0 0 0 0 0)" ∷ "  (at 2 6 6 2 0 0 0 0 0 0)" ∷ "  (at 3 6 6 0 0 0 1 0 1 0)" ∷ "  (at 4 1 6 0 0 0 1 0 1 5)"
-    ∷ "  (at 5 6 6 0 0 0 1 0 1 0)" ∷ "  (at 6 1 6 0 0 0 1 0 1 5)" ∷ "  (at 7 6 6 3 0 0 0 0 0 0)" ∷ "  (at 8 6 6 0 0 0 0 0 0 0)"
-    ∷ "  (at 9 6 6 0 0 0 0 0 0 0)" ∷ "  (func 2 5 5 5 5 1)" ∷ "  (at 0 6 5 3 1 0 0 1 2 0)" ∷ "  (at 1 6 5 1 1 0 0 1 2 0)"
-    ∷ "  (at 2 6 5 0 1 0 0 1 2 0)" ∷ "  (total 10)" ∷ ")" ∷ []))
-    × (reportText inBlocks (the (judged (lines ("(stack 2)" ∷ "(func 1" ∷ "  (call 2)" ∷ "  (ensure 1)" ∷ "  (call 2)"
+    ∷ "  (at 0 0 0 0 0 0 0 0 0 0 0)" ∷ "  (at 1 0 0 0 0 0 0 0 0 0 0)" ∷ "  (at 2 0 0 0 0 0 0 0 0 0 0)" ∷ "  (at 3 0 0 0 0 0 0 0 0 0 0)"
+    ∷ "  (at 4 0 0 0 0 0 0 0 0 0 0)" ∷ "  (at 5 0 0 0 0 0 0 0 0 0 0)" ∷ "  (func 1 6 11 11 0 0)" ∷ "  (at 0 6 6 6 0 0 0 0 0 0 0)"
+    ∷ "  (at 1 6 6 6 0 0 0 0 0 0 0)" ∷ "  (at 2 6 6 2 0 0 0 0 0 0 0)" ∷ "  (at 3 6 6 0 0 0 1 0 1 0 0)" ∷ "  (at 4 1 6 0 0 0 1 0 1 5 0)"
+    ∷ "  (at 5 6 6 0 0 0 1 0 1 0 0)" ∷ "  (at 6 1 6 0 0 0 1 0 1 5 0)" ∷ "  (at 7 6 6 3 0 0 0 0 0 0 0)" ∷ "  (at 8 6 6 0 0 0 0 0 0 0 0)"
+    ∷ "  (at 9 6 6 0 0 0 0 0 0 0 0)" ∷ "  (func 2 5 5 5 5 1)" ∷ "  (at 0 6 5 3 1 0 0 1 2 0 2)" ∷ "  (at 1 6 5 1 1 0 0 1 2 0 2)"
+    ∷ "  (at 2 6 5 0 1 0 0 1 2 0 2)" ∷ "  (total 10)" ∷ ")" ∷ []))
+    × (reportText true inBlocks (the (judged (lines ("(stack 2)" ∷ "(func 1" ∷ "  (call 2)" ∷ "  (ensure 1)" ∷ "  (call 2)"
     ∷ "  (ensure 1)" ∷ "  (call 1)" ∷ "  (ensure 1)" ∷ "  (goto 7)" ∷ "  (call 1)" ∷ "  (ensure 1)" ∷ "  (either 10 10)"
     ∷ "  (store 0)" ∷ "  (return)" ∷ ")" ∷ "(func 1" ∷ "  (either 1 4)" ∷ "  (either 2 4)" ∷ "  (call 2)" ∷ "  (ensure 1)"
     ∷ "  (call 2)" ∷ "  (ensure 1)" ∷ "  (return)" ∷ ")" ∷ "(func 0" ∷ "  (either 1 1)" ∷ "  (return)" ∷ ")" ∷ []))))
-    ≡ lines ("(report" ∷ "  (func 0 1 2 2 0 0)" ∷ "  (at 0 1 1 0 0 0 1 0 1 0)" ∷ "  (at 1 1 1 0 0 0 1 0 1 0)"
-    ∷ "  (at 2 1 1 0 0 0 1 0 1 0)" ∷ "  (at 3 1 1 0 0 0 1 0 1 0)" ∷ "  (at 4 1 1 0 0 0 1 0 1 0)" ∷ "  (at 5 1 1 0 0 0 1 0 1 0)"
-    ∷ "  (at 6 1 1 0 0 0 1 0 1 0)" ∷ "  (at 7 1 1 0 0 0 1 0 1 0)" ∷ "  (at 8 1 1 0 0 0 1 0 1 0)" ∷ "  (at 9 1 1 1 0 0 0 0 0 0)"
-    ∷ "  (at 10 1 1 1 0 0 0 0 0 0)" ∷ "  (at 11 1 1 0 0 0 0 0 0 0)" ∷ "  (func 1 1 1 1 0 1)" ∷ "  (at 0 2 1 0 1 0 1 1 3 0)"
-    ∷ "  (at 1 2 1 0 1 0 1 1 3 0)" ∷ "  (at 2 2 1 0 1 0 1 1 3 0)" ∷ "  (at 3 2 1 0 1 0 1 1 3 0)" ∷ "  (at 4 2 1 0 1 0 1 1 3 0)"
-    ∷ "  (at 5 2 1 0 1 0 1 1 3 0)" ∷ "  (at 6 2 1 0 1 0 0 1 2 0)" ∷ "  (func 2 0 0 0 0 2)" ∷ "  (at 0 2 0 0 2 0 0 2 4 0)"
-    ∷ "  (at 1 2 0 0 2 0 0 2 4 0)" ∷ "  (total 37)" ∷ ")" ∷ []))
+    ≡ lines ("(report" ∷ "  (func 0 1 2 2 0 0)" ∷ "  (at 0 1 1 0 0 0 1 0 1 0 0)" ∷ "  (at 1 1 1 0 0 0 1 0 1 0 0)"
+    ∷ "  (at 2 1 1 0 0 0 1 0 1 0 0)" ∷ "  (at 3 1 1 0 0 0 1 0 1 0 0)" ∷ "  (at 4 1 1 0 0 0 1 0 1 0 0)" ∷ "  (at 5 1 1 0 0 0 1 0 1 0 0)"
+    ∷ "  (at 6 1 1 0 0 0 1 0 1 0 0)" ∷ "  (at 7 1 1 0 0 0 1 0 1 0 0)" ∷ "  (at 8 1 1 0 0 0 1 0 1 0 0)" ∷ "  (at 9 1 1 1 0 0 0 0 0 0 0)"
+    ∷ "  (at 10 1 1 1 0 0 0 0 0 0 0)" ∷ "  (at 11 1 1 0 0 0 0 0 0 0 0)" ∷ "  (func 1 1 1 1 0 1)" ∷ "  (at 0 2 1 0 1 0 1 1 3 0 2)"
+    ∷ "  (at 1 2 1 0 1 0 1 1 3 0 2)" ∷ "  (at 2 2 1 0 1 0 1 1 3 0 2)" ∷ "  (at 3 2 1 0 1 0 1 1 3 0 2)" ∷ "  (at 4 2 1 0 1 0 1 1 3 0 2)"
+    ∷ "  (at 5 2 1 0 1 0 1 1 3 0 2)" ∷ "  (at 6 2 1 0 1 0 0 1 2 0 2)" ∷ "  (func 2 0 0 0 0 2)" ∷ "  (at 0 2 0 0 2 0 0 2 4 0 4)"
+    ∷ "  (at 1 2 0 0 2 0 0 2 4 0 4)" ∷ "  (total 37)" ∷ ")" ∷ []))
 unfolding opened lines sample
 reports = (refl, refl, refl)
 
@@ -123,22 +127,22 @@ orders = (refl, refl, refl, refl, refl, refl, refl, refl, refl)
 -- store in one branch leaves the other branch live.
 -- Then refusals of events, in their order, and 17 and 19
 pub turns :
-    (reportText inBlocks (the (judged (lines ("(stack 4)" ∷ "(func 2" ∷ "  (store 1)" ∷ "  (call 1)" ∷ "  (ensure 2)"
+    (reportText true inBlocks (the (judged (lines ("(stack 4)" ∷ "(func 2" ∷ "  (store 1)" ∷ "  (call 1)" ∷ "  (ensure 2)"
     ∷ "  (call 2)" ∷ "  (ensure 2)" ∷ "  (load 1)" ∷ "  (return)" ∷ ")" ∷ "(func 4" ∷ "  (return)" ∷ ")" ∷ "(func 0"
-    ∷ "  (return)" ∷ ")" ∷ [])))) ≡ lines ("(report" ∷ "  (func 0 2 6 6 0 0)" ∷ "  (at 0 2 2 2 0 0 0 0 0 0)"
-    ∷ "  (at 1 2 1 0 1 0 0 0 1 0)" ∷ "  (at 2 0 1 0 0 0 0 0 0 2)" ∷ "  (at 3 2 1 0 1 0 2 0 3 0)" ∷ "  (at 4 2 1 0 1 0 2 0 3 0)"
-    ∷ "  (at 5 2 1 2 1 1 0 0 2 0)" ∷ "  (at 6 2 2 0 0 0 0 0 0 0)" ∷ "  (func 1 4 4 4 2 0)" ∷ "  (at 0 4 4 0 0 0 0 0 0 0)"
-    ∷ "  (func 2 0 0 0 0 2)" ∷ "  (at 0 2 0 0 2 0 0 2 4 0)" ∷ "  (total 13)" ∷ ")" ∷ []))
-    × (reportText inBlocks (the (judged (lines ("(stack 4)" ∷ "(func 3" ∷ "  (call 1)" ∷ "  (ensure 3)" ∷ "  (return)" ∷ ")"
+    ∷ "  (return)" ∷ ")" ∷ [])))) ≡ lines ("(report" ∷ "  (func 0 2 6 6 0 0)" ∷ "  (at 0 2 2 2 0 0 0 0 0 0 0)"
+    ∷ "  (at 1 2 1 0 1 0 0 0 1 0 1)" ∷ "  (at 2 0 1 0 0 0 0 0 0 2 0)" ∷ "  (at 3 2 1 0 1 0 2 0 3 0 2)" ∷ "  (at 4 2 1 0 1 0 2 0 3 0 2)"
+    ∷ "  (at 5 2 1 2 1 1 0 0 2 0 2)" ∷ "  (at 6 2 2 0 0 0 0 0 0 0 0)" ∷ "  (func 1 4 4 4 2 0)" ∷ "  (at 0 4 4 0 0 0 0 0 0 0 0)"
+    ∷ "  (func 2 0 0 0 0 2)" ∷ "  (at 0 2 0 0 2 0 0 2 4 0 4)" ∷ "  (total 13)" ∷ ")" ∷ []))
+    × (reportText true inBlocks (the (judged (lines ("(stack 4)" ∷ "(func 3" ∷ "  (call 1)" ∷ "  (ensure 3)" ∷ "  (return)" ∷ ")"
     ∷ "(func 1" ∷ "  (either 1 3)" ∷ "  (call 2)" ∷ "  (ensure 1)" ∷ "  (return)" ∷ ")" ∷ "(func 2" ∷ "  (return)" ∷ ")"
-    ∷ [])))) ≡ lines ("(report" ∷ "  (func 0 3 4 6 0 0)" ∷ "  (at 0 3 3 0 0 0 1 0 1 0)" ∷ "  (at 1 3 3 0 0 0 1 0 1 2)"
-    ∷ "  (at 2 3 3 0 0 0 0 0 0 0)" ∷ "  (func 1 1 1 3 0 1)" ∷ "  (at 0 4 1 0 3 0 1 1 5 0)" ∷ "  (at 1 4 1 0 3 0 1 1 5 0)"
-    ∷ "  (at 2 2 1 0 1 0 1 1 3 0)" ∷ "  (at 3 4 1 0 3 0 0 1 4 0)" ∷ "  (func 2 2 2 2 2 2)" ∷ "  (at 0 4 2 0 2 0 0 2 4 0)" ∷ "  (total 23)" ∷ ")"
+    ∷ [])))) ≡ lines ("(report" ∷ "  (func 0 3 4 6 0 0)" ∷ "  (at 0 3 3 0 0 0 1 0 1 0 0)" ∷ "  (at 1 3 3 0 0 0 1 0 1 2 0)"
+    ∷ "  (at 2 3 3 0 0 0 0 0 0 0 0)" ∷ "  (func 1 1 1 3 0 1)" ∷ "  (at 0 4 1 0 3 0 1 1 5 0 5)" ∷ "  (at 1 4 1 0 3 0 1 1 5 0 5)"
+    ∷ "  (at 2 2 1 0 1 0 1 1 3 0 2)" ∷ "  (at 3 4 1 0 3 0 0 1 4 0 4)" ∷ "  (func 2 2 2 2 2 2)" ∷ "  (at 0 4 2 0 2 0 0 2 4 0 4)" ∷ "  (total 23)" ∷ ")"
     ∷ []))
-    × (reportText inBlocks (the (judged (lines ("(stack 2)" ∷ "(func 1" ∷ "  (store 0)" ∷ "  (either 2 4)" ∷ "  (store 0)"
+    × (reportText true inBlocks (the (judged (lines ("(stack 2)" ∷ "(func 1" ∷ "  (store 0)" ∷ "  (either 2 4)" ∷ "  (store 0)"
     ∷ "  (goto 4)" ∷ "  (load 0)" ∷ "  (return)" ∷ ")" ∷ [])))) ≡ lines ("(report" ∷ "  (func 0 1 1 1 0 0)"
-    ∷ "  (at 0 1 1 1 0 0 0 0 0 0)" ∷ "  (at 1 1 0 1 1 1 0 0 2 0)" ∷ "  (at 2 1 1 1 0 0 0 0 0 0)" ∷ "  (at 3 1 0 1 1 1 0 0 2 0)"
-    ∷ "  (at 4 1 0 1 1 1 0 0 2 0)" ∷ "  (at 5 1 1 0 0 0 0 0 0 0)" ∷ "  (total 6)" ∷ ")" ∷ []))
+    ∷ "  (at 0 1 1 1 0 0 0 0 0 0 0)" ∷ "  (at 1 1 0 1 1 1 0 0 2 0 2)" ∷ "  (at 2 1 1 1 0 0 0 0 0 0 0)" ∷ "  (at 3 1 0 1 1 1 0 0 2 0 2)"
+    ∷ "  (at 4 1 0 1 1 1 0 0 2 0 2)" ∷ "  (at 5 1 1 0 0 0 0 0 0 0 0)" ∷ "  (total 6)" ∷ ")" ∷ []))
     × (runOf Eager (lines ("(stack 2)" ∷ "(func 1" ∷ "  (store 0)" ∷ "  (either 2 4)" ∷ "  (store 0)" ∷ "  (goto 4)" ∷ "  (load 0)"
     ∷ "  (return)" ∷ ")" ∷ [])) 0 1 space (0 ∷ 5 ∷ 0 ∷ 2 ∷ []) (replicate 2 0) (replicate 2 0) (replicate 1 0) .result .ending
     ≡ Refused (refuse Choice 1))
@@ -172,7 +176,7 @@ displacements = (refl, refl, refl, refl, refl)
 
 -- document 02, request 1, on the example of document 01: a move of n blocks costs 10 + n. A preemption makes two moves, each with a start
 pub prices :
-    (reportText (movePrice 10 1) (the (judged sample))
+    (reportText false (movePrice 10 1) (the (judged sample))
     ≡ lines ("(report" ∷ "  (func 0 2 6 6 0 0)" ∷ "  (at 0 2 2 2 0 0 0 0 0 0)" ∷ "  (at 1 2 1 0 11 0 11 0 22 0)"
     ∷ "  (at 2 1 1 0 0 0 11 0 11 11)" ∷ "  (at 3 2 1 2 11 11 0 0 22 0)" ∷ "  (at 4 2 2 0 0 0 0 0 0 0)"
     ∷ "  (func 1 4 4 4 11 11)" ∷ "  (at 0 5 4 1 11 0 0 11 22 0)" ∷ "  (at 1 5 0 1 15 11 0 11 37 0)"
@@ -188,7 +192,7 @@ prices = (refl, refl, refl, refl)
 
 -- a chain of two callers, of which each keeps one block: its shares are priced one by one
 pub shares :
-    reportText (movePrice 10 1) (the (judged (lines ("(stack 4)" ∷ "(func 1" ∷ "  (call 1)" ∷ "  (ensure 1)"
+    reportText false (movePrice 10 1) (the (judged (lines ("(stack 4)" ∷ "(func 1" ∷ "  (call 1)" ∷ "  (ensure 1)"
     ∷ "  (return)" ∷ ")" ∷ "(func 1" ∷ "  (call 2)" ∷ "  (ensure 1)" ∷ "  (return)" ∷ ")" ∷ "(func 2" ∷ "  (return)" ∷ ")"
     ∷ []))))
     ≡ lines ("(report" ∷ "  (func 0 1 4 4 0 0)" ∷ "  (at 0 1 1 0 0 0 11 0 11 0)" ∷ "  (at 1 1 1 0 0 0 11 0 11 0)"
@@ -218,14 +222,36 @@ totalAt price = let t = the (judged sample) in totalOf (recordsOf t (pricedSheet
 pub totals :
     (totalAt inBlocks ≡ 16)
     × (totalAt (movePrice 10 1) ≡ 136)
-    × (reportOf sample 0 1 space (replicate 280 7)
+    × (reportOf sample 0 1 space (replicate 296 7)
     ≡ record {
-      result = record { verdict = verdict.Refused (refuse OutputTooSmall 281); written = 0 };
+      result = record { verdict = verdict.Refused (refuse OutputTooSmall 297); written = 0 };
       work = spaceAfter;
-      output = replicate 280 7;
+      output = replicate 296 7;
     })
 unfolding opened lines sample
 totals = (refl, refl, refl)
+
+-- document 02, request 7. Once of figures in which the blocks that are missing are fewer than later and the chain, and need is above dead. Then on the
+-- example of document 01 what its run with a preemption is allowed with once, and a run with its preemption at the ensure: it moves what once allows, and
+-- less than cost does; so does the same list where an event behind the preemption is refused
+abbrev beforeEnsure : List ℕ → List ℕ
+beforeEnsure rest = 0 ∷ 11 ∷ 0 ∷ 0 ∷ 0 ∷ 22 ∷ 0 ∷ 0 ∷ 0 ∷ 0 ∷ 1 ∷ 99 ∷ rest
+
+abbrev allowedOnce : List ℕ → ℕ
+allowedOnce events = let t = the (judged sample) in allowed t (chargingOnce (sheetOf t)) (eventsOf events)
+
+abbrev atEnsure : List ℕ → RunResult
+atEnsure rest = runOf Eager sample 0 1 space (beforeEnsure rest) (replicate 8 0) (replicate 5 0) (replicate 6 0) .result
+
+pub once :
+    (onceOf (record { high = 5; dead = 1; need = 3; save = 4; reload = 2; later = 1; chain = 4; cost = 11; fill = 0 }) ≡ 8)
+    × (allowedOnce withPreemption ≡ 9)
+    × (allowedOnce (beforeEnsure (0 ∷ 0 ∷ 0 ∷ 0 ∷ [])) ≡ 2)
+    × (atEnsure (0 ∷ 0 ∷ 0 ∷ 0 ∷ []) ≡ record { ending = AllDone; done = 8; moved = 2; allowed = 3 })
+    × (allowedOnce (beforeEnsure (0 ∷ 0 ∷ 2 ∷ 0 ∷ [])) ≡ 2)
+    × (atEnsure (0 ∷ 0 ∷ 2 ∷ 0 ∷ []) ≡ record { ending = Refused (refuse Kind 7); done = 7; moved = 2; allowed = 3 })
+unfolding opened lines sample withPreemption
+once = (refl, refl, refl, refl, refl, refl)
 
 -- document 02, request 2, on the example of document 01, whose eight points are all listed: in blocks, at a price, and what the service returns and leaves
 -- of an output with six bytes more than the list, and of one that is a byte too short

@@ -50,15 +50,15 @@ sampleReport =
     lines
     ("(report"
     ∷ "  (func 0 2 6 6 0 0)"
-    ∷ "  (at 0 2 2 2 0 0 0 0 0 0)"
-    ∷ "  (at 1 2 1 0 1 0 1 0 2 0)"
-    ∷ "  (at 2 1 1 0 0 0 1 0 1 1)"
-    ∷ "  (at 3 2 1 2 1 1 0 0 2 0)"
-    ∷ "  (at 4 2 2 0 0 0 0 0 0 0)"
+    ∷ "  (at 0 2 2 2 0 0 0 0 0 0 0)"
+    ∷ "  (at 1 2 1 0 1 0 1 0 2 0 2)"
+    ∷ "  (at 2 1 1 0 0 0 1 0 1 1 0)"
+    ∷ "  (at 3 2 1 2 1 1 0 0 2 0 2)"
+    ∷ "  (at 4 2 2 0 0 0 0 0 0 0 0)"
     ∷ "  (func 1 4 4 4 1 1)"
-    ∷ "  (at 0 5 4 1 1 0 0 1 2 0)"
-    ∷ "  (at 1 5 0 1 5 1 0 1 7 0)"
-    ∷ "  (at 2 5 4 0 1 0 0 1 2 0)"
+    ∷ "  (at 0 5 4 1 1 0 0 1 2 0 2)"
+    ∷ "  (at 1 5 0 1 5 1 0 1 7 0 7)"
+    ∷ "  (at 2 5 4 0 1 0 0 1 2 0 2)"
     ∷ "  (total 16)"
     ∷ ")"
     ∷ [])
@@ -94,9 +94,9 @@ pub starred :
     × (free 4 (five 1) .occupancy ≡ 0)
     × (reportOf sample 0 1 space (replicate 400 7)
     ≡ record {
-      result = record { verdict = Accepted; written = 281 };
+      result = record { verdict = Accepted; written = 297 };
       work = spaceAfter;
-      output = sampleReport ++ replicate 119 7;
+      output = sampleReport ++ replicate 103 7;
     })
     × (sampleRun Eager sevenSteps
     ≡ record {

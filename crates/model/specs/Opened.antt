@@ -20,7 +20,7 @@ unfolding Basic.firstOf Basic.any Basic.select Basic.joined Basic.sumOf Basic.la
     Core.free Core.ensure Core.load Core.store Core.save Core.resume Figures.reached Figures.uninitialised Figures.live Figures.dead
     Figures.need Figures.callees Figures.minimax Figures.shortestBy Figures.longestTo Figures.shortestTo Figures.longest Figures.shortest Figures.fill
     Figures.afterWith Figures.highFromWith Figures.callPoints Figures.overCalls Figures.entryTo Figures.entryWith Figures.highWith Figures.spillWith
-    Figures.chainTo Figures.chain Figures.firstEnsure Figures.keptNext Sheet.movePrice Sheet.costed Sheet.recordsIn Sheet.recordsOf Sheet.decimalTo
+    Figures.chainTo Figures.chain Figures.firstEnsure Figures.keptNext Sheet.movePrice Sheet.costed Sheet.onceOf Sheet.recordsIn Sheet.recordsOf Sheet.decimalTo
     Sheet.decimal Sheet.row
     Sheet.funcRow Sheet.pointRow Sheet.totalOf Sheet.totalRow Sheet.funcRows Sheet.reportWith Dearest.dearer Dearest.dearest Dearest.dearRow Dearest.dearestWith
     Refusal.linkRow Refusal.reachRow Refusal.loadRow Refusal.callRow Refusal.firstPoint Refusal.taskRows Refusal.judged Refusal.workRow

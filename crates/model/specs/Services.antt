@@ -1,5 +1,6 @@
 -- What each service returns and what every lent buffer holds afterwards, for every input; and demand 3 of run, on either core.
 use Prim.Native.Nat.{ℕ, _≤_}
+use mathlib.Core.Bool.{true}
 use mathlib.Core.List.{List, [], _∷_, _++_}
 use mathlib.Core.Option.{Option}
 use mathlib.Core.Path.{_≡_}
@@ -18,7 +19,7 @@ use Rattle.model.specs.Limits.{workLength}
 use Rattle.model.specs.Rows.{packed, verdictCode, verdictPlace, endingCode, endingPlace}
 use Rattle.model.specs.Basic.{if_then_else_}
 use Rattle.model.specs.Task.{Task, Judged, refused, task}
-use Rattle.model.specs.Sheet.{movePrice, inBlocks, pricedSheet, reportText}
+use Rattle.model.specs.Sheet.{movePrice, inBlocks, countsBlocks, pricedSheet, sheetOf, chargingOnce, reportText}
 use Rattle.model.specs.Dearest.{dearestText}
 use Rattle.model.specs.Refusal.{judged, workRow, pricedRows, judge, noRows, outputRows, runRows}
 use Rattle.model.specs.Core.{Core, Clean, idle, holding}
@@ -75,14 +76,14 @@ unfoldable pub writtenOf : Option Refusal → (Task → List ℕ) → List ℕ �
 writtenOf first print text work output =
     writtenAs print (judge first (outputRows print (length output)) text) (cleared work) output
 
--- report, a move having this start and this price of each block
+-- report, a move having this start and this price of each block. With start 0 and each 1 the lines of the points have once
 abbrev pub reportOf : List ℕ → ℕ → ℕ → List ℕ → List ℕ → AfterWrite
 reportOf text start each work output =
-    writtenOf (pricedRows (length work) start each) (reportText (movePrice start each)) text work output
+    writtenOf (pricedRows (length work) start each) (reportText (countsBlocks start each) (movePrice start each)) text work output
 
 -- the report of document 01: in blocks, and without row 23
 abbrev pub blocksReportOf : List ℕ → List ℕ → List ℕ → AfterWrite
-blocksReportOf text work output = writtenOf (workRow (length work)) (reportText inBlocks) text work output
+blocksReportOf text work output = writtenOf (workRow (length work)) (reportText true inBlocks) text work output
 
 -- the dearest points, at a price as for the report
 abbrev pub dearestOf : List ℕ → ℕ → ℕ → List ℕ → List ℕ → AfterWrite
@@ -236,3 +237,9 @@ LeavesClean x price first text events answers cache memory after =
     (after .cache)
     (after .memory)
     (coreAs x price (runJudged first text events answers cache memory) (eventsOf events) cache memory))
+
+-- document 02, request 7, of what a run in blocks has moved over the events of an accepted text: at most the spills and fills of the sheet and once of each
+-- point at which it was preempted. So of a list with exactly one preemption among the events done, the spills, the fills and once of its point
+abbrev pub PaysOnce : Judged → List Event → ℕ → Type 0
+PaysOnce (refused r) es moved = Unit {0}
+PaysOnce (task t) es moved = moved ≤ allowed t (chargingOnce (sheetOf t)) es

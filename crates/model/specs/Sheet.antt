@@ -1,5 +1,6 @@
 -- The preemption sheet: the figures as one record, the formulas of the cost and its parts, and the bytes of the report.
-use Prim.Native.Nat.{ℕ, zero, suc, _+_, _-_, _*_, _/_, _%_}
+use Prim.Native.Nat.{ℕ, zero, suc, _+_, _-_, _*_, _/_, _%_, min, max}
+use mathlib.Core.Bool.{Bool, true, false, _&&_}
 use mathlib.Core.List.{List, [], _∷_, _++_, map}
 use lib.Dec.{eqb, ltb}
 use Rattle.model.specs.Basic.{if_then_else_, joined, sumOf, upTo}
@@ -23,9 +24,12 @@ pub record PointSheet : Type 0 where
 unfoldable pub movePrice : ℕ → ℕ → ℕ → ℕ
 movePrice start each n = if eqb n 0 then 0 else start + each * n
 
--- in document 01 it is n itself
+-- in document 01 it is n itself: start 0 and each 1
 abbrev pub inBlocks : ℕ → ℕ
 inBlocks n = n
+
+abbrev pub countsBlocks : ℕ → ℕ → Bool
+countsBlocks start each = eqb start 0 && eqb each 1
 
 -- a sheet: what runs are measured against. Both sides count a move by its price. Any rule for the figures gives a sheet
 pub record Sheet : Type 0 where
@@ -48,6 +52,32 @@ costed price high dead need next chain fill =
       chain = chain;
       cost = price (high - dead) + price (need - dead) + price (next - need) + chain;
       fill = price fill;
+    }
+
+-- once (document 02, request 7): what a preemption costs at most that is the only one of its run, where moves are counted in blocks. Later and chain
+-- pay for blocks that are missing behind it, and no more than high − max(dead, need) are missing
+unfoldable pub onceOf : PointSheet → ℕ
+onceOf x = x .save + x .reload + min (x .later + x .chain) (x .high - max (x .dead) (x .need))
+
+-- the sheet with once in place of the cost of a preemption
+abbrev pub chargingOnce : Sheet → Sheet
+chargingOnce s =
+    record {
+      price = s .price;
+      spill = s .spill;
+      chain = s .chain;
+      at = λ f p.
+          record {
+            high = s .at f p .high;
+            dead = s .at f p .dead;
+            need = s .at f p .need;
+            save = s .at f p .save;
+            reload = s .at f p .reload;
+            later = s .at f p .later;
+            chain = s .at f p .chain;
+            cost = onceOf (s .at f p);
+            fill = s .at f p .fill;
+          };
     }
 
 -- the sheet of a task, for d of each function, and dead and need of each point
@@ -117,9 +147,13 @@ funcRow t s f =
     ∷ s .chain f
     ∷ [])
 
--- the line of a record: all of it but the function, whose line stands above
-unfoldable pub pointRow : Record → List ℕ
-pointRow x =
+-- the line of a record: all of it but the function, whose line stands above; with once as its last field, or without
+abbrev pub onceField : Bool → PointSheet → List ℕ
+onceField true x = onceOf x ∷ []
+onceField false x = []
+
+unfoldable pub pointRow : Bool → Record → List ℕ
+pointRow once x =
     row
     (bytes "  (at")
     (x .at
@@ -132,7 +166,7 @@ pointRow x =
     ∷ x .figures .chain
     ∷ x .figures .cost
     ∷ x .figures .fill
-    ∷ [])
+    ∷ onceField once (x .figures))
 
 -- the foot line (document 02, request 5): the sum of the costs of records
 unfoldable pub totalOf : List Record → ℕ
@@ -142,11 +176,13 @@ unfoldable pub totalRow : List Record → List ℕ
 totalRow l = row (bytes "  (total") (totalOf l ∷ [])
 
 -- a function's lines, and the report: the foot line sums the records whose lines are printed
-unfoldable pub funcRows : Task → Sheet → ℕ → List ℕ
-funcRows t s f = funcRow t s f ++ joined pointRow (recordsIn t s f)
+unfoldable pub funcRows : Bool → Task → Sheet → ℕ → List ℕ
+funcRows once t s f = funcRow t s f ++ joined (pointRow once) (recordsIn t s f)
 
-unfoldable pub reportWith : Task → Sheet → List ℕ
-reportWith t s = bytes "(report\n" ++ (joined (funcRows t s) (upTo (count t)) ++ (totalRow (recordsOf t s) ++ bytes ")\n"))
+unfoldable pub reportWith : Bool → Task → Sheet → List ℕ
+reportWith once t s =
+    bytes "(report\n" ++ (joined (funcRows once t s) (upTo (count t)) ++ (totalRow (recordsOf t s) ++ bytes ")\n"))
 
-abbrev pub reportText : (ℕ → ℕ) → Task → List ℕ
-reportText price t = reportWith t (pricedSheet price t)
+-- once: the lines of the points have that field
+abbrev pub reportText : Bool → (ℕ → ℕ) → Task → List ℕ
+reportText once price t = reportWith once t (pricedSheet price t)

@@ -1,13 +1,15 @@
 -- The lines of the report by the figures that are read back, part after part.
 use Prim.Native.Nat.{ℕ, _+_, _≤_, _<_, zero-le}
 use native.Mathlib.Omega.{arith}
+use mathlib.Core.Bool.{Bool, true, false}
+use lib.Dec.{eqb, eqb→eq}
 use mathlib.Core.Path.{_≡_, refl, ap, sym, _∙_}
 use mathlib.Core.List.{List, [], _∷_, _++_, append-assoc}
 use lib.ListN.{length, length-append}
 use Rattle.model.specs.Basic.{joined, sumOf, countFrom, upTo}
 use Rattle.model.specs.Text.{bytes}
 use Rattle.model.specs.Task.{Task, count}
-use Rattle.model.specs.Sheet.{PointSheet, row, recordAt, recordsIn, recordsOf, totalOf, totalRow, funcRow, pointRow, funcRows, reportWith, reportText}
+use Rattle.model.specs.Sheet.{PointSheet, countsBlocks, row, recordAt, recordsIn, recordsOf, totalOf, totalRow, funcRow, pointRow, funcRows, reportWith, reportText}
 use Rattle.model.specs.Services.{over}
 use Rattle.theory.proofs.Lists.{joined-map, joined-next, sum-joined, sum-next, sum-room}
 use Rattle.theory.proofs.Total.{total-in}
@@ -22,7 +24,7 @@ use Rattle.print.proofs.Laws.{pasted-start, wrote-on, wrote-nothing, next-room}
 use Rattle.figures.specs.declared.FuncFigures.{FuncFigures}
 use Rattle.figures.specs.Figured.{InFunc, sheetAt, funcFigures}
 use Rattle.report.specs.declared.Lines.{Lines}
-use Rattle.report.specs.Report.{Part, both, firstParts, pointNumbers, pointsPart, headPart, funcPart, funcsPart, footText, endsText}
+use Rattle.report.specs.Report.{Part, both, firstParts, showsOnce, pointNumbers, pointLine, pointsPart, headPart, funcPart, funcsPart, footText, endsText}
 use Rattle.report.specs.Report.{Room, Counts, Adds}
 
 -- ---- parts that are counted or written one after the other
@@ -92,10 +94,29 @@ module _ (part : ℕ → Part) where
 -- ---- the parts of the report
 
 -- the line of a point by its figures, and the line that opens a function
-pub point-row : {x y : PointSheet} (f : ℕ) {p : ℕ} {numbers : List ℕ} → x ≡ y → numbers ≡ pointNumbers p x
-    → row (bytes "  (at") numbers ≡ pointRow (record { fn = f; at = p; figures = y })
+pub point-row : {x y : PointSheet} (price : Price) (f p : ℕ) → x ≡ y → pointLine price p x ≡ pointRow (showsOnce price) (record { fn = f; at = p; figures = y })
 unfolding pointRow
-point-row f {p} e k = ap (row (bytes "  (at")) k ∙ ap (λ (z : PointSheet). pointRow (record { fn = f; at = p; figures = z })) e
+point-row price f p e = ap (λ (z : PointSheet). pointLine price p z) e
+
+-- by whether it has once
+pub shown-row : (price : Price) (p : ℕ) (x : PointSheet) (b : Bool) {numbers : List ℕ} → showsOnce price ≡ b → numbers ≡ pointNumbers b p x
+    → row (bytes "  (at") numbers ≡ pointLine price p x
+shown-row price p x b e k = ap (row (bytes "  (at")) k ∙ ap (λ (c : Bool). row (bytes "  (at") (pointNumbers c p x)) (sym e)
+
+pub shown-wrote : (price : Price) (p : ℕ) (x : PointSheet) (b : Bool) {numbers : List ℕ} {at r : ℕ} {out out′ : List ℕ} → showsOnce price ≡ b
+    → numbers ≡ pointNumbers b p x → Wrote at (row (bytes "  (at") numbers) out r out′ → Wrote at (pointLine price p x) out r out′
+shown-wrote price p x b e k w = rw (← shown-row price p x b e k) w
+
+-- start and each, by their tests
+pub start-counts : (start each : ℕ) → (start ≡ 0 → ⊥) → false ≡ countsBlocks start each
+start-counts start each h = go (eqb start 0) refl
+  where
+    go : (b : Bool) → eqb start 0 ≡ b → false ≡ countsBlocks start each
+    go true e = absurd (h (eqb→eq start 0 (rw e tt)))
+    go false e = rw e refl
+
+pub each-counts : (start each : ℕ) → start ≡ 0 → eqb each 1 ≡ countsBlocks start each
+each-counts start each e = rw e refl
 
 pub func-row : (price : Price) (t : Task) (f : ℕ) (r : FuncFigures) → r ≡ funcFigures price t f
     → row (bytes "  (func") (f ∷ r .frame ∷ r .shortest ∷ r .longest ∷ r .spill ∷ r .chain ∷ []) ≡ headPart price t f .text
@@ -110,7 +131,7 @@ module _ (price : Price) (w : List ℕ) (h : Header) (f : ℕ) (l : f < h .funcs
       let t = taskOf w h in
       ap
       (λ (r : List ℕ). headPart price t f .text ++ r)
-      (joined-map pointRow (recordAt (sheetAt price t) f) _ _ (λ p m. refl) ∙ ap (λ (n : ℕ). pointsPart price t f n .text) (size-is w h f l))
+      (joined-map (pointRow (showsOnce price)) (recordAt (sheetAt price t) f) _ _ (λ p m. refl) ∙ ap (λ (n : ℕ). pointsPart price t f n .text) (size-is w h f l))
 
   func-cost : funcPart price (taskOf w h) f .cost ≡ 0 + pointsPart price (taskOf w h) f (sizeAt w f) .cost
   func-cost =
@@ -135,7 +156,7 @@ module _ (price : Price) (w : List ℕ) (h : Header) where
       ap (λ (n : ℕ). funcsPart price t n .cost) (sym (count-is w h)) ∙ sym (sum-joined (λ x. x .figures .cost) (recordsIn t (sheetAt price t)) (upTo (count t)))
 
   -- the report: its first line, those of the functions, the foot line, and its last
-  report-lines : reportText (priceOf price) (taskOf w h)
+  report-lines : reportText (showsOnce price) (priceOf price) (taskOf w h)
       ≡ bytes "(report\n" ++ funcsPart price (taskOf w h) (h .funcs) .text ++ footText price (taskOf w h) ++ bytes ")\n"
   unfolding reportWith
   report-lines =
@@ -146,7 +167,7 @@ module _ (price : Price) (w : List ℕ) (h : Header) where
       ∙ sym (append-assoc (bytes "(report\n") funcs (foot ++ bytes ")\n"))
       ∙ sym (append-assoc (bytes "(report\n" ++ funcs) foot (bytes ")\n"))
 
-  pub report-size : length (reportText (priceOf price) (taskOf w h))
+  pub report-size : length (reportText (showsOnce price) (priceOf price) (taskOf w h))
       ≡ endsText + length (funcsPart price (taskOf w h) (h .funcs) .text) + length (footText price (taskOf w h))
   report-size =
       let l = funcsPart price (taskOf w h) (h .funcs) .text in
@@ -167,8 +188,8 @@ module _ (price : Price) (w : List ℕ) (h : Header) where
   -- the report, written line after line
   pub report-wrote : {e r y z : ℕ} {out o o′ o″ o‴ : List ℕ} → Wrote 0 (bytes "(report\n") out e o
       → Wrote e (funcsPart price (taskOf w h) (h .funcs) .text) o r o′ → Wrote r (footText price (taskOf w h)) o′ y o″ → Wrote y (bytes ")\n") o″ z o‴
-      → (z ≡ length (reportText (priceOf price) (taskOf w h))) × (o‴ ≡ over (reportText (priceOf price) (taskOf w h)) out)
+      → (z ≡ length (reportText (showsOnce price) (priceOf price) (taskOf w h))) × (o‴ ≡ over (reportText (showsOnce price) (priceOf price) (taskOf w h)) out)
   report-wrote {z = z} {out = out} {o‴ = o‴} a b c d =
-      let l = reportText (priceOf price) (taskOf w h) in
+      let l = reportText (showsOnce price) (priceOf price) (taskOf w h) in
       let x : Wrote 0 l out z o‴ = rw report-lines (wrote-on zero-le (wrote-on zero-le (wrote-on zero-le a b) c) d) in
       (omega (arith, x .end), x .buffer ∙ pasted-start l out)

@@ -1,12 +1,14 @@
 -- The report, piece by piece: its lines, the sum of the costs that they show, and how long it can be.
 use Prim.Native.Nat.{ℕ, _+_, _*_, _≤_}
+use mathlib.Core.Bool.{Bool}
 use mathlib.Core.Path.{_≡_}
-use mathlib.Core.List.{List, [], _∷_, _++_}
+use mathlib.Core.List.{List, _∷_, _++_}
 use lib.ListN.{length}
 use Rattle.model.specs.Limits.{mostFuncs, mostInAll}
 use Rattle.model.specs.Basic.{joined, sumOf, upTo}
 use Rattle.model.specs.Task.{Task}
-use Rattle.model.specs.Sheet.{PointSheet, recordAt, recordsIn, recordsOf, totalOf, funcRow, pointRow, totalRow, funcRows}
+use Rattle.model.specs.Text.{bytes}
+use Rattle.model.specs.Sheet.{PointSheet, countsBlocks, onceField, recordAt, recordsIn, recordsOf, totalOf, row, funcRow, pointRow, totalRow, funcRows}
 use Rattle.tables.specs.declared.Header.{Header}
 use Rattle.prices.specs.declared.Price.{Price}
 use Rattle.prices.specs.Prices.{mostPrice}
@@ -14,10 +16,25 @@ use Rattle.figures.specs.Figured.{sheetAt}
 use Rattle.print.specs.Print.{Wrote}
 use Rattle.report.specs.declared.Lines.{Lines}
 
--- the numbers of the line of point p with these figures
-abbrev pub pointNumbers : ℕ → PointSheet → List ℕ
-pointNumbers p x =
-    p ∷ x .high ∷ x .dead ∷ x .need ∷ x .save ∷ x .reload ∷ x .later ∷ x .chain ∷ x .cost ∷ x .fill ∷ []
+-- the lines of the points have once, where a price is a number of blocks
+abbrev pub showsOnce : Price → Bool
+showsOnce price = countsBlocks (price .start) (price .each)
+
+-- the numbers of the line of point p with these figures, with once or without
+abbrev pub pointNumbers : Bool → ℕ → PointSheet → List ℕ
+pointNumbers once p x =
+    p ∷ x .high ∷ x .dead ∷ x .need ∷ x .save ∷ x .reload ∷ x .later ∷ x .chain ∷ x .cost ∷ x .fill ∷ onceField once x
+
+-- the figures of a point are small enough to add
+pub record Sums (x : PointSheet) : Type 0 where
+  pub save : x .save ≤ mostPrice
+  pub reload : x .reload ≤ mostPrice
+  pub later : x .later ≤ mostPrice
+  pub chain : x .chain ≤ mostPrice * mostFuncs
+
+-- the line of point p with these figures, at this price
+abbrev pub pointLine : Price → ℕ → PointSheet → List ℕ
+pointLine price p x = row (bytes "  (at") (pointNumbers (showsOnce price) p x)
 
 -- ---- the parts of a report
 
@@ -35,7 +52,7 @@ firstParts part n = record { text = joined (λ i. part i .text) (upTo n); cost =
 
 -- the line of point p of function f, and those of its first n points
 abbrev pub pointPart : Price → Task → ℕ → ℕ → Part
-pointPart price t f p = record { text = pointRow (recordAt (sheetAt price t) f p); cost = sheetAt price t .at f p .cost }
+pointPart price t f p = record { text = pointRow (showsOnce price) (recordAt (sheetAt price t) f p); cost = sheetAt price t .at f p .cost }
 
 abbrev pub pointsPart : Price → Task → ℕ → ℕ → Part
 pointsPart price t f n = firstParts (pointPart price t f) n
@@ -45,7 +62,7 @@ abbrev pub headPart : Price → Task → ℕ → Part
 headPart price t f = record { text = funcRow t (sheetAt price t) f; cost = 0 }
 
 abbrev pub funcPart : Price → Task → ℕ → Part
-funcPart price t f = record { text = funcRows t (sheetAt price t) f; cost = totalOf (recordsIn t (sheetAt price t) f) }
+funcPart price t f = record { text = funcRows (showsOnce price) t (sheetAt price t) f; cost = totalOf (recordsIn t (sheetAt price t) f) }
 
 abbrev pub funcsPart : Price → Task → ℕ → Part
 funcsPart price t n = firstParts (funcPart price t) n
@@ -77,7 +94,8 @@ pub record Adds (lines : Lines) (part : Part) (out : List ℕ) (r : Lines) (out�
 
 -- ---- how long it can be
 
--- the most bytes of a point's line: 3 digits for its number, 2 for high, dead and need, 5 for each price, 7 for the chain and the cost
+-- the most bytes of a point's line: 3 digits for its number, 2 for high, dead and need, 5 for each price, 7 for the chain and the cost. A line with once is
+-- shorter: there a price counts blocks, and has 2 digits, and once has 3
 abbrev pub mostPointText : ℕ
 mostPointText = 60
 

@@ -5,12 +5,14 @@ ghost use Prim.Native.Nat.{_+_, _<_, _≤_};
 ghost use lib.ListN.{length};
 ghost use Rattle.model.specs.Limits.{mostFuncs, mostPoints, mostInAll};
 ghost use Rattle.model.specs.Text.{bytes};
-ghost use Rattle.model.specs.Sheet.{row, reportText};
+ghost use mathlib.Core.Bool.{true, false};
+ghost use Rattle.model.specs.Sheet.{row, onceOf, reportText};
 ghost use Rattle.model.specs.Services.{over};
 ghost use Rattle.tables.specs.Tables.{taskOf};
 ghost use Rattle.prices.specs.Prices.{priceOf};
 ghost use Rattle.figures.specs.Figured.{Figured, InFunc, figuredOf};
-ghost use Rattle.report.specs.Report.{pointNumbers, pointPart, pointsPart, headPart, funcPart, funcsPart};
+ghost use Rattle.print.specs.Print.{Wrote};
+ghost use Rattle.report.specs.Report.{showsOnce, pointNumbers, pointLine, Sums, pointPart, pointsPart, headPart, funcPart, funcsPart};
 ghost use Rattle.report.specs.Report.{mostTotal, mostLength, mostReport, Room, Counts, Adds};
 use figures::PointFigures;
 use prices::Price;
@@ -52,7 +54,7 @@ fn and_line(lines: Lines, end: usize, cost: u32) -> Lines
 // The numbers of the line of point p, which has these figures.
 fn point_numbers(p: usize, x: PointFigures) -> [u32; 10]
     requires { ⌜ p < mostPoints ⌝ }
-    ensures { λ r. ⌜ r ≡ pointNumbers p (figuredOf x) ⌝ }
+    ensures { λ r. ⌜ r ≡ pointNumbers false p (figuredOf x) ⌝ }
 {
     [
         p as u32,
@@ -66,6 +68,69 @@ fn point_numbers(p: usize, x: PointFigures) -> [u32; 10]
         x.cost,
         x.fill,
     ]
+}
+
+// Whether the lines of the points have once.
+fn shows_once(price: Price) -> bool
+    ensures { λ r. ⌜ r ≡ showsOnce price ⌝ }
+{
+    if price.start != 0 {
+        return false;
+    }
+    price.each == 1
+}
+
+// What a preemption costs at most that is the only one of its run, in blocks.
+fn once_of(x: PointFigures) -> u32
+    requires { ⌜ Sums (figuredOf x) ⌝ }
+    ensures { λ r. ⌜ r ≡ onceOf (figuredOf x) ⌝ }
+{
+    let delayed = x.later + x.chain;
+    let missing = columns::above(x.high, columns::larger(x.dead, x.need));
+    x.save + x.reload + columns::smaller(delayed, missing)
+}
+
+// The numbers of the line of point p with once.
+fn once_numbers(p: usize, x: PointFigures) -> [u32; 11]
+    requires { ⌜ (p < mostPoints) × Sums (figuredOf x) ⌝ }
+    ensures { λ r. ⌜ r ≡ pointNumbers true p (figuredOf x) ⌝ }
+{
+    let n = point_numbers(p, x);
+    [
+        n[0],
+        n[1],
+        n[2],
+        n[3],
+        n[4],
+        n[5],
+        n[6],
+        n[7],
+        n[8],
+        n[9],
+        once_of(x),
+    ]
+}
+
+// How many bytes the line of point p with these figures has.
+fn line_length(price: Price, p: usize, x: PointFigures) -> usize
+    requires { ⌜ (p < mostPoints) × Sums (figuredOf x) ⌝ }
+    ensures { λ r. ⌜ r ≡ length (pointLine price p (figuredOf x)) ⌝ }
+{
+    if shows_once(price) {
+        return print::row_length(b"  (at", &once_numbers(p, x));
+    }
+    print::row_length(b"  (at", &point_numbers(p, x))
+}
+
+// Writes it from byte at on, and returns where it ends.
+fn put_line(out: &mut [u8], at: usize, price: Price, p: usize, x: PointFigures) -> usize
+    requires { ⌜ (p < mostPoints) × Sums (figuredOf x) × (at + length (pointLine price p (figuredOf x)) ≤ length (now out)) ⌝ }
+    ensures { λ r. ⌜ Wrote at (pointLine price p (figuredOf x)) (now (out .entry)) r (now (out .exit)) ⌝ }
+{
+    if shows_once(price) {
+        return print::put_row(out, at, b"  (at", &once_numbers(p, x));
+    }
+    print::put_row(out, at, b"  (at", &point_numbers(p, x))
 }
 
 // Counts the line of point p of function f, which is s.
@@ -82,7 +147,7 @@ fn count_point(
     ensures { λ r. ⌜ Counts lines (pointPart price (taskOf (now (work .entry)) h) f p) r ⌝ }
 {
     let x = figures::point_figures(work, h, price, f, s, p);
-    let length = print::row_length(b"  (at", &point_numbers(p, x));
+    let length = line_length(price, p, x);
     and_line(lines, lines.end + length, x.cost)
 }
 
@@ -101,7 +166,7 @@ fn put_point(
     ensures { λ r. ⌜ Adds lines (pointPart price (taskOf (now (work .entry)) h) f p) (now (out .entry)) r (now (out .exit)) ⌝ }
 {
     let x = figures::point_figures(work, h, price, f, s, p);
-    let end = print::put_row(out, lines.end, b"  (at", &point_numbers(p, x));
+    let end = put_line(out, lines.end, price, p, x);
     and_line(lines, end, x.cost)
 }
 
@@ -219,7 +284,7 @@ pub fn most_length(h: Header) -> usize
 // How many bytes the report has.
 pub fn report_length(work: &[u32], h: Header, price: Price) -> usize
     requires { ⌜ Figured price (now work) h ⌝ }
-    ensures { λ r. ⌜ (r ≡ length (reportText (priceOf price) (taskOf (now (work .entry)) h))) × (r ≤ mostReport) ⌝ }
+    ensures { λ r. ⌜ (r ≡ length (reportText (showsOnce price) (priceOf price) (taskOf (now (work .entry)) h))) × (r ≤ mostReport) ⌝ }
 {
     let opened = Lines {
         end: b"(report\n".len(),
@@ -232,9 +297,9 @@ pub fn report_length(work: &[u32], h: Header, price: Price) -> usize
 
 // Writes the report over the first bytes of the output, and returns how many they are.
 pub fn put_report(output: &mut [u8], work: &[u32], h: Header, price: Price) -> usize
-    requires { ⌜ Figured price (now work) h × (length (reportText (priceOf price) (taskOf (now work) h)) ≤ length (now output)) ⌝ }
-    ensures { λ r. ⌜ (r ≡ length (reportText (priceOf price) (taskOf (now (work .entry)) h)))
-        × (now (output .exit) ≡ over (reportText (priceOf price) (taskOf (now (work .entry)) h)) (now (output .entry))) ⌝ }
+    requires { ⌜ Figured price (now work) h × (length (reportText (showsOnce price) (priceOf price) (taskOf (now work) h)) ≤ length (now output)) ⌝ }
+    ensures { λ r. ⌜ (r ≡ length (reportText (showsOnce price) (priceOf price) (taskOf (now (work .entry)) h)))
+        × (now (output .exit) ≡ over (reportText (showsOnce price) (priceOf price) (taskOf (now (work .entry)) h)) (now (output .entry))) ⌝ }
 {
     let first = print::put(output, 0, b"(report\n");
     let opened = Lines {

@@ -22,11 +22,12 @@ use Rattle.model.specs.Figures.{longest}
 use Rattle.model.specs.Sheet.{movePrice}
 use Rattle.model.specs.Refusal.{withRows, pricedRows, runRows}
 use Rattle.model.specs.Plain.{eventsOf}
-use Rattle.model.specs.Services.{cleared, AfterRun, runAs, runJudged, runWith, runOf, Demand3, LeavesClean}
+use Rattle.model.specs.Services.{cleared, AfterRun, runAs, runJudged, runWith, runOf, Demand3, LeavesClean, PaysOnce}
 use Rattle.theory.proofs.Lists.{and-holds}
 use Rattle.theory.proofs.Firsts.{row-none, unless-none}
 use Rattle.theory.proofs.Search.{verdict-none, verdict-some}
 use Rattle.theory.proofs.Faithful.{demand-3, leaves-clean}
+use Rattle.theory.proofs.Once.{services-once}
 use Rattle.tables.specs.declared.Header.{Header}
 use Rattle.tables.specs.Tables.{taskOf}
 use Rattle.tables.proofs.Laws.{count-is}
@@ -201,3 +202,11 @@ module _ {x : Eviction} {price : Price} {text w w′ w″ events answers cache m
       (λ (z : AfterRun).
       LeavesClean x (movePrice (price .start) (price .each)) (pricedRows (length w) (price .start) (price .each)) text events answers cache memory z)
       (sym run-left) (leaves-clean x text (price .start) (price .each) w events answers cache memory)
+
+  pub run-pays-once : price .start ≡ 0 → price .each ≡ 1
+      → PaysOnce (runJudged (pricedRows (length w) (price .start) (price .each)) text events answers cache memory) (eventsOf events) (r .moved)
+  run-pays-once h k =
+      subst
+      (λ (z : AfterRun).
+      PaysOnce (runJudged (pricedRows (length w) (price .start) (price .each)) text events answers cache memory) (eventsOf events) (z .result .moved))
+      (sym run-left) (services-once x text (price .start) (price .each) w events answers cache memory h k)

@@ -5,7 +5,8 @@ ghost use lib.ListN.{length};
 ghost use Rattle.model.specs.declared.Eviction.the-variants.{Eager, Lazy};
 ghost use Rattle.model.specs.Sheet.{movePrice};
 ghost use Rattle.model.specs.Refusal.{pricedRows};
-ghost use Rattle.model.specs.Services.{checkOf, reportOf, dearestOf, runOf, Demand3, LeavesClean};
+ghost use Rattle.model.specs.Plain.{eventsOf};
+ghost use Rattle.model.specs.Services.{checkOf, reportOf, dearestOf, runOf, runJudged, Demand3, LeavesClean, PaysOnce};
 ghost use Rattle.running.specs.Performs.{afterRun};
 ghost use Rattle.writing.specs.Printing.{wroteOf};
 use judge::Judgement;
@@ -54,7 +55,7 @@ fn write(
 }
 
 // Report: the sheet of a text over the first bytes of the output, and the working space cleared. A move of n blocks has the price start + each * n, and
-// none where n is 0; with 0 and 1 the sheet counts blocks.
+// none where n is 0; with 0 and 1 the sheet counts blocks, and the lines of the points have once as their last field.
 //
 //     report(b"(stack 65)\n", 0, 1, &mut output, &mut work) is a refusal in row StackSize at place 1, with 0 bytes written
 pub fn report(
@@ -109,6 +110,8 @@ fn run_on(
     ensures clean { λ r. ⌜ LeavesClean eviction (movePrice start each) (pricedRows (length (now (work .entry))) start each) (now (text .entry)) (now (events .entry))
         (now (answers .entry)) (now (cache .entry)) (now (memory .entry))
         (afterRun r (now (work .exit)) (now (answers .exit)) (now (cache .exit)) (now (memory .exit))) ⌝ }
+    ensures once { λ r. ⌜ (start ≡ 0 → each ≡ 1 → PaysOnce (runJudged (pricedRows (length (now (work .entry))) start each) (now (text .entry)) (now (events .entry))
+        (now (answers .entry)) (now (cache .entry)) (now (memory .entry))) (eventsOf (now (events .entry))) (r .moved)) ⌝ }
 {
     let price = Price { start, each };
     let first = serving::priced_row(work.len(), price);
@@ -128,7 +131,9 @@ fn run_on(
 }
 
 // Run: the events of a list on the task of a text, from a fresh start on the lent cache and memory, and the working space cleared. In demand_3: what
-// was returned and left is that of the plain stack, and what was moved costs no more than the sheet allows.
+// was returned and left is that of the plain stack, and what was moved costs no more than the sheet allows. In once, which says something with start 0 and
+// each 1 only: what was moved is at most the spills and fills of the sheet and once of each point at which the run was preempted, so of the one point where
+// there is exactly one preemption among the events done.
 //
 //     run(b"(stack 65)\n", 0, 1, &[], &mut answers, &mut cache, &mut memory, &mut work) is a refusal in row StackSize at place 1, with 0 events done
 pub fn run(
@@ -154,6 +159,8 @@ pub fn run(
     ensures demand_3 { λ r. ⌜ Demand3 (pricedRows (length (now (work .entry))) start each) (now (text .entry)) (now (events .entry))
         (now (answers .entry)) (now (cache .entry)) (now (memory .entry))
         (afterRun r (now (work .exit)) (now (answers .exit)) (now (cache .exit)) (now (memory .exit))) ⌝ }
+    ensures once { λ r. ⌜ (start ≡ 0 → each ≡ 1 → PaysOnce (runJudged (pricedRows (length (now (work .entry))) start each) (now (text .entry)) (now (events .entry))
+        (now (answers .entry)) (now (cache .entry)) (now (memory .entry))) (eventsOf (now (events .entry))) (r .moved)) ⌝ }
 {
     run_on(
         Eviction::Eager,
@@ -169,7 +176,8 @@ pub fn run(
 }
 
 // Run on the core with a lazy pointer, which writes back only the blocks below it: the events, the prices and the buffers are those of run. It returns and
-// leaves what run does, but for what was moved, which is no more. In clean: the blocks from the pointer up to the top of what is cached equal memory.
+// leaves what run does, but for what was moved, which is no more. In clean: the blocks from the pointer up to the top of what is cached equal memory. In once:
+// the same as for run.
 //
 //     run_lazy(b"(stack 65)\n", 0, 1, &[], &mut answers, &mut cache, &mut memory, &mut work) is a refusal in row StackSize at place 1, with 0 events done
 pub fn run_lazy(
@@ -198,6 +206,8 @@ pub fn run_lazy(
     ensures clean { λ r. ⌜ LeavesClean Lazy (movePrice start each) (pricedRows (length (now (work .entry))) start each) (now (text .entry)) (now (events .entry))
         (now (answers .entry)) (now (cache .entry)) (now (memory .entry))
         (afterRun r (now (work .exit)) (now (answers .exit)) (now (cache .exit)) (now (memory .exit))) ⌝ }
+    ensures once { λ r. ⌜ (start ≡ 0 → each ≡ 1 → PaysOnce (runJudged (pricedRows (length (now (work .entry))) start each) (now (text .entry)) (now (events .entry))
+        (now (answers .entry)) (now (cache .entry)) (now (memory .entry))) (eventsOf (now (events .entry))) (r .moved)) ⌝ }
 {
     run_on(
         Eviction::Lazy,

@@ -1,5 +1,6 @@
 -- What the program writes for a text.
 use Prim.Native.Nat.{ℕ}
+use mathlib.Core.Bool.{true}
 use mathlib.Core.Path.{_≡_}
 use mathlib.Core.List.{List, [], _∷_}
 use lib.ListN.{length}
@@ -15,9 +16,9 @@ use Rattle.model.specs.Services.{over, cleared}
 unfoldable pub refusalLine : Refusal → List ℕ
 refusalLine r = row (bytes "(refused") (codeOf (r .row) ∷ r .place ∷ [])
 
--- the report of document 01, which counts blocks
+-- the report of document 01, which counts blocks; so the lines of its points have once
 abbrev pub blocksReport : Task → List ℕ
-blocksReport t = reportText inBlocks t
+blocksReport t = reportText true inBlocks t
 
 unfoldable pub answered : Judged → List ℕ
 answered (refused r) = refusalLine r

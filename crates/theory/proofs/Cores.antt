@@ -170,8 +170,8 @@ lazy-less-with price c first text work events answers cache memory = go (runJudg
     })
     go (task t) e =
         let a = run-accepted first text events answers cache memory t e in
-        let w = a .0 in
-        let l = lazy-less t (pricedSheet price t) w (sound t w price c) (w .shaped .some) cache memory (eventsOf events) (a .1) (a .2) in
+        let w = a .formed in
+        let l = lazy-less t (pricedSheet price t) w (sound t w price c) (w .shaped .some) cache memory (eventsOf events) (a .blocks) (a .room) in
         rw e (record {
           ending = l .ending;
           done = l .done;

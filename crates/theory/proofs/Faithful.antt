@@ -51,14 +51,19 @@ run-room events answers cache memory t e =
     let l = unless-none (leb (longest t 0) memory) (refuse MemoryTooSmall (longest t 0)) .0 (k .1) in
     (eqb→eq cache (t .stack) (k .0), leb→le (longest t 0) memory l)
 
--- a task that is judged with these buffers is well-formed, and has its cache and its room
+-- what run gives by accepting a text with these buffers
+pub record RunAccepted (t : Task) (cache memory : List ℕ) : Type 0 where
+  pub formed : WellFormed t
+  pub blocks : length cache ≡ t .stack
+  pub room : longest t 0 ≤ length memory
+
 pub run-accepted : (first : Option Refusal) (text events answers cache memory : List ℕ) (t : Task)
-    → runJudged first text events answers cache memory ≡ task t → WellFormed t × (length cache ≡ t .stack) × (longest t 0 ≤ length memory)
+    → runJudged first text events answers cache memory ≡ task t → RunAccepted t cache memory
 unfolding runJudged
 run-accepted first text events answers cache memory t e =
     let a = accepted first (runRows (length events) (length answers) (length cache) (length memory)) text t e in
     let r = run-room (length events) (length answers) (length cache) (length memory) t (a .no-own) in
-    (a .task .formed, r .0, r .1)
+    record { formed = a .task .formed; blocks = r .0; room = r .1 }
 
 -- of the sheet of every text that run accepts with these buffers, on either core, for every price of moves and every first rows
 pub run-faithful : (x : Eviction) (price : ℕ → ℕ) → Price price → (first : Option Refusal) (text events answers cache memory : List ℕ) (t : Task)
@@ -66,9 +71,9 @@ pub run-faithful : (x : Eviction) (price : ℕ → ℕ) → Price price → (fir
     → (es : List Event) → Faithful t (pricedSheet price t) (idle x cache memory) es
 run-faithful x price c first text events answers cache memory t e es =
     let a = run-accepted first text events answers cache memory t e in
-    let w = a .0 in
+    let w = a .formed in
     let s = pricedSheet price t in
-    faithful t s w (sound t w price c) (w .shaped .some) (idle x cache memory) es (window-idle t s x cache memory (a .1) (a .2)) (clean-idle x cache memory)
+    faithful t s w (sound t w price c) (w .shaped .some) (idle x cache memory) es (window-idle t s x cache memory (a .blocks) (a .room)) (clean-idle x cache memory)
 
 pub demand-3-with : (x : Eviction) (price : ℕ → ℕ) → Price price → (first : Option Refusal) (text work events answers cache memory : List ℕ)
     → Demand3 first text events answers cache memory (runWith x price first text work events answers cache memory)

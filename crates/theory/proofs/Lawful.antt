@@ -13,7 +13,7 @@ use Rattle.model.specs.Task.{Task, size, count, func, point}
 use Rattle.model.specs.Walk.{Walk, leads, present, called, calls, isCall, returns}
 use Rattle.model.specs.Figures.{dead, need, displacementOf, displacementAt, callsAbove, minimax, longest, shortest, fill, afterWith, after, entry, high}
 use Rattle.model.specs.Figures.{spillWith, kept, keptNext, chain}
-use Rattle.model.specs.Sheet.{costed, sheetWith, pricedSheet}
+use Rattle.model.specs.Sheet.{costed, onceOf, sheetWith, pricedSheet}
 use Rattle.theory.proofs.Lists.{by-largest}
 use Rattle.theory.proofs.Walks.{walk-trans, walk-wider, walk-met}
 use Rattle.model.specs.WellFormed.{WellFormed}
@@ -169,7 +169,7 @@ module _ (t : Task) (w : WellFormed t) where
 
     -- a sheet by the formulas that stand, with dead and need from anywhere
     pub sound-with : ((f p : ℕ) → f < count t → p < size (func t f) → Marked t dead need f p) → Sound t (sheetWith price t (shortest t) dead need)
-    unfolding costed
+    unfolding costed onceOf
     sound-with m = record {
       ground = record { next = keptNext t; past = past t; shortest = shortest t };
       price = c;
@@ -187,6 +187,7 @@ module _ (t : Task) (w : WellFormed t) where
         past-return = past-return f p h k;
         call = λ g e. sound-call f p g h k e;
         cost = le-refl _;
+        once = omega arith;
       };
     }
 

@@ -80,10 +80,10 @@ none-left : (k s d off : ℕ) → k ≤ s - d → off ≤ d → k - (s - off) �
 none-left k s d off h j = omega arith
 
 -- a preemption at n blocks, b of them to be written back, with the figures d dead, m need, h high, q next
-save-covers : (n b d h : ℕ) → b ≤ n → n ≤ h → saveMoves d n b ≤ h - d
+pub save-covers : (n b d h : ℕ) → b ≤ n → n ≤ h → saveMoves d n b ≤ h - d
 save-covers n b d h a k = omega arith
 
-reload-covers : (n d m : ℕ) → resumeMoves d m n ≤ m - d
+pub reload-covers : (n d m : ℕ) → resumeMoves d m n ≤ m - d
 reload-covers n d m = omega arith
 
 later-covers : (q n d m : ℕ) → m ≤ n → q - (resumed d m n - 0) ≤ q - m
@@ -203,7 +203,7 @@ module _ (t : Task) (s : Sheet) (w : WellFormed t) (r : Sound t s) where
       let k = delayed-less n (0 + func t (x .fn) .frame) (n - func t (x .fn) .frame) 0 fs (omega arith) in omega (arith, k, r .price .none)
 
   -- behind a preemption the delayed fills of the running frame and of its callers are at most later and the chain
-  left-delayed : (x : Frame) (fs : List Frame) (n d : ℕ) → Below t (x .fn) fs → s .at (x .fn) (x .at) .need ≤ n
+  pub left-delayed : (x : Frame) (fs : List Frame) (n d : ℕ) → Below t (x .fn) fs → s .at (x .fn) (x .at) .need ≤ n
       → potential t s (r .ground) (x ∷ fs) (resumed d (s .at (x .fn) (x .at) .need) n)
       ≤ s .price (r .ground .next (x .fn) (x .at) - s .at (x .fn) (x .at) .need) + s .chain (x .fn)
   unfolding delayed

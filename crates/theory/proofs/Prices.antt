@@ -1,6 +1,7 @@
 -- The price of a move that has a start is a price of moves. With start 0 and each 1 it is the count of blocks, and the figures, the report and the
 -- run are those of document 01.
 use Prim.Native.Nat.{ℕ, suc, _+_, _-_, _*_, _≤_}
+use mathlib.Core.Bool.{true}
 use mathlib.Core.List.{List}
 use mathlib.Core.Option.{Option, none, some}
 use mathlib.Core.Path.{_≡_, refl, ap}
@@ -43,6 +44,10 @@ price-moves start each = record {
 
 -- ---- start 0 and each 1
 
+-- a count of blocks is a price of moves
+pub counted-price : Price inBlocks
+counted-price = record { none = refl; more = λ m n h. h; parts = λ m n. omega arith }
+
 pub moves-blocks : movePrice 0 1 ≡ inBlocks
 moves-blocks = λ i n. by-price 0 1 n (λ m. m ≡ n) (λ e. omega arith) (λ e. omega arith) i
 
@@ -61,7 +66,7 @@ rows-blocks work = go (workRow work)
 -- the report and the run are those of document 01, for every text and every buffer
 pub report-blocks : (text work output : List ℕ) → reportOf text 0 1 work output ≡ blocksReportOf text work output
 report-blocks text work output =
-    λ i. writtenOf (rows-blocks (length work) i) (reportText (moves-blocks i)) text work output
+    λ i. writtenOf (rows-blocks (length work) i) (reportText true (moves-blocks i)) text work output
 
 pub run-blocks : (text work events answers cache memory : List ℕ) → runOf Eager text 0 1 work events answers cache memory
     ≡ blocksRunOf text work events answers cache memory

@@ -9,7 +9,7 @@ use Rattle.model.specs.declared.Point.the-variants.{Call, Ensure, Return}
 use Rattle.model.specs.Task.{Task, size, count, func, point}
 use Rattle.model.specs.Walk.{leads, touches, isCall, isEnsure}
 use Rattle.model.specs.Figures.{live, longest}
-use Rattle.model.specs.Sheet.{Sheet}
+use Rattle.model.specs.Sheet.{Sheet, onceOf}
 
 -- a price of moves: none for no block, no less for more blocks, and one move is no dearer than two
 pub record Price (price : ℕ → ℕ) : Type 0 where
@@ -62,6 +62,11 @@ pub record SoundAt (t : Task) (s : Sheet) (b : Ground) (f p : ℕ) : Type 0 wher
   -- cost pays for what goes out, what comes back, and what the ensures to come fill above their fill
   pub cost : s .price (s .at f p .high - s .at f p .dead) + s .price (s .at f p .need - s .at f p .dead) + s .price (b .next f p - s .at f p .need) + s .chain f
       ≤ s .at f p .cost
+  -- once pays for what goes out and what comes back, and for what the ensures to come fill above their fill or, where these are fewer, the blocks that
+  -- are missing behind the preemption
+  pub once : s .price (s .at f p .high - s .at f p .dead) + s .price (s .at f p .need - s .at f p .dead)
+      + min (s .price (b .next f p - s .at f p .need) + s .chain f) (s .at f p .high - max (s .at f p .dead) (s .at f p .need))
+      ≤ onceOf (s .at f p)
 
 pub record Sound (t : Task) (s : Sheet) : Type 0 where
   pub ground : Ground

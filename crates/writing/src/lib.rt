@@ -5,7 +5,7 @@ ghost use Rattle.model.specs.Limits.{workLength};
 ghost use Rattle.model.specs.Task.{task};
 ghost use Rattle.tables.specs.Tables.{taskOf};
 ghost use Rattle.tables.specs.Valid.{Settled};
-ghost use Rattle.prices.specs.Prices.{priceOf, Small};
+ghost use Rattle.prices.specs.Prices.{Small};
 ghost use Rattle.judge.specs.Judgement.{judgedIn};
 ghost use Rattle.serving.specs.Served.{ReadyAt, Writes};
 ghost use Rattle.writing.specs.Printing.{printOf};
@@ -32,7 +32,7 @@ fn write_task(
     h: Header,
 ) -> WriteResult
     requires { ⌜ Settled (now work) h × (workLength ≤ length (now work)) × Small price ⌝ }
-    ensures { λ r. ⌜ Writes (printOf which (priceOf price)) (task (taskOf (now (work .entry)) h)) (now (work .entry)) (now (output .entry)) r
+    ensures { λ r. ⌜ Writes (printOf which price) (task (taskOf (now (work .entry)) h)) (now (work .entry)) (now (output .entry)) r
         (now (work .exit)) (now (output .exit)) ⌝ }
 {
     figures::figure_task(work, h, price);
@@ -51,7 +51,7 @@ pub fn write_judged(
     work: &mut [u32],
 ) -> WriteResult
     requires { ⌜ ReadyAt price (now work) judgement ⌝ }
-    ensures { λ r. ⌜ Writes (printOf which (priceOf price)) (judgedIn (now (work .entry)) judgement) (now (work .entry)) (now (output .entry)) r
+    ensures { λ r. ⌜ Writes (printOf which price) (judgedIn (now (work .entry)) judgement) (now (work .entry)) (now (output .entry)) r
         (now (work .exit)) (now (output .exit)) ⌝ }
 {
     match judgement {

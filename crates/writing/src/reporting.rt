@@ -10,6 +10,7 @@ ghost use Rattle.model.specs.Services.{cleared};
 ghost use Rattle.tables.specs.Tables.{taskOf};
 ghost use Rattle.prices.specs.Prices.{priceOf};
 ghost use Rattle.figures.specs.Figured.{Figured};
+ghost use Rattle.report.specs.Report.{showsOnce};
 ghost use Rattle.serving.specs.Served.{Writes};
 use model::Verdict;
 use model::WriteResult;
@@ -19,7 +20,7 @@ use tables::Header;
 // 14, for an output of this length. The length of the report is worked out only where the output may be too short, since that takes every figure once more.
 fn report_row(room: usize, work: &[u32], h: Header, price: Price) -> Verdict
     requires { ⌜ Figured price (now work) h ⌝ }
-    ensures { λ v. ⌜ v ≡ rowVerdict (outputRows (reportText (priceOf price)) room (taskOf (now (work .entry)) h)) ⌝ }
+    ensures { λ v. ⌜ v ≡ rowVerdict (outputRows (reportText (showsOnce price) (priceOf price)) room (taskOf (now (work .entry)) h)) ⌝ }
 {
     if report::most_length(h) <= room {
         return Verdict::Accepted;
@@ -31,7 +32,7 @@ fn report_row(room: usize, work: &[u32], h: Header, price: Price) -> Verdict
 pub fn write_report(output: &mut [u8], work: &[u32], h: Header, price: Price) -> WriteResult
     requires { ⌜ Figured price (now work) h ⌝ }
     ensures { λ r. ⌜ ((t : Task) (w w′ : List ℕ) → taskOf (now (work .entry)) h ≡ t → cleared w′ ≡ cleared w →
-        Writes (reportText (priceOf price)) (task t) w (now (output .entry)) r w′ (now (output .exit))) ⌝ }
+        Writes (reportText (showsOnce price) (priceOf price)) (task t) w (now (output .entry)) r w′ (now (output .exit))) ⌝ }
 {
     if let Verdict::Refused(r) = report_row(output.len(), work, h, price) {
         return serving::nothing_written(r);

@@ -1,4 +1,4 @@
--- The line is the row of the numbers, and the cost is one of the figures.
+-- The line is that of the figures, and the cost is one of them.
 use native.Mathlib.Omega.{arith}
 use mathlib.Core.Path.{ap, _∙_}
 use lib.ListN.{length}
@@ -6,38 +6,38 @@ use Rattle.model.specs.Sheet.{PointSheet}
 use Rattle.tables.specs.Tables.{taskOf}
 use Rattle.figures.proofs.Read.{size-low}
 use Rattle.report.specs.Report.{pointPart}
+use Rattle.report.proofs.Limits.{sums-read}
 use Rattle.report.proofs.Laws.{point-row, line-counted}
 use borrow.Author.Needs.{needs}
 use Rattle.report.proofs.count_point.Statement.{statement}
 use Rattle.report.proofs.count_point.Tie as tie
 
-returns : tie.Need-returns
-returns c =
-    let a = c .before .before .before .before .before .before .before .before .args in
-    let figures = c .before .before .before .before .before .before .point-figures .ensures in
-    line-counted
-    (pointPart (a .price) (taskOf (a .work .now) (a .h)) (a .f) (a .p))
-    (ap (λ (x : PointSheet). x .cost) figures)
-    (c .before .before .row-length .ensures .0 ∙ ap length (point-row (a .f) figures (c .before .before .before .before .point-numbers .ensures)))
-    (c .and-line .ensures)
+line-length-requires : tie.Need-line-length-requires
+line-length-requires c κs =
+    let s = c .before .before in (omega (arith, size-low (s .pre .0)), sums-read (s .pre .0) (s .args .p) (c .point-figures .ensures))
 
-point-numbers-requires : tie.Need-point-numbers-requires
-point-numbers-requires c κs = omega (arith, size-low (c .before .before .before .pre .0))
+add-and-line : tie.Need-add-and-line
+add-and-line c =
+    let s = c .before .before .before .before in
+    let figures = c .before .before .point-figures .ensures in
+    omega (arith, c .before .line-length .ensures, ap length (point-row (s .args .price) (s .args .f) (s .args .p) figures), s .pre .2 .bytes)
 
 and-line-requires : tie.Need-and-line-requires
 and-line-requires c κs =
-    let start = c .before .before .before .before .before .before .before in
-    omega (arith, ap (λ (x : PointSheet). x .cost) (c .before .before .before .before .before .point-figures .ensures), start .pre .2 .sum)
+    let s = c .before .before .before .before in
+    omega (arith, ap (λ (x : PointSheet). x .cost) (c .before .before .point-figures .ensures), s .pre .2 .sum)
+
+returns : tie.Need-returns
+returns c =
+    let a = c .before .before .before .before .before .args in
+    let figures = c .before .before .before .point-figures .ensures in
+    line-counted
+    (pointPart (a .price) (taskOf (a .work .now) (a .h)) (a .f) (a .p))
+    (ap (λ (x : PointSheet). x .cost) figures)
+    (c .before .before .line-length .ensures ∙ ap length (point-row (a .price) (a .f) (a .p) figures))
+    (c .and-line .ensures)
 
 pub count-point-spec : {M : Type 1} → statement M
 count-point-spec =
     tie.close
-    (tie.spec
-    (λ c κs. search needs)
-    (λ c. search needs)
-    point-numbers-requires
-    (λ c. search needs)
-    (λ c κs. search needs)
-    (λ c. search needs)
-    and-line-requires
-    returns)
+    (tie.spec (λ c κs. search needs) line-length-requires add-and-line and-line-requires returns)

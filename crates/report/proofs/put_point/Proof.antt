@@ -1,4 +1,4 @@
--- The line is the row of the numbers, and the cost is one of the figures.
+-- The line is that of the figures, and the cost is one of them.
 use native.Mathlib.Omega.{arith}
 use mathlib.Core.Path.{ap}
 use lib.ListN.{length}
@@ -6,46 +6,38 @@ use Rattle.model.specs.Sheet.{PointSheet}
 use Rattle.tables.specs.Tables.{taskOf}
 use Rattle.figures.proofs.Read.{size-low}
 use Rattle.report.specs.Report.{pointPart}
+use Rattle.report.proofs.Limits.{sums-read}
 use Rattle.report.proofs.Laws.{point-row, line-added}
 use borrow.Author.Needs.{needs}
 use Rattle.report.proofs.put_point.Statement.{statement}
 use Rattle.report.proofs.put_point.Tie as tie
 
-returns : tie.Need-returns
-returns c =
-    let a = c .before .before .before .before .before .before .before .before .before .before .before .args in
-    let figures = c .before .before .before .before .before .before .before .before .point-figures .ensures in
-    line-added
-    (pointPart (a .price) (taskOf (a .work .now) (a .h)) (a .f) (a .p))
-    (ap (λ (x : PointSheet). x .cost) figures)
-    (point-row (a .f) figures (c .before .before .before .before .before .point-numbers .ensures))
-    (c .before .before .before .put-row .ensures)
-    (c .and-line .ensures)
-
-point-numbers-requires : tie.Need-point-numbers-requires
-point-numbers-requires c κs = omega (arith, size-low (c .before .before .before .before .before .pre .0))
-
-put-row-requires : tie.Need-put-row-requires
-put-row-requires c κs =
-    let figures = c .before .before .before .before .point-figures .ensures in
-    let start = c .before .before .before .before .before .before .before in
-    omega (arith, ap length (point-row (start .args .f) figures (c .before .point-numbers .ensures)), start .pre .2 .bytes)
+put-line-requires : tie.Need-put-line-requires
+put-line-requires c κs =
+    let s = c .before .before .before .before in
+    let figures = c .before .point-figures .ensures in (
+      omega (arith, size-low (s .pre .0)),
+      sums-read (s .pre .0) (s .args .p) figures,
+      omega (arith, ap length (point-row (s .args .price) (s .args .f) (s .args .p) figures), s .pre .2 .bytes),
+    )
 
 and-line-requires : tie.Need-and-line-requires
 and-line-requires c κs =
-    let figures = c .before .before .before .before .before .before .before .point-figures .ensures in
-    let start = c .before .before .before .before .before .before .before .before .before .before in
-    omega (arith, ap (λ (x : PointSheet). x .cost) figures, start .pre .2 .sum)
+    let s = c .before .before .before .before .before .before .before in
+    omega (arith, ap (λ (x : PointSheet). x .cost) (c .before .before .before .before .point-figures .ensures), s .pre .2 .sum)
+
+returns : tie.Need-returns
+returns c =
+    let a = c .before .before .before .before .before .before .before .before .args in
+    let figures = c .before .before .before .before .before .point-figures .ensures in
+    line-added
+    (pointPart (a .price) (taskOf (a .work .now) (a .h)) (a .f) (a .p))
+    (ap (λ (x : PointSheet). x .cost) figures)
+    (point-row (a .price) (a .f) (a .p) figures)
+    (c .before .before .before .put-line .ensures)
+    (c .and-line .ensures)
 
 pub put-point-spec : {M : Type 1} → statement M
 put-point-spec =
     tie.close
-    (tie.spec
-    (λ c κs. search needs)
-    (λ c. search needs)
-    point-numbers-requires
-    (λ c. search needs)
-    put-row-requires
-    and-line-requires
-    (λ c. search needs)
-    returns)
+    (tie.spec (λ c κs. search needs) put-line-requires and-line-requires (λ c. search needs) returns)

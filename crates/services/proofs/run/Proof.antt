@@ -1,4 +1,4 @@
--- The parts of what an eager run leaves, and demand 3.
+-- The parts of what an eager run leaves, demand 3, and what once pays.
 use borrow.Author.Needs.{needs}
 use Rattle.model.specs.declared.Eviction.the-variants.{Eager}
 use Rattle.model.specs.Services.{runOf}
@@ -14,7 +14,7 @@ returns c =
     run-parts
     (runOf Eager (a .text .now) (a .start) (a .each) (a .work .now) (a .events .now) (a .answers .now) (a .cache .now) (a .memory .now))
     (r .0)
-    (r .1 .0)
+    (r .1 .0, r .1 .1 .1)
 
 pub run-spec : {M : Type 1} → statement M
 run-spec =

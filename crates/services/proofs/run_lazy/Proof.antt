@@ -1,4 +1,4 @@
--- The parts of what a lazy run leaves, demand 3, and that its core is clean.
+-- The parts of what a lazy run leaves, demand 3, that its core is clean, and what once pays.
 use borrow.Author.Needs.{needs}
 use Rattle.model.specs.declared.Eviction.the-variants.{Lazy}
 use Rattle.model.specs.Services.{runOf}

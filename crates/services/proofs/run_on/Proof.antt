@@ -1,8 +1,8 @@
--- What is judged is refused or run; then the space is cleared. Demand 3, and that the core is clean, follow from what is left.
+-- What is judged is refused or run; then the space is cleared. Demand 3, that the core is clean, and what once pays follow from what is left.
 use borrow.Author.Needs.{needs}
 use Rattle.serving.proofs.Before.{priced-room}
 use Rattle.serving.proofs.Laws.{first-passes, ready-at}
-use Rattle.running.proofs.Events.{run-left, run-demand, run-clean}
+use Rattle.running.proofs.Events.{run-left, run-demand, run-clean, run-pays-once}
 use Rattle.services.proofs.run_on.Statement.{statement}
 use Rattle.services.proofs.run_on.Tie as tie
 
@@ -21,7 +21,7 @@ returns c =
     let j = c10 .before .before .before .before .before .before .before .before .before .judge-lent .ensures _ (c20 .before .priced-row .ensures) in
     let r = c10 .before .before .run-judged .ensures in
     let k = c .before .before .clear .ensures in
-    (run-left j r k, (run-demand j r k, run-clean j r k))
+    (run-left j r k, (run-demand j r k, (run-clean j r k, run-pays-once j r k)))
 
 pub run-on-spec : {M : Type 1} → statement M
 run-on-spec =

@@ -5,6 +5,7 @@ use lib.ListN.{length}
 use Rattle.model.specs.Sheet.{reportText}
 use Rattle.tables.specs.Tables.{taskOf}
 use Rattle.prices.specs.Prices.{priceOf}
+use Rattle.report.specs.Report.{showsOnce}
 use Rattle.report.proofs.Limits.{report-most}
 use Rattle.serving.proofs.Laws.{room-enough, row-of}
 use borrow.Author.Needs.{needs}
@@ -18,7 +19,7 @@ returns : tie.Need-returns
 returns c =
     let start = c .before .before .before in
     let a = start .args in
-    let print = reportText (priceOf (a .price)) in
+    let print = reportText (showsOnce (a .price)) (priceOf (a .price)) in
     let t = taskOf (a .work .now) (a .h) in
     row-of (a .room) (length (print t)) print t refl (room-enough (a .room) (length (print t)) (omega (arith, report-most (start .pre))) refl)
 
