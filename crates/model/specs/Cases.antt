@@ -20,7 +20,8 @@ use Rattle.model.specs.Dearest.{dearestText}
 use Rattle.model.specs.Rows.{refuse}
 use Rattle.model.specs.Refusal.{judged, workRow, pricedRows, judge, noRows}
 use Rattle.model.specs.Plain.{eventsOf}
-use Rattle.model.specs.Run.{allowed}
+use Rattle.model.specs.Run.{Place, allowed}
+use Rattle.model.specs.Preemptions.{preemptions, spillsAndFills}
 use Rattle.model.specs.Services.{reportOf, dearestOf, runOf}
 use Rattle.model.specs.Opened.{opened}
 use Rattle.model.specs.Examples.{lines, sample, sevenSteps, withPreemption}
@@ -231,27 +232,44 @@ pub totals :
 unfolding opened lines sample
 totals = (refl, refl, refl)
 
--- document 02, request 7. Once of figures in which the blocks that are missing are fewer than later and the chain, and need is above dead. Then on the
--- example of document 01 what its run with a preemption is allowed with once, and a run with its preemption at the ensure: it moves what once allows, and
--- less than cost does; so does the same list where an event behind the preemption is refused
+-- document 02, request 7. Once of figures in which the blocks that are missing are fewer than later and the chain, and need is above dead; and the
+-- length of the report of document 01's example at two other prices, where its lines do not have the field.
+-- Then runs of the example, with what once allows, where they are preempted, and the spills and fills: the run of document 01 with its preemption; one that
+-- is preempted at the ensure, which moves what once allows and less than cost does; the same where an event behind the preemption is refused; and the
+-- same with a second preemption, which is refused since the task has finished, so that one is done
 abbrev beforeEnsure : List ℕ → List ℕ
 beforeEnsure rest = 0 ∷ 11 ∷ 0 ∷ 0 ∷ 0 ∷ 22 ∷ 0 ∷ 0 ∷ 0 ∷ 0 ∷ 1 ∷ 99 ∷ rest
 
-abbrev allowedOnce : List ℕ → ℕ
-allowedOnce events = let t = the (judged sample) in allowed t (chargingOnce (sheetOf t)) (eventsOf events)
+pub record Charged : Type 0 where
+  pub once : ℕ
+  pub at : List Place
+  pub besides : ℕ
+
+abbrev chargedFor : List ℕ → Charged
+chargedFor events =
+    let t = the (judged sample) in
+    let es = eventsOf events in
+    record { once = allowed t (chargingOnce (sheetOf t)) es; at = preemptions t es; besides = spillsAndFills t (sheetOf t) es }
+
+abbrev place : ℕ → ℕ → Place
+place f p = record { fn = f; at = p }
 
 abbrev atEnsure : List ℕ → RunResult
-atEnsure rest = runOf Eager sample 0 1 space (beforeEnsure rest) (replicate 8 0) (replicate 5 0) (replicate 6 0) .result
+atEnsure rest = runOf Eager sample 0 1 space (beforeEnsure rest) (replicate 10 0) (replicate 5 0) (replicate 6 0) .result
 
 pub once :
     (onceOf (record { high = 5; dead = 1; need = 3; save = 4; reload = 2; later = 1; chain = 4; cost = 11; fill = 0 }) ≡ 8)
-    × (allowedOnce withPreemption ≡ 9)
-    × (allowedOnce (beforeEnsure (0 ∷ 0 ∷ 0 ∷ 0 ∷ [])) ≡ 2)
+    × (reportOf sample 0 2 space (replicate 400 7) .result .written ≡ 283)
+    × (reportOf sample 1 1 space (replicate 400 7) .result .written ≡ 282)
+    × (chargedFor withPreemption ≡ record { once = 9; at = place 1 1 ∷ []; besides = 2 })
+    × (chargedFor (beforeEnsure (0 ∷ 0 ∷ 0 ∷ 0 ∷ [])) ≡ record { once = 2; at = place 0 2 ∷ []; besides = 2 })
     × (atEnsure (0 ∷ 0 ∷ 0 ∷ 0 ∷ []) ≡ record { ending = AllDone; done = 8; moved = 2; allowed = 3 })
-    × (allowedOnce (beforeEnsure (0 ∷ 0 ∷ 2 ∷ 0 ∷ [])) ≡ 2)
+    × (chargedFor (beforeEnsure (0 ∷ 0 ∷ 2 ∷ 0 ∷ [])) ≡ record { once = 2; at = place 0 2 ∷ []; besides = 2 })
     × (atEnsure (0 ∷ 0 ∷ 2 ∷ 0 ∷ []) ≡ record { ending = Refused (refuse Kind 7); done = 7; moved = 2; allowed = 3 })
+    × (chargedFor (beforeEnsure (0 ∷ 0 ∷ 0 ∷ 0 ∷ 0 ∷ 0 ∷ 1 ∷ 7 ∷ [])) ≡ record { once = 2; at = place 0 2 ∷ []; besides = 2 })
+    × (atEnsure (0 ∷ 0 ∷ 0 ∷ 0 ∷ 0 ∷ 0 ∷ 1 ∷ 7 ∷ []) ≡ record { ending = Refused (refuse AfterFinish 9); done = 9; moved = 2; allowed = 3 })
 unfolding opened lines sample withPreemption
-once = (refl, refl, refl, refl, refl, refl)
+once = (refl, refl, refl, refl, refl, refl, refl, refl, refl, refl)
 
 -- document 02, request 2, on the example of document 01, whose eight points are all listed: in blocks, at a price, and what the service returns and leaves
 -- of an output with six bytes more than the list, and of one that is a byte too short

@@ -13,6 +13,7 @@ pub mod Refusal
 pub mod WellFormed
 pub mod Plain
 pub mod Run
+pub mod Preemptions
 pub mod Services
 pub mod Opened
 pub mod Examples

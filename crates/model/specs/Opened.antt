@@ -10,6 +10,7 @@ use Rattle.model.specs.Dearest as Dearest
 use Rattle.model.specs.Refusal as Refusal
 use Rattle.model.specs.Plain as Plain
 use Rattle.model.specs.Run as Run
+use Rattle.model.specs.Preemptions as Preemptions
 use Rattle.model.specs.Services as Services
 
 unfoldable pub opened : Unit {0}
@@ -26,6 +27,7 @@ unfolding Basic.firstOf Basic.any Basic.select Basic.joined Basic.sumOf Basic.la
     Refusal.linkRow Refusal.reachRow Refusal.loadRow Refusal.callRow Refusal.firstPoint Refusal.taskRows Refusal.judged Refusal.workRow
     Refusal.priceRow Refusal.judge Refusal.outputRows Refusal.runRows Refusal.eventRows
     Plain.act Plain.eventsOf Plain.afterEvent Plain.answerOf Plain.plainFrom Run.turn Run.ranFrom Run.eventBound Run.allowedFrom
+    Preemptions.preemptedAt Preemptions.preemptionsFrom
     Services.cleared Services.over Services.verdictOf Services.checkOf Services.checkNumber Services.writtenOf
     Services.writeNumbers Services.runJudged Services.runWith Services.runNumbers
 opened = tt

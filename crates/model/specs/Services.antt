@@ -238,8 +238,9 @@ LeavesClean x price first text events answers cache memory after =
     (after .memory)
     (coreAs x price (runJudged first text events answers cache memory) (eventsOf events) cache memory))
 
--- document 02, request 7, of what a run in blocks has moved over the events of an accepted text: at most the spills and fills of the sheet and once of each
--- point at which it was preempted. So of a list with exactly one preemption among the events done, the spills, the fills and once of its point
+-- document 02, request 7, of what a run has moved in blocks over the events of an accepted text: at most the spills and fills on the sheet and once of
+-- each point at which it was preempted. So where there is exactly one preemption among the events done (Preemptions): the spills, the fills and once of
+-- its point
 abbrev pub PaysOnce : Judged → List Event → ℕ → Type 0
 PaysOnce (refused r) es moved = Unit {0}
 PaysOnce (task t) es moved = moved ≤ allowed t (chargingOnce (sheetOf t)) es

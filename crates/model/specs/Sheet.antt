@@ -24,10 +24,11 @@ pub record PointSheet : Type 0 where
 unfoldable pub movePrice : ℕ → ℕ → ℕ → ℕ
 movePrice start each n = if eqb n 0 then 0 else start + each * n
 
--- in document 01 it is n itself: start 0 and each 1
+-- in document 01 it is n itself
 abbrev pub inBlocks : ℕ → ℕ
 inBlocks n = n
 
+-- whether a price of this start and each is the number of blocks
 abbrev pub countsBlocks : ℕ → ℕ → Bool
 countsBlocks start each = eqb start 0 && eqb each 1
 
@@ -54,14 +55,14 @@ costed price high dead need next chain fill =
       fill = price fill;
     }
 
--- once (document 02, request 7): what a preemption costs at most that is the only one of its run, where moves are counted in blocks. Later and chain
--- pay for blocks that are missing behind it, and no more than high − max(dead, need) are missing
+-- once (document 02, request 7): the bound on the blocks that a single preemption costs. After it the ensures fill at most later + chain blocks more than
+-- without it, and no more than the blocks that it leaves missing in the cache, high − max(dead, need) at most
 unfoldable pub onceOf : PointSheet → ℕ
 onceOf x = x .save + x .reload + min (x .later + x .chain) (x .high - max (x .dead) (x .need))
 
--- the sheet with once in place of the cost of a preemption
-abbrev pub chargingOnce : Sheet → Sheet
-chargingOnce s =
+-- the sheet on which a preemption at each point costs this, and all else is the same
+abbrev pub charging : (ℕ → ℕ → ℕ) → Sheet → Sheet
+charging cost s =
     record {
       price = s .price;
       spill = s .spill;
@@ -75,10 +76,14 @@ chargingOnce s =
             reload = s .at f p .reload;
             later = s .at f p .later;
             chain = s .at f p .chain;
-            cost = onceOf (s .at f p);
+            cost = cost f p;
             fill = s .at f p .fill;
           };
     }
+
+-- with once in place of the cost
+abbrev pub chargingOnce : Sheet → Sheet
+chargingOnce s = charging (λ f p. onceOf (s .at f p)) s
 
 -- the sheet of a task, for d of each function, and dead and need of each point
 abbrev pub sheetWith : (ℕ → ℕ) → Task → (ℕ → ℕ) → (ℕ → ℕ → ℕ) → (ℕ → ℕ → ℕ) → Sheet
@@ -147,11 +152,12 @@ funcRow t s f =
     ∷ s .chain f
     ∷ [])
 
--- the line of a record: all of it but the function, whose line stands above; with once as its last field, or without
+-- the last field of a line that has once
 abbrev pub onceField : Bool → PointSheet → List ℕ
 onceField true x = onceOf x ∷ []
 onceField false x = []
 
+-- the line of a record: all of it but the function, whose line stands above. once: it has that field
 unfoldable pub pointRow : Bool → Record → List ℕ
 pointRow once x =
     row
@@ -175,7 +181,7 @@ totalOf l = sumOf (λ x. x .figures .cost) l
 unfoldable pub totalRow : List Record → List ℕ
 totalRow l = row (bytes "  (total") (totalOf l ∷ [])
 
--- a function's lines, and the report: the foot line sums the records whose lines are printed
+-- a function's lines, and the report: the foot line sums the records whose lines are printed. once: the lines of the points have that field
 unfoldable pub funcRows : Bool → Task → Sheet → ℕ → List ℕ
 funcRows once t s f = funcRow t s f ++ joined (pointRow once) (recordsIn t s f)
 
@@ -183,6 +189,5 @@ unfoldable pub reportWith : Bool → Task → Sheet → List ℕ
 reportWith once t s =
     bytes "(report\n" ++ (joined (funcRows once t s) (upTo (count t)) ++ (totalRow (recordsOf t s) ++ bytes ")\n"))
 
--- once: the lines of the points have that field
 abbrev pub reportText : Bool → (ℕ → ℕ) → Task → List ℕ
 reportText once price t = reportWith once t (pricedSheet price t)

@@ -80,7 +80,7 @@ fn shows_once(price: Price) -> bool
     price.each == 1
 }
 
-// What a preemption costs at most that is the only one of its run, in blocks.
+// The bound on the blocks that a single preemption costs.
 fn once_of(x: PointFigures) -> u32
     requires { ⌜ Sums (figuredOf x) ⌝ }
     ensures { λ r. ⌜ r ≡ onceOf (figuredOf x) ⌝ }

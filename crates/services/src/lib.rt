@@ -131,9 +131,9 @@ fn run_on(
 }
 
 // Run: the events of a list on the task of a text, from a fresh start on the lent cache and memory, and the working space cleared. In demand_3: what
-// was returned and left is that of the plain stack, and what was moved costs no more than the sheet allows. In once, which says something with start 0 and
-// each 1 only: what was moved is at most the spills and fills of the sheet and once of each point at which the run was preempted, so of the one point where
-// there is exactly one preemption among the events done.
+// was returned and left is that of the plain stack, and what was moved costs no more than the sheet allows. In once, with start 0 and each 1: what was moved
+// is at most the spills and fills on the sheet and once of each point at which the run was preempted, so of one point where exactly one preemption is among
+// the events done. At other prices nothing is claimed of once.
 //
 //     run(b"(stack 65)\n", 0, 1, &[], &mut answers, &mut cache, &mut memory, &mut work) is a refusal in row StackSize at place 1, with 0 events done
 pub fn run(
@@ -176,8 +176,8 @@ pub fn run(
 }
 
 // Run on the core with a lazy pointer, which writes back only the blocks below it: the events, the prices and the buffers are those of run. It returns and
-// leaves what run does, but for what was moved, which is no more. In clean: the blocks from the pointer up to the top of what is cached equal memory. In once:
-// the same as for run.
+// leaves what run does, but for what was moved, which is no more. In clean: the blocks from the pointer up to the top of what is cached equal memory.
+// demand_3 and once are those of run.
 //
 //     run_lazy(b"(stack 65)\n", 0, 1, &[], &mut answers, &mut cache, &mut memory, &mut work) is a refusal in row StackSize at place 1, with 0 events done
 pub fn run_lazy(

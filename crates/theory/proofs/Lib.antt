@@ -21,7 +21,7 @@
 --   Total                    the total of a report is the sum of the costs of all points
 --   Faithful                 demand 3, of every sheet that obeys the rules and of the sheet of every text that run accepts
 --   Cores                    the two cores leave the same after every event, and the lazy one moves no more; so do the two services
---   Once                     a run with exactly one preemption moves at most its spills and fills and once of the point
+--   Once                     in blocks a run moves at most its spills and fills and once of each point at which it is preempted; the case of exactly one
 pub mod Lists
 pub mod Firsts
 pub mod Search

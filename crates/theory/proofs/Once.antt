@@ -1,9 +1,10 @@
--- Request 7 of document 02, where moves are counted in blocks: a run moves at most its spills and fills and once of each point at which it is preempted,
--- so in particular where it is preempted exactly once. A run from fewer cached blocks moves at most those blocks more than the same run from more of them:
--- what it moves more at an event narrows the gap, and no event widens it. So behind a preemption the blocks that are missing are paid once, or the
--- delayed fills are, whichever is less. All this on a core that writes back every block; the one with a lazy pointer moves no more (Cores).
+-- Request 7 of document 02, where moves are counted in blocks: a run moves at most its spills and fills and once of each point at which it is preempted;
+-- the request's own words are the case of exactly one preemption. A run from fewer cached blocks moves more than the same run from more of them, but at
+-- most by the gap between the two: what it moves more at an event narrows the gap, and no event widens it. So after a preemption the blocks that are
+-- missing pay for what is moved more, or the delayed fills do, whichever is less. This holds of cores that write back every block: after a preemption
+-- the lazy pointer may lie above that of the run without it. The core with a lazy pointer moves no more (Cores).
 use Prim.Native.Nat.{ℕ, suc, _+_, _-_, _≤_, _<_, min, max}
-use mathlib.Core.List.{List, [], _∷_}
+use mathlib.Core.List.{List, [], _∷_, _++_}
 use mathlib.Core.Option.{Option, none, some}
 use mathlib.Core.Path.{_≡_, refl, ap, sym, subst, _∙_}
 use native.Mathlib.Nat.{le-trans}
@@ -14,19 +15,22 @@ use Rattle.model.specs.declared.Eviction.the-variants.{Eager}
 use Rattle.model.specs.declared.Point.{Point}
 use Rattle.model.specs.declared.Point.the-variants.{Load, Store, Call, Ensure, Goto, Either, Return}
 use Rattle.model.specs.declared.Refusal.{Refusal}
+use Rattle.model.specs.Basic.{sumOf}
 use Rattle.model.specs.Task.{Task, Judged, refused, task, count, func, point}
 use Rattle.model.specs.Core.{Core, Clean, written, effective, savedFrom, saveMoves, resumed, resumeMoves, reserve, free, ensure, store, save, resume, filledWith, idle}
-use Rattle.model.specs.Sheet.{Sheet, movePrice, inBlocks, costed, sheetWith, onceOf, chargingOnce, sheetOf}
+use Rattle.model.specs.Sheet.{Sheet, movePrice, inBlocks, costed, sheetWith, onceOf, charging, chargingOnce, sheetOf}
 use Rattle.model.specs.Refusal.{pricedRows, eventRows}
 use Rattle.model.specs.Plain.{Event, Act, takes, preempted, act, Frame, firstFrames, running, stepped, afterEvent, eventsOf}
-use Rattle.model.specs.Run.{Turn, Ran, stepTurn, preemptTurn, turn, orRan, ranFrom, ran, stepBound, eventBound, orBound, allowedFrom, allowed}
+use Rattle.model.specs.Run.{Place, Turn, Ran, stepTurn, preemptTurn, turn, orRan, ranFrom, ran, stepBound, eventBound, orBound, allowedFrom, allowed}
+use Rattle.model.specs.Preemptions.{preemptedAt, orPreempted, preemptionsFrom, preemptions, spillsAndFills}
 use Rattle.model.specs.Services.{cleared, runJudged, runAs, runWith, runOf, PaysOnce}
 use Rattle.model.specs.WellFormed.{WellFormed}
 use Rattle.theory.specs.Sound.{Sound}
 use Rattle.theory.specs.Cores.{eagerly}
+use Rattle.theory.proofs.Lists.{sum-append}
 use Rattle.theory.proofs.Blocks.{length-filled}
 use Rattle.theory.proofs.Clean.{effective-between, clean-idle}
-use Rattle.theory.proofs.Frames.{places, running-same, frames-step, Standing, Window, Needed}
+use Rattle.theory.proofs.Frames.{places, running-same, frames-step, In, Standing, Window, Needed}
 use Rattle.theory.proofs.Window.{window-idle}
 use Rattle.theory.proofs.Occupancy.{Occupied}
 use Rattle.theory.proofs.Potential.{potential, paid, potential-start, save-covers, reload-covers, left-delayed}
@@ -163,7 +167,7 @@ module _ (t : Task) (s : Sheet) (counted : s .price ≡ inBlocks) where
       (rw (state-is (u .state) _ (frames-turn t s fs a (act e)), state-is (v .state) _ (frames-turn t s fs b (act e)))
       (closer (suc i) es (afterEvent t fs (act e)) (u .state .core) (v .state .core) (k .next))))
 
--- ---- every preemption is paid once
+-- ---- every preemption is paid with once
 
 -- once is at most the cost, of every sheet by the formulas that stand
 pub once-tighter : (price : ℕ → ℕ) (t : Task) (d : ℕ → ℕ) (dead need : ℕ → ℕ → ℕ) (f p : ℕ)
@@ -171,15 +175,15 @@ pub once-tighter : (price : ℕ → ℕ) (t : Task) (d : ℕ → ℕ) (dead need
 unfolding onceOf costed
 once-tighter price t d dead need f p = omega arith
 
--- a step is allowed the same
-step-same : (s : Sheet) (f p : ℕ) (y : Point) → stepBound s f p y ≡ stepBound (chargingOnce s) f p y
-step-same s f p (Load o) = refl
-step-same s f p (Store o) = refl
-step-same s f p (Call g) = refl
-step-same s f p (Ensure k) = refl
-step-same s f p (Goto q) = refl
-step-same s f p (Either q r) = refl
-step-same s f p Return = refl
+-- a step is allowed the same, whatever a preemption costs
+step-charged : (s : Sheet) (cost : ℕ → ℕ → ℕ) (f p : ℕ) (y : Point) → stepBound (charging cost s) f p y ≡ stepBound s f p y
+step-charged s cost f p (Load o) = refl
+step-charged s cost f p (Store o) = refl
+step-charged s cost f p (Call g) = refl
+step-charged s cost f p (Ensure k) = refl
+step-charged s cost f p (Goto q) = refl
+step-charged s cost f p (Either q r) = refl
+step-charged s cost f p Return = refl
 
 -- a step leaves the core as it writes back
 eviction-stays : (t : Task) (f p : ℕ) (fs : List Frame) (c : Core) (y : Point) (v : ℕ) → stepTurn t f p (places fs) c y v .state .core .eviction ≡ c .eviction
@@ -192,13 +196,14 @@ eviction-stays t f p fs c (Goto q) v = refl
 eviction-stays t f p fs c (Either q r) v = refl
 eviction-stays t f p fs c Return v = refl
 
--- out and back are paid with a and b. The rest moves at most what it is allowed and n, what is delayed behind the preemption, l at most; and at most gap
--- more, g at most, than it moves alone, without the preemption, where it is allowed the same and before is delayed
+-- a preemption and the rest of the run. a and b pay for out and back. The rest moves at most what it is allowed and n, the delayed fills after the
+-- preemption, which are at most l. It also moves at most gap, which is at most g, more than alone, the rest without the preemption; and that moves at most
+-- what it is allowed and before, the delayed fills before the preemption
 once-sum : (out back moved rest a b n l alone gap g before x : ℕ) → out ≤ a → back ≤ b → moved ≤ rest + n → n ≤ l → moved ≤ alone + gap
     → alone ≤ rest + before → gap ≤ g → a + b + min l g ≤ x → out + back + moved ≤ x + rest + before
 once-sum out back moved rest a b n l alone gap g before x h i j k m o q u = omega arith
 
--- the blocks that are missing behind a preemption at n blocks, with the figures d dead, m need, h high
+-- the blocks that are missing after a preemption at n blocks, with the figures d dead, m need, h high
 gap-covers : (n d m h : ℕ) → n ≤ h → n - resumed d m n ≤ h - max d m
 gap-covers n d m h l = omega arith
 
@@ -208,6 +213,14 @@ once-or s none c u q a allowed before h = omega (arith, h)
 once-or s (some x) c u q a allowed before h = omega arith
 
 module _ (t : Task) (s : Sheet) (w : WellFormed t) (r : Sound t s) (counted : s .price ≡ inBlocks) where
+  -- once of the point of a frame pays for this
+  once-pays : (x : Frame) → In t x
+      → s .price (s .at (x .fn) (x .at) .high - s .at (x .fn) (x .at) .dead) + s .price (s .at (x .fn) (x .at) .need - s .at (x .fn) (x .at) .dead)
+      + min (s .price (r .ground .next (x .fn) (x .at) - s .at (x .fn) (x .at) .need) + s .chain (x .fn))
+      (s .at (x .fn) (x .at) .high - max (s .at (x .fn) (x .at) .dead) (s .at (x .fn) (x .at) .need))
+      ≤ onceOf (s .at (x .fn) (x .at))
+  once-pays x j = omega (arith, r .at (x .fn) (x .at) (j .fn-in) (j .at-in) .once)
+
   -- an event at these frames, what holds of the rest being known of every state
   once-event : (i : ℕ) (es : List Event) (fs : List Frame) (c : Core) (a : Act) → Standing t fs → Running t s (r .ground) fs c → c .eviction ≡ Eager
       → ((fs : List Frame) (c : Core) → Running t s (r .ground) fs c → c .eviction ≡ Eager
@@ -223,7 +236,7 @@ module _ (t : Task) (s : Sheet) (w : WellFormed t) (r : Sound t s) (counted : s 
       let u = stepTurn t (x .fn) (x .at) (places fs) c y v in
       let gs = stepped t x fs y v in
       let m = rest gs (u .state .core) (f .runs) (eviction-stays t (x .fn) (x .at) fs c y v ∙ e) in
-      rw (state-is (u .state) gs (f .frames), ← step-same s (x .fn) (x .at) y) (omega (arith, f .pays, m))
+      rw (state-is (u .state) gs (f .frames), step-charged s (λ f p. onceOf (s .at f p)) (x .fn) (x .at) y) (omega (arith, f .pays, m))
   once-event i es (x ∷ fs) c (preempted v) (Standing.runs j b) k e rest =
       let y = s .at (x .fn) (x .at) in
       let u = preemptTurn s (x .fn) (x .at) (places fs) c (filledWith v c) in
@@ -239,7 +252,7 @@ module _ (t : Task) (s : Sheet) (w : WellFormed t) (r : Sound t s) (counted : s 
       once-sum _ _ _ _ _ _ _ _ _ _ _ _ _
       (r .price .more _ _ (save-covers (c .occupancy) (effective c) (y .dead) (y .high) (effective-between c (k .clean) .1) (k .occupied .here .high)))
       (r .price .more _ _ (reload-covers (c .occupancy) (y .dead) (y .need))) after left near without gap
-      (r .at (x .fn) (x .at) (j .fn-in) (j .at-in) .once)
+      (once-pays x j)
 
   -- from every state that a run can be in
   pub once-from : (i : ℕ) (es : List Event) (fs : List Frame) (c : Core) → Running t s (r .ground) fs c → c .eviction ≡ Eager
@@ -276,6 +289,41 @@ module _ (t : Task) (s : Sheet) (w : WellFormed t) (r : Sound t s) (counted : s 
       } in
       le-trans (less-moved t s w r h c es u k .moved) (eager-once h (eagerly c) es v (record { within = k .within; equal = k .equal }) refl)
 
+-- ---- exactly one preemption
+
+module _ (t : Task) (s : Sheet) (cost : ℕ → ℕ → ℕ) where
+  -- what preemptions at these points cost
+  abbrev costs : List Place → ℕ
+  costs l = sumOf (λ x. cost (x .fn) (x .at)) l
+
+  charged-event : (fs : List Frame) (a : Act) → eventBound t (charging cost s) fs a ≡ eventBound t (charging (λ f p. 0) s) fs a + costs (preemptedAt fs a)
+  unfolding eventBound preemptedAt sumOf
+  charged-event [] a = refl
+  charged-event (x ∷ fs) (takes v) =
+      let y = point (func t (x .fn)) (x .at) in
+      omega (arith, step-charged s cost (x .fn) (x .at) y, step-charged s (λ f p. 0) (x .fn) (x .at) y)
+  charged-event (x ∷ fs) (preempted v) = omega arith
+
+  charged-or : (o : Option Refusal) (a b m n : ℕ) (k l : List Place) → a ≡ b + costs k → m ≡ n + costs l
+      → orBound o a m ≡ orBound o b n + costs (orPreempted o k l)
+  unfolding sumOf
+  charged-or none a b m n k l e h = omega (arith, e, h, sum-append (λ x. cost (x .fn) (x .at)) k l)
+  charged-or (some r) a b m n k l e h = refl
+
+  charged-from : (i : ℕ) (fs : List Frame) (es : List Event)
+      → allowedFrom t (charging cost s) i fs es ≡ allowedFrom t (charging (λ f p. 0) s) i fs es + costs (preemptionsFrom t i fs es)
+  unfolding allowedFrom preemptionsFrom sumOf
+  charged-from i fs [] = refl
+  charged-from i fs (e ∷ es) =
+      charged-or (eventRows i (e .kind) (e .value) (running t fs)) _ _ _ _ (preemptedAt fs (act e)) (preemptionsFrom t (suc i) (afterEvent t fs (act e)) es)
+      (charged-event fs (act e)) (charged-from (suc i) (afterEvent t fs (act e)) es)
+
+  -- a list with exactly one preemption among the events done is allowed the spills, the fills and the cost of its point
+  pub charged-one : (es : List Event) (x : Place) → preemptions t es ≡ x ∷ []
+      → allowed t (charging cost s) es ≡ spillsAndFills t s es + cost (x .fn) (x .at)
+  unfolding sumOf
+  charged-one es x e = omega (arith, charged-from 0 (firstFrames t) es, ap costs e)
+
 -- of the services themselves, in blocks, on either core: for every text, event list and buffers
 pub pays-once : (x : Eviction) (first : Option Refusal) (text work events answers cache memory : List ℕ)
     → PaysOnce (runJudged first text events answers cache memory) (eventsOf events)
@@ -304,3 +352,14 @@ services-once x text start each work events answers cache memory h k =
     (λ (price : ℕ → ℕ).
     PaysOnce (runJudged first text events answers cache memory) (eventsOf events) (runWith x price first text work events answers cache memory .result .moved))
     (sym e) (pays-once x first text work events answers cache memory)
+
+-- the words of the request: run and run_lazy with start 0 and each 1, over a list with exactly one preemption among the events done
+pub services-one : (x : Eviction) (text work events answers cache memory : List ℕ) (t : Task) (y : Place)
+    → runJudged (pricedRows (length work) 0 1) text events answers cache memory ≡ task t → preemptions t (eventsOf events) ≡ y ∷ []
+    → runOf x text 0 1 work events answers cache memory .result .moved
+    ≤ spillsAndFills t (sheetOf t) (eventsOf events) + onceOf (sheetOf t .at (y .fn) (y .at))
+services-one x text work events answers cache memory t y e h =
+    let moved = runOf x text 0 1 work events answers cache memory .result .moved in
+    let paid-once : moved ≤ allowed t (chargingOnce (sheetOf t)) (eventsOf events) =
+    subst (λ (j : Judged). PaysOnce j (eventsOf events) moved) e (services-once x text 0 1 work events answers cache memory refl refl) in
+    omega (arith, paid-once, charged-one t (sheetOf t) (λ f p. onceOf (sheetOf t .at f p)) (eventsOf events) y h)

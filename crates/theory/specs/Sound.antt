@@ -62,8 +62,8 @@ pub record SoundAt (t : Task) (s : Sheet) (b : Ground) (f p : ℕ) : Type 0 wher
   -- cost pays for what goes out, what comes back, and what the ensures to come fill above their fill
   pub cost : s .price (s .at f p .high - s .at f p .dead) + s .price (s .at f p .need - s .at f p .dead) + s .price (b .next f p - s .at f p .need) + s .chain f
       ≤ s .at f p .cost
-  -- once pays for what goes out and what comes back, and for what the ensures to come fill above their fill or, where these are fewer, the blocks that
-  -- are missing behind the preemption
+  -- once pays for what goes out and what comes back, and for the smaller of two: what the ensures to come fill above their fill, and the blocks that are
+  -- missing after the preemption
   pub once : s .price (s .at f p .high - s .at f p .dead) + s .price (s .at f p .need - s .at f p .dead)
       + min (s .price (b .next f p - s .at f p .need) + s .chain f) (s .at f p .high - max (s .at f p .dead) (s .at f p .need))
       ≤ onceOf (s .at f p)
