@@ -47,6 +47,10 @@ uint32_t felknost_check(const uint8_t *text, size_t length);
  * each move priced by itself; K, d, D, high, dead and need are blocks. The line before the last is "  (total T)": T is the sum of cost over all points of
  * the task, and is below 2^32.
  *
+ * With start 0 and each 1 the line of a point has one field more, its last: once = save + reload + min(later + chain, max(0, high - max(dead, need))). It is
+ * at most cost, and bounds what a preemption at this point costs if it is the only one of a run. It is for slots that allow just one preemption. At any other
+ * start or each the line has no such field, and nothing is claimed of once.
+ *
  * result gets three numbers: CODE, PLACE and how many bytes were written. CODE and PLACE are 0 where the text is accepted; else they are as above, and
  * three rows are new:
  *
@@ -91,8 +95,9 @@ uint32_t felknost_dearest_points(const uint8_t *text, size_t text_length, uint32
  * of a move, as for felknost_report; a preemption makes two moves, out and back.
  *
  * result gets five numbers: CODE, PLACE, how many events were done, the price of all that they moved, and the price that the sheet allows them. With start 0
- * and each 1 the last two are blocks. The fourth is never more than the fifth. CODE and PLACE are 0 where all events were done; else they are as above, but
- * for 14, or one of these:
+ * and each 1 the last two are blocks. The fourth is never more than the fifth. In blocks, with exactly one preemption among the events done, the fourth is
+ * also at most the spills and fills that the sheet has for these events plus once of the point of the preemption. The fifth has the cost of that point, not
+ * once. CODE and PLACE are 0 where all events were done; else they are as above, but for 14, or one of these:
  *
  *  23  start is above 255, or each is 0 or above 255; PLACE is 0. It is tried after 15 and before all others
  *  16  events has an odd number of numbers or more than 131,072; PLACE is 0
@@ -116,7 +121,8 @@ uint32_t felknost_run(const uint8_t *text, size_t text_length, uint32_t start, u
  * the pointer above its own block; a fill leaves it where it is.
  *
  * For every input it returns what felknost_run returns and leaves what felknost_run leaves in answers, cache, memory and work, but for the fourth number of
- * result: the price of all that was moved, which is never more than on the other core. The same sheet limits both, so the fifth number is the same.
+ * result: the price of all that was moved, which is never more than on the other core. The same sheet limits both, so the fifth number is the same, and the
+ * bound with once holds here too.
  */
 uint32_t felknost_run_lazy(const uint8_t *text, size_t text_length, uint32_t start, uint32_t each, const uint32_t *events, size_t events_length,
                            uint32_t *answers, size_t answers_length, uint32_t *cache, size_t cache_length, uint32_t *memory, size_t memory_length,
