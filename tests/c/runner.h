@@ -1,15 +1,17 @@
 /*
- * Tests of a function that runs a task: the two worked runs, in blocks and at a price, runs in which the cores move different blocks, each refusal of a run
- * with what every buffer holds after it, buffers between pages that may not be touched, a result that is too short, threads, and the stack that the header
- * states.
+ * Tests of a function that runs a task: the two worked runs, in blocks and at a price, runs in which the cores move different blocks, the worked run with one
+ * preemption at each of its points against the printed sheet, each refusal of a run with what every buffer holds after it, buffers between pages that may not
+ * be touched, a result that is too short, threads, and the stack that the header states.
  *
  * Before this file is included, SERVICE is the function and NAME its name in what is printed. MOVED_BY_CALLS and MOVED_BY_PREEMPTIONS are what it moves in
- * those runs, in blocks, and MOVED_BY_PREEMPTIONS_AT_10 with a start of 10.
+ * those runs, in blocks, and MOVED_BY_PREEMPTIONS_AT_10 with a start of 10. MOVED_BEHIND_ENSURE is what it moves in the worked run with one preemption right
+ * behind the ensure.
  */
 #ifndef RUNNER_H
 #define RUNNER_H
 
 #include "lent.h"
+#include "rows.h"
 #include "stack.h"
 
 #include <stdlib.h>
@@ -132,6 +134,105 @@ static void preemptions(int at_end)
     room_case = "a run with three preemptions at a price";
     count(room_case, ran(&given, at_end) == 1 && result_is(0, 0, 10, MOVED_BY_PREEMPTIONS_AT_10, 72) && holds(&answers, loaded, 10));
 }
+
+/* ---- a single preemption, in blocks */
+
+/* The lines of the printed sheet of TASK: those of its functions, and those of their points. */
+static struct row functions[2], points[2][5];
+
+static int sheet_read(void)
+{
+    static uint8_t output[FELKNOST_OUTPUT];
+    static uint32_t work[FELKNOST_WORK];
+    static const char task[] = TASK;
+    uint64_t result[3] = {1, 1, 0};
+    int function, point;
+    felknost_report((const uint8_t *)task, sizeof task - 1, 0, 1, output, sizeof output - 1, work, FELKNOST_WORK, result, 3);
+    const char *line = (const char *)output;
+    if (result[0] != 0 || strncmp(line, "(report\n", 8) != 0)
+        return 0;
+    line += 8;
+    for (function = 0; function < 2; function++) {
+        if ((line = row_of(line, "func", &functions[function])) == NULL || functions[function].fields != FUNCTION_FIELDS)
+            return 0;
+        for (point = 0; point < (function == 0 ? 5 : 3); point++)
+            if ((line = row_of(line, "at", &points[function][point])) == NULL || points[function][point].fields != POINT_FIELDS)
+                return 0;
+    }
+    return 1;
+}
+
+/* The points that the steps of TASK come to, one after the other. The second step calls function 1. */
+static const int stops[][2] = {{0, 0}, {0, 1}, {1, 0}, {1, 1}, {1, 2}, {0, 2}, {0, 3}, {0, 4}};
+#define STOPS 8
+#define CALL_STEP 1
+
+/* Of the run to its end with one preemption, at each of them: moved, the spills and fills of the sheet with once of the point, and allowed. */
+static const uint64_t preempted_at[STOPS][3] = {{2, 2, 2}, {2, 4, 4}, {4, 4, 4}, {9, 9, 9}, {4, 4, 4}, {2, 2, 3}, {MOVED_BEHIND_ENSURE, 4, 4}, {2, 2, 2}};
+
+static const uint64_t *figures_at(int stop)
+{
+    return points[stops[stop][0]][stops[stop][1]].field;
+}
+
+/* What the sheet has for this many steps without a preemption. */
+static uint64_t spills_and_fills(int steps)
+{
+    uint64_t sum = steps > CALL_STEP ? functions[1].field[SPILL] : 0;
+    int stop;
+    for (stop = 0; stop < steps; stop++)
+        sum += figures_at(stop)[FILL];
+    return sum;
+}
+
+/* The run ends so, moves at most the first of the sums and is allowed the second. Returns what it moves, or a number above both where one of this fails. */
+static uint64_t moved_within(const struct given *given, uint64_t code, uint64_t place, uint64_t done, uint64_t with_once, uint64_t with_cost, int at_end)
+{
+    uint64_t got[5] = {0};
+    uint32_t returned = ran(given, at_end);
+    memcpy(got, results.at, sizeof got);
+    return returned == 1 && result_is(code, place, done, got[3], with_cost) && got[3] <= with_once ? got[3] : UINT64_MAX;
+}
+
+/*
+ * Lists with exactly one preemption done, at this stop: they end with any event from there on, or go on with one that is refused, of no known kind or a second
+ * preemption after the finish.
+ */
+static void preempted_once(int stop, int at_end)
+{
+    uint32_t list[2 * (STOPS + 2)];
+    struct given given = {TASK, in_blocks, 0, STOPS + 2, 5, 6, FELKNOST_WORK, 5, list};
+    uint64_t moved = 0, refused, with_once = 0, with_cost = 0;
+    int done, good = 1;
+    room_case = "a run with one preemption";
+    for (done = 1; done <= STOPS + 1; done++) {
+        list[2 * done - 2] = done == stop + 1 ? PREEMPTION : STEP;
+        list[2 * done - 1] = 3;
+        if (done <= stop)
+            continue;
+        with_once = spills_and_fills(done - 1) + figures_at(stop)[ONCE];
+        with_cost = spills_and_fills(done - 1) + figures_at(stop)[COST];
+        given.events = 2 * (size_t)done;
+        moved = moved_within(&given, 0, 0, (uint64_t)done, with_once, with_cost, at_end);
+        list[2 * done] = done <= STOPS ? PREEMPTION + 1 : PREEMPTION;
+        list[2 * done + 1] = 3;
+        given.events += 2;
+        refused = moved_within(&given, done <= STOPS ? 20 : 22, (uint64_t)done, (uint64_t)done, with_once, with_cost, at_end);
+        good &= moved <= with_once && refused == moved;
+    }
+    count(room_case, good);
+    count("its sums", moved == preempted_at[stop][0] && with_once == preempted_at[stop][1] && with_cost == preempted_at[stop][2]);
+}
+
+static void preempted_everywhere(int at_end)
+{
+    int stop, read = sheet_read();
+    count("the sheet of the runs with one preemption", read);
+    for (stop = 0; read && stop < STOPS; stop++)
+        preempted_once(stop, at_end);
+}
+
+/* ---- refusals */
 
 static void nothing_done(const char *name, struct given given, uint64_t code, uint64_t place, int at_end)
 {
@@ -282,6 +383,7 @@ static int run_tests(void)
         worked(at_end);
         calls(at_end);
         preemptions(at_end);
+        preempted_everywhere(at_end);
         refused_before_the_first_event(at_end);
         refused_for_the_price(at_end);
         refused_events(at_end);
