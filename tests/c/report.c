@@ -23,7 +23,7 @@
     "  (at 2 1 1 0 0 0 11 0 11 11)\n  (at 3 2 1 2 11 11 0 0 22 0)\n  (at 4 2 2 0 0 0 0 0 0 0)\n  (func 1 4 4 4 11 11)\n" \
     "  (at 0 5 4 1 11 0 0 11 22 0)\n  (at 1 5 0 1 15 11 0 11 37 0)\n  (at 2 5 4 0 11 0 0 11 22 0)\n" TOTAL_AT_10 END
 
-/* One block costs 2 by each 2 and by a start of 1. Only the load of the callee moves more of them at once. */
+/* A move of one block costs 2, with each 2 and with a start of 1. Only at the load of the callee has a move more blocks. */
 #define BYTES_AT_2(LOAD, TOTAL_AT_2)                                                                                \
     "(report\n  (func 0 2 6 6 0 0)\n  (at 0 2 2 2 0 0 0 0 0 0)\n  (at 1 2 1 0 2 0 2 0 4 0)\n"                       \
     "  (at 2 1 1 0 0 0 2 0 2 2)\n  (at 3 2 1 2 2 2 0 0 4 0)\n  (at 4 2 2 0 0 0 0 0 0 0)\n  (func 1 4 4 4 2 2)\n" \
