@@ -23,8 +23,15 @@ struct Room {
     result: [u64; 5],
 }
 
-/// A service that writes bytes about a text.
-type Writer = fn(&[u8], &mut Room) -> u64;
+/// A price of moves: start and each.
+type Price = (u32, u32);
+
+/// At this one a report counts blocks, and has once; at the other it does not.
+const BLOCKS: Price = (START, EACH);
+const START_OF_10: Price = (10, 1);
+
+/// A service that writes bytes about a text, at a price.
+type Writer = fn(&[u8], Price, &mut Room) -> u64;
 
 /// A service that runs a list.
 type Runner = fn(&List, &mut Room) -> u64;
@@ -59,12 +66,12 @@ macro_rules! writer {
             ) -> u32;
         }
         // SAFETY: as in the binding.
-        |text, room| unsafe {
+        |text, (start, each), room| unsafe {
             write(
                 text.as_ptr(),
                 text.len(),
-                START,
-                EACH,
+                start,
+                each,
                 room.output.as_mut_ptr(),
                 room.output.len(),
                 room.work.as_mut_ptr(),
@@ -158,9 +165,10 @@ const COPIES: [Services; 8] = services! {
 type Row = (&'static str, Box<dyn Fn(&Services, &mut Room) -> u64>);
 
 /// The rows of a service that writes.
-fn written_rows(service: fn(&Services) -> Writer) -> Vec<Row> {
+fn written_rows(service: fn(&Services) -> Writer, price: Price) -> Vec<Row> {
     let row = |(name, text): (_, Vec<u8>)| -> Row {
-        let call = move |copy: &Services, room: &mut Room| service(copy)(black_box(&text), room);
+        let call =
+            move |copy: &Services, room: &mut Room| service(copy)(black_box(&text), price, room);
         (name, Box::new(call))
     };
     report_texts().into_iter().map(row).collect()
@@ -185,13 +193,18 @@ fn tables() -> Vec<(&'static str, Rounds, Vec<Row>)> {
     let checks = texts().into_iter().map(checked).collect();
     vec![
         ("Check", check::ROUNDS, checks),
-        ("Report", ROUNDS, written_rows(|copy| copy.report)),
+        ("Report", ROUNDS, written_rows(|copy| copy.report, BLOCKS)),
+        (
+            "Report at start 10",
+            ROUNDS,
+            written_rows(|copy| copy.report, START_OF_10),
+        ),
         ("Run", run::ROUNDS, run_rows(|copy| copy.run)),
         #[cfg(dearest_copies)]
         (
             "Dearest points",
             ROUNDS,
-            written_rows(|copy| copy.dearest_points),
+            written_rows(|copy| copy.dearest_points, BLOCKS),
         ),
         #[cfg(lazy_copies)]
         (

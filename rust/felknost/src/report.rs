@@ -3,8 +3,9 @@
 use crate::{raw, Refusal};
 
 /// Writes the report of a task text to the front of `output` and gives its length. A move costs `start`, 0 to 255, where it moves a block at
-/// all, and `each`, 1 to 255, for each block; 0 and 1 count blocks. The line before the last, `  (total T)`, has the sum of the costs of all
-/// points. `work` has at least [`WORK`](crate::WORK) numbers; the first of them are 0 afterwards.
+/// all, and `each`, 1 to 255, for each block; 0 and 1 count blocks. With 0 and 1 the line of a point ends with once, the bound on what a
+/// single preemption there costs. The line before the last, `  (total T)`, has the sum of the costs of all points. `work` has at least
+/// [`WORK`](crate::WORK) numbers; the first of them are 0 afterwards.
 pub fn report(
     text: &[u8],
     start: u32,

@@ -11,7 +11,7 @@ pub struct RunResult {
     pub done: u32,
     /// The sum of the prices of all moves by the events done.
     pub moved: u64,
-    /// The sum of the sheet's bounds for the events done.
+    /// The sum of the sheet's bounds for the events done, each preemption with its cost.
     pub allowed: u64,
 }
 
