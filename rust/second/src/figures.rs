@@ -1,6 +1,7 @@
 //! The figures of an accepted task. Displacements, occupancies and offsets are blocks; what bounds
 //! moves is a price.
 
+use crate::machine;
 use crate::price::Price;
 use crate::text::{Func, Point, Task};
 use crate::walks;
@@ -41,6 +42,9 @@ pub struct PointFigures {
     pub cost: u32,
     /// The bound on the price of the blocks filled by an ensure; 0 at other points.
     pub fill: u32,
+    /// Where blocks are counted, the bound on all of them that move because of the only preemption of
+    /// a run.
+    pub once: Option<u32>,
 }
 
 /// The figures of a task, in the order of its functions and of its points.
@@ -222,5 +226,20 @@ fn costs(task: &Task, number: usize, price: Price, figures: &mut Figures) {
         figure.fill = price.of(figure.fill);
         figure.chain = chain;
         figure.cost = figure.save + figure.reload + figure.later + chain;
+        figure.once = (price == Price::BLOCKS).then(|| most_moved(figure));
     }
+}
+
+/// The most blocks that move because of the only preemption of a run, over all occupancies that the
+/// point may have: those that it writes and reads back itself, and those that are missing behind it, as
+/// far as ensures fill them later.
+fn most_moved(figure: &PointFigures) -> u32 {
+    let (dead, need) = (figure.dead as usize, figure.need as usize);
+    let filled = (figure.later + figure.chain) as usize;
+    let moved = |occupancy| {
+        let (written, read, after) = machine::preempt(occupancy, dead, need);
+        written + read + filled.min(occupancy - after)
+    };
+    let most = (0..=figure.high as usize).map(moved).max();
+    most.unwrap_or(0) as u32
 }

@@ -46,6 +46,13 @@ pub fn ensure(occupancy: usize, frame: usize) -> (usize, usize) {
     (frame.saturating_sub(occupancy), occupancy.max(frame))
 }
 
+/// Blocks written and blocks read back by a preemption at `occupancy`, and the occupancy after it.
+pub fn preempt(occupancy: usize, dead: usize, need: usize) -> (usize, usize, usize) {
+    let skipped = occupancy.min(dead);
+    let after = occupancy.min(dead.max(need));
+    (occupancy - skipped, after - skipped, after)
+}
+
 /// The core without a lazy pointer. Its cached addresses are the `occupancy` ones from `top` upward.
 #[derive(Debug)]
 pub struct Machine<'a> {
@@ -123,10 +130,10 @@ impl<'a> Core<'a> for Machine<'a> {
     }
 
     fn preempt(&mut self, dead: usize, need: usize, left: u32) {
-        let skipped = self.occupancy.min(dead);
-        self.write_back(skipped, self.occupancy);
+        let (written, read, occupancy) = preempt(self.occupancy, dead, need);
+        self.write_back(self.occupancy - written, self.occupancy);
         self.cache.fill(left);
-        self.occupancy = self.occupancy.min(dead.max(need));
-        self.read_in(skipped, self.occupancy);
+        self.read_in(occupancy - read, occupancy);
+        self.occupancy = occupancy;
     }
 }

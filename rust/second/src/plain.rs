@@ -27,9 +27,28 @@ struct Frame {
     numbers: Vec<u32>,
 }
 
+/// An event that is done: its kind, the function and the point of the running frame before it, and the
+/// words of this point.
+#[derive(Clone, Copy, Debug, PartialEq, Eq)]
+pub struct Seen<'a> {
+    /// 0 for a step, 1 for a preemption.
+    pub kind: u32,
+    /// The running function.
+    pub func: usize,
+    /// Its point.
+    pub point: usize,
+    /// The words of the point, as the text has them.
+    pub words: &'a [&'a str],
+}
+
 /// Runs an event list on the plain stack. The text is one that the checks accept; for others
 /// the result is `None` where something needed is missing in it.
 pub fn run(text: &[u8], events: &[u32]) -> Option<PlainResult> {
+    run_seen(text, events, |_| ())
+}
+
+/// The same, and shows each event that is done to `see`.
+pub fn run_seen(text: &[u8], events: &[u32], mut see: impl FnMut(Seen)) -> Option<PlainResult> {
     let funcs = read(text)?;
     let mut stack = vec![fresh(&funcs, 0)?];
     let mut answers = Vec::new();
@@ -39,6 +58,13 @@ pub fn run(text: &[u8], events: &[u32]) -> Option<PlainResult> {
             ending = Err(row.at(number as u32));
             break;
         }
+        let running = stack.last()?;
+        see(Seen {
+            kind: event[0],
+            func: running.func,
+            point: running.point,
+            words: point(&funcs, running)?,
+        });
         let answer = match event[0] {
             0 => step(&funcs, &mut stack, event[1])?,
             _ => 0,

@@ -2,13 +2,22 @@
 
 use std::fmt::Write;
 
-use crate::figures::Figures;
+use crate::figures::{Figures, PointFigures};
 use crate::text::Task;
 use crate::written::{write, WriteResult};
 
 /// Writes the report of a text at a price to the front of `out`.
 pub fn report(text: &[u8], start: u32, each: u32, work_len: usize, out: &mut [u8]) -> WriteResult {
     write(print, text, start, each, work_len, out)
+}
+
+/// The last field in the line of a point, where blocks are counted.
+#[derive(Clone, Copy, Debug, PartialEq, Eq)]
+pub enum Last {
+    /// The fill, as before request 7 and at every other price.
+    Fill,
+    /// What moves because of the only preemption of a run.
+    Once,
 }
 
 /// What stands between the lines of the functions and the last line of a report.
@@ -22,11 +31,11 @@ pub enum Foot {
 
 /// The report as a string.
 pub fn print(task: &Task, figures: &Figures) -> String {
-    print_with(Foot::Total, task, figures)
+    print_with(Last::Once, Foot::Total, task, figures)
 }
 
-/// The report as a string, with this foot.
-pub fn print_with(foot: Foot, task: &Task, figures: &Figures) -> String {
+/// The report as a string, with this last field and this foot.
+pub fn print_with(last: Last, foot: Foot, task: &Task, figures: &Figures) -> String {
     let mut sheet = String::from("(report\n");
     let mut total = 0;
     for (number, func) in task.funcs.iter().enumerate() {
@@ -35,18 +44,7 @@ pub fn print_with(foot: Foot, task: &Task, figures: &Figures) -> String {
         line(&mut sheet, "func", number, &row);
         let points = &figures.points[func.first..func.first + func.count];
         for (index, point) in points.iter().enumerate() {
-            let row = [
-                point.high,
-                point.dead,
-                point.need,
-                point.save,
-                point.reload,
-                point.later,
-                point.chain,
-                point.cost,
-                point.fill,
-            ];
-            line(&mut sheet, "at", index, &row);
+            line(&mut sheet, "at", index, &point_row(last, point));
             total += u64::from(point.cost);
         }
     }
@@ -56,6 +54,25 @@ pub fn print_with(foot: Foot, task: &Task, figures: &Figures) -> String {
     }
     sheet.push_str(")\n");
     sheet
+}
+
+/// The numbers in the line of a point behind its own.
+fn point_row(last: Last, point: &PointFigures) -> Vec<u32> {
+    let mut row = vec![
+        point.high,
+        point.dead,
+        point.need,
+        point.save,
+        point.reload,
+        point.later,
+        point.chain,
+        point.cost,
+        point.fill,
+    ];
+    if last == Last::Once {
+        row.extend(point.once);
+    }
+    row
 }
 
 fn line(sheet: &mut String, word: &str, number: usize, row: &[u32]) {

@@ -13,7 +13,9 @@ pub use cores::{all_done, run, run_at, run_both_at, BothRan, Lent, Ran};
 pub use guarded::{is_noise_from, noise, Guarded, Noise};
 pub use rules::{figures_of, report_by, run_by};
 pub use services::{check, verdict};
-pub use sheets::{rows, split_total, sum_of_costs, whole_report};
+pub use sheets::{
+    func_lines, once_of, rows, split_once, split_total, sum_of_costs, whole_report, FuncLines,
+};
 pub use texts::{called, deep, prices, steps, text, TWO};
 pub use written::{
     assert_binding, assert_short_results, dearest_points_at, report, report_at, Wanted, Written,

@@ -1,9 +1,9 @@
-//! Report and run in the second implementation alone, by either rule for the shortest displacement, and the report with either foot.
+//! Report and run in the second implementation alone, by either rule for the shortest displacement, and the report with either last field and either foot.
 
 use generate::Price;
 use second::figures::{figures_by, Displacement, Figures};
 use second::run::run_with;
-use second::sheet::{print_with, Foot};
+use second::sheet::{print_with, Foot, Last};
 use second::text::Task;
 use second::{admit_at, WORK_MIN};
 
@@ -23,9 +23,9 @@ pub fn figures_of(rule: Displacement, text: &[u8], price: Price) -> Figures {
 }
 
 /// The report of an accepted text.
-pub fn report_by(rule: Displacement, foot: Foot, text: &[u8], price: Price) -> String {
+pub fn report_by(rule: Displacement, last: Last, foot: Foot, text: &[u8], price: Price) -> String {
     let (task, _, figures) = ruled(rule, text, price);
-    print_with(foot, &task, &figures)
+    print_with(last, foot, &task, &figures)
 }
 
 /// The run of an accepted text.

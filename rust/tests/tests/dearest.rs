@@ -53,7 +53,12 @@ fn report_records(report: &[u8]) -> Vec<Record> {
     for (word, numbers) in rows(report) {
         match (word, &numbers[..]) {
             ("func", &[number, _, _, _, _, _]) => func = number,
-            ("at", &[point, _, _, _, save, _, _, _, cost, _]) => records.push(Record {
+            // The last one is once, in a report in blocks.
+            (
+                "at",
+                &[point, _, _, _, save, _, _, _, cost, _]
+                | &[point, _, _, _, save, _, _, _, cost, _, _],
+            ) => records.push(Record {
                 cost: Reverse(cost),
                 save: Reverse(save),
                 func,

@@ -6,7 +6,7 @@ use std::path::PathBuf;
 
 use generate::Price;
 use second::figures::{Displacement, FuncFigures};
-use second::sheet::Foot;
+use second::sheet::{Foot, Last};
 use second::text::{Point, Task};
 use second::{admit, WORK_MIN};
 use tests::{figures_of, rows, whole_report};
@@ -23,11 +23,12 @@ const SPILL: usize = 4;
 const HIGH: usize = 1;
 const SAVE: usize = 4;
 const COST: usize = 8;
+const ONCE: usize = 10;
 const TOTAL: usize = 0;
 
 /// The report by the smallest of all calls.
 fn report_before(text: &[u8], price: Price) -> String {
-    tests::report_by(Displacement::Smallest, Foot::Total, text, price)
+    tests::report_by(Displacement::Smallest, Last::Once, Foot::Total, text, price)
 }
 
 /// d of each function of a report.
@@ -236,11 +237,12 @@ struct Changed {
     high: u32,
     save: u32,
     cost: u32,
+    once: u32,
     total: u32,
 }
 
 impl Changed {
-    /// Compares a line of the report with the one by the smallest of all calls: d may only rise, spill, high, save, cost and the total may only fall, and
+    /// Compares a line of the report with the one by the smallest of all calls: d may only rise, spill, high, save, cost, once and the total may only fall, and
     /// nothing else may differ.
     fn count(&mut self, word: &str, before: &[u32], since: &[u32], case: &impl Display) {
         assert_eq!(before.len(), since.len(), "{case}");
@@ -251,6 +253,7 @@ impl Changed {
                 ("at", HIGH) => (&mut self.high, since <= before),
                 ("at", SAVE) => (&mut self.save, since <= before),
                 ("at", COST) => (&mut self.cost, since <= before),
+                ("at", ONCE) => (&mut self.once, since <= before),
                 ("total", TOTAL) => (&mut self.total, since <= before),
                 _ => (&mut 0, since == before),
             };
@@ -282,9 +285,10 @@ impl Changed {
             high,
             save,
             cost,
+            once,
             total,
         } = *self;
-        let all = [shortest, spill, high, save, cost, total];
+        let all = [shortest, spill, high, save, cost, once, total];
         assert!(all.into_iter().all(|lines| lines >= least), "{self:?}");
     }
 }

@@ -2,7 +2,7 @@
 
 use generate::Price;
 use second::figures::{figures, Displacement, PointFigures};
-use second::sheet::Foot;
+use second::sheet::{Foot, Last};
 use second::{admit, machine, plain, Row, RunResult, WORK_MIN};
 use tests::{
     all_done, dearest_points_at, figures_of, report, report_at, report_by, run, run_at, run_by,
@@ -11,15 +11,15 @@ use tests::{
 
 const TWO_REPORT: &str = "(report
   (func 0 2 6 6 0 0)
-  (at 0 2 2 2 0 0 0 0 0 0)
-  (at 1 2 1 0 1 0 1 0 2 0)
-  (at 2 1 1 0 0 0 1 0 1 1)
-  (at 3 2 1 2 1 1 0 0 2 0)
-  (at 4 2 2 0 0 0 0 0 0 0)
+  (at 0 2 2 2 0 0 0 0 0 0 0)
+  (at 1 2 1 0 1 0 1 0 2 0 2)
+  (at 2 1 1 0 0 0 1 0 1 1 0)
+  (at 3 2 1 2 1 1 0 0 2 0 2)
+  (at 4 2 2 0 0 0 0 0 0 0 0)
   (func 1 4 4 4 1 1)
-  (at 0 5 4 1 1 0 0 1 2 0)
-  (at 1 5 0 1 5 1 0 1 7 0)
-  (at 2 5 4 0 1 0 0 1 2 0)
+  (at 0 5 4 1 1 0 0 1 2 0 2)
+  (at 1 5 0 1 5 1 0 1 7 0 7)
+  (at 2 5 4 0 1 0 0 1 2 0 2)
   (total 16)
 )
 ";
@@ -103,6 +103,15 @@ fn ensure() {
 #[test]
 fn free() {
     assert_eq!(machine::free(1, 4), 0);
+}
+
+/// Five blocks of which the first is needed, and five of which four are dead; two where more are dead, and where more are needed.
+#[test]
+fn preempt() {
+    assert_eq!(machine::preempt(5, 0, 1), (5, 1, 1));
+    assert_eq!(machine::preempt(5, 4, 1), (1, 0, 4));
+    assert_eq!(machine::preempt(2, 4, 0), (0, 0, 2));
+    assert_eq!(machine::preempt(2, 1, 3), (1, 1, 2));
 }
 
 /// Requires that a service writes this of the task, into an output with room to spare.
@@ -307,6 +316,7 @@ fn shipped_sheet_before() {
     );
     let printed = report_by(
         Displacement::Smallest,
+        Last::Once,
         Foot::Total,
         task.as_bytes(),
         Price::BLOCKS,

@@ -1,5 +1,7 @@
 //! Report on generated texts, with outputs of every length around the one wanted, buffers that are not zero, and any price.
 
+use std::ops::Range;
+
 use generate::Price;
 use second::WORK_MIN;
 use tests::{report, report_at, rows, verdict, whole_report, Wanted};
@@ -77,6 +79,9 @@ fn every_output_length() {
     }
 }
 
+/// The columns of moves in a func line and in an at line. Those of an at line end before once, which is in blocks alone.
+const MOVES: Range<usize> = 4..10;
+
 /// What a line but that of the total says at a price, from the same line in blocks and the chain of the function.
 fn priced(price: Price, word: &str, blocks: &[u32], chain: u32) -> Vec<u32> {
     let of = |blocks| price.of(blocks);
@@ -84,17 +89,19 @@ fn priced(price: Price, word: &str, blocks: &[u32], chain: u32) -> Vec<u32> {
         ("func", &[number, frame, shortest, longest, spill, _]) => {
             vec![number, frame, shortest, longest, of(spill), chain]
         }
-        ("at", &[number, high, dead, need, save, reload, later, _, _, fill]) => {
+        ("at", &[number, high, dead, need, save, reload, later, _, _, fill, once]) => {
             let parts = [of(save), of(reload), of(later), chain];
             let cost = parts.iter().sum();
-            [&[number, high, dead, need][..], &parts, &[cost, of(fill)]].concat()
+            let mut line = [&[number, high, dead, need][..], &parts, &[cost, of(fill)]].concat();
+            line.extend((price == Price::BLOCKS).then_some(once));
+            line
         }
         _ => panic!("a line {word} {blocks:?}"),
     }
 }
 
-/// K, d, D, high, dead and need are those of the report in blocks, each move is the price of the one there, and the total is the sum of the costs at the
-/// price. The chain of a function, in all of its lines, is taken from the report; the test `figures_equal_a_search_over_walks` has another.
+/// K, d, D, high, dead and need are those of the report in blocks, each move is the price of the one there, the total is the sum of the costs at the price,
+/// and once is in blocks alone. The chain of a function, in all of its lines, is taken from the report; the test `figures_equal_a_search_over_walks` has another.
 #[test]
 fn blocks_are_kept_and_moves_are_priced() {
     let mut moves = 0;
@@ -118,7 +125,7 @@ fn blocks_are_kept_and_moves_are_priced() {
                 total += wanted[8];
             }
             assert_eq!(*line, (*word, wanted), "{case} {price:?}");
-            let in_moves = blocks.iter().skip(4);
+            let in_moves = blocks.iter().take(MOVES.end).skip(MOVES.start);
             moves += in_moves.filter(|&&blocks| blocks > 0).count();
         }
     }
@@ -139,6 +146,6 @@ mod in_archive {
     #[test]
     fn binding() {
         let wanted = |text: &[u8], price| Wanted::report(text, price).bytes;
-        assert_binding(felknost::report, 281, wanted);
+        assert_binding(felknost::report, 297, wanted);
     }
 }

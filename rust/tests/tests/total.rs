@@ -6,7 +6,7 @@ use std::ops::Range;
 
 use generate::{Case, Price};
 use second::figures::Displacement;
-use second::sheet::Foot;
+use second::sheet::{Foot, Last};
 use second::WORK_MIN;
 use tests::{
     called, deep, report_at, report_by, rows, split_total, sum_of_costs, text, whole_report, TWO,
@@ -36,7 +36,7 @@ const LINE: usize = 11;
 
 /// The report without its total.
 fn without_total(text: &[u8], price: Price) -> String {
-    report_by(Displacement::Walks, Foot::None, text, price)
+    report_by(Displacement::Walks, Last::Once, Foot::None, text, price)
 }
 
 /// The price of a move at the largest start and each.

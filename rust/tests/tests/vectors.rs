@@ -1,14 +1,15 @@
-//! Every case of the vectors folder, and those of report and run at other prices too. Which results request 4 amends, and the totals of the reports.
+//! Every case of the vectors folder, and those of report and run at other prices too. Which results request 4 amends, and the totals and once of the
+//! reports.
 
 use std::path::{Path, PathBuf};
 
 use generate::Price;
 use second::figures::Displacement;
-use second::sheet::Foot;
+use second::sheet::{Foot, Last};
 use second::WORK_MIN;
 use tests::{
-    is_noise_from, prices, report, report_at, report_by, run, run_at, run_both_at, run_by,
-    split_total, sum_of_costs, verdict, whole_report, Lent,
+    func_lines, is_noise_from, once_of, prices, report, report_at, report_by, run, run_at,
+    run_both_at, run_by, split_once, split_total, sum_of_costs, verdict, whole_report, Lent,
 };
 use vectors::{amended, expected, in_force, original, read, read_text, tasks};
 
@@ -85,7 +86,8 @@ fn vectors_report() {
     }
 }
 
-/// The report at a price: of the length that an output of none is told, with the sum of the costs at that price, and at 0 and 1 the one of the case.
+/// The report at a price: of the length that an output of none is told, with the sum of the costs at that price, and at 0 and 1, where alone it has once, the
+/// one of the case.
 #[test]
 fn vectors_report_at_prices() {
     for path in tasks("report") {
@@ -103,7 +105,12 @@ fn vectors_report_at_prices() {
             assert_eq!(reported.result.numbers(), [0, 0, wanted], "{path:?}");
             let (rest, total) = split_total(&reported.output);
             assert_eq!(total, sum_of_costs(&rest), "{path:?} {price:?}");
-            if price == Price::BLOCKS {
+            let points = func_lines(&reported.output).into_iter();
+            let mut points = points.flat_map(|func| func.points);
+            let in_blocks = price == Price::BLOCKS;
+            let once = points.all(|at| at.once.is_some() == in_blocks);
+            assert!(once, "{path:?} {price:?}");
+            if in_blocks {
                 let wanted = expected(&path);
                 assert!(reported.output == wanted, "{path:?}");
             }
@@ -198,9 +205,9 @@ fn vectors_run_at_prices() {
     }
 }
 
-/// The report of a case by a rule, as its file has it: without its total.
+/// The report of a case by a rule, as its file has it: without once and without its total.
 fn report_file(rule: Displacement, path: &Path) -> String {
-    report_by(rule, Foot::None, &read(path), Price::BLOCKS)
+    report_by(rule, Last::Fill, Foot::None, &read(path), Price::BLOCKS)
 }
 
 /// What the run of a case gives back by a rule, as its file has it.
@@ -249,26 +256,47 @@ fn vectors_amended_where_the_rules_differ() {
     assert_eq!(count_amended("run", "back", back_file), 0);
 }
 
-/// The line of the total is all that a report has beside the file in force, and the total is the sum of the costs there.
+/// Once of each point of a file in force, by its formula.
+fn once_of_points(file: &[u8]) -> Vec<u32> {
+    let funcs = func_lines(file);
+    let points = funcs.iter().flat_map(|func| &func.points);
+    points.map(once_of).collect()
+}
+
+/// Once and the line of the total are all that a report has beside the file in force. Once is the formula over the numbers there, and the total is the sum of
+/// the costs there.
 #[test]
-fn vectors_report_without_the_total() {
+fn vectors_report_without_once_and_the_total() {
     for path in tasks("report") {
         let report = whole_report(&read(&path), Price::BLOCKS);
         let (without, total) = split_total(&report);
+        let (without, once) = split_once(&without);
         let file = in_force(&path, "report");
         assert!(without == file, "{path:?}");
+        assert_eq!(once, once_of_points(&file), "{path:?}");
         assert_eq!(total, sum_of_costs(&file), "{path:?}");
     }
 }
 
-/// The file of the totals has a line for each case, in order, with the sum of the costs in the file in force, and no other line.
-#[test]
-fn vectors_totals() {
+/// Requires that a file has a line for each case, in order, with these numbers of the file in force, and no other line.
+fn assert_lines(file: &str, numbers: fn(&[u8]) -> Vec<u64>) {
     let line = |path: &PathBuf| {
         let name = path.file_stem().expect("a name").to_string_lossy();
-        let total = sum_of_costs(&in_force(path, "report"));
-        format!("{name} {total}\n")
+        line(&name, &numbers(&in_force(path, "report")))
     };
     let lines: String = tasks("report").iter().map(line).collect();
-    assert_eq!(lines, vectors::totals());
+    assert_eq!(lines, file);
+}
+
+/// The sum of the costs.
+#[test]
+fn vectors_totals() {
+    assert_lines(&vectors::totals(), |file| vec![sum_of_costs(file)]);
+}
+
+/// Once of each point.
+#[test]
+fn vectors_once() {
+    let points = |file: &[u8]| once_of_points(file).into_iter().map(u64::from).collect();
+    assert_lines(&vectors::once(), points);
 }

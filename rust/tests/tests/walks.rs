@@ -199,6 +199,9 @@ impl<'a> Search<'a> {
             let save = self.price.of(figure.high.saturating_sub(dead));
             let reload = self.price.of(need.saturating_sub(dead));
             let later = self.price.of(later);
+            // By the formula; the second implementation tries every occupancy.
+            let missing = figure.high.saturating_sub(dead.max(need));
+            let once = save + reload + missing.min(later + chain);
             *figure = PointFigures {
                 dead,
                 need,
@@ -208,6 +211,7 @@ impl<'a> Search<'a> {
                 chain,
                 cost: save + reload + later + chain,
                 fill,
+                once: (self.price == Price::BLOCKS).then_some(once),
                 ..*figure
             };
         }

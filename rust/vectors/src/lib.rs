@@ -6,7 +6,7 @@
 use std::fs;
 use std::path::{Path, PathBuf};
 
-/// A folder of cases: `refused`, `report` or `run`.
+/// A folder of cases: `refused`, `report`, `run` or `once`.
 pub fn folder(name: &str) -> PathBuf {
     Path::new(env!("CARGO_MANIFEST_DIR"))
         .join("../../vectors")
@@ -34,7 +34,7 @@ pub fn tasks(name: &str) -> Vec<PathBuf> {
     paths
 }
 
-/// The result of a task before request 4, in the file with this ending. No file of a report has the line with the total.
+/// The result of a task before request 4, in the file with this ending. No file of a report has once or the line with the total.
 pub fn original(task: &Path, ending: &str) -> Vec<u8> {
     read(&task.with_extension(ending))
 }
@@ -55,18 +55,38 @@ pub fn totals() -> String {
     read_text(&folder("report").join("totals"))
 }
 
-/// The report that is expected of a task: the one in force, with its total in a line before the last.
-pub fn expected(task: &Path) -> Vec<u8> {
+/// The file with once of every point of the reports, a line of name and numbers for each case.
+pub fn once() -> String {
+    read_text(&folder("report").join("once"))
+}
+
+/// What a file with a line for each case says of a task.
+fn of_case<'a>(file: &'a str, task: &Path) -> &'a str {
     let name = task.file_stem().and_then(|name| name.to_str());
     let name = name.expect("a case has a name");
-    let totals = totals();
-    let total = totals
-        .lines()
+    file.lines()
         .find_map(|line| line.strip_prefix(name)?.strip_prefix(' '))
-        .unwrap_or_else(|| panic!("no total of {name}"));
-    let report = in_force(task, "report");
-    let lines = report.strip_suffix(b")\n").expect("the last line");
-    [lines, format!("  (total {total})\n)\n").as_bytes()].concat()
+        .unwrap_or_else(|| panic!("no line of {name}"))
+}
+
+/// The report that is expected of a task in blocks: the one in force, with once at the end of the line of each point, and with its total in a line before the
+/// last.
+pub fn expected(task: &Path) -> Vec<u8> {
+    let report = String::from_utf8(in_force(task, "report")).expect("the file is text");
+    let (once, totals) = (once(), totals());
+    let mut once = of_case(&once, task).split(' ');
+    let total = of_case(&totals, task);
+    let line = |line: &str| match line.strip_suffix(')') {
+        Some("") => format!("  (total {total})\n)\n"),
+        Some(point) if point.starts_with("  (at ") => {
+            let once = once.next().expect("once of each point");
+            format!("{point} {once})\n")
+        }
+        _ => format!("{line}\n"),
+    };
+    let expected: String = report.lines().map(line).collect();
+    assert_eq!(once.next(), None, "once of no point");
+    expected.into_bytes()
 }
 
 /// The refused cases: the name, the text, the code and the place.
