@@ -141,15 +141,38 @@ fn event(rng: &mut Rng, rates: &Rates, follower: &mut Follower) -> [u32; 2] {
     [0, value]
 }
 
-/// Hands every event list of up to `length` events to `take`, each once: a step for each way on, a preemption, and as the last event also one
-/// that is refused. The numbers stored and left behind all differ.
-pub fn every_list(task: &Task, length: usize, take: &mut impl FnMut(&[u32])) {
-    extend(&Follower::fresh(task), &mut Vec::new(), length, take);
+/// How many events a list still gets at most, and how many preemptions are among them.
+#[derive(Clone, Copy)]
+pub struct More {
+    pub events: usize,
+    pub preemptions: usize,
 }
 
-fn extend(follower: &Follower, events: &mut Vec<u32>, more: usize, take: &mut impl FnMut(&[u32])) {
+impl More {
+    fn after_step(self) -> Self {
+        More {
+            events: self.events - 1,
+            ..self
+        }
+    }
+
+    fn after_preemption(self) -> Self {
+        More {
+            preemptions: self.preemptions - 1,
+            ..self.after_step()
+        }
+    }
+}
+
+/// Hands every event list of up to so many events and preemptions to `take`, each once: a step for each way on, a preemption, and as the last event also one
+/// that is refused. The numbers stored and left behind all differ.
+pub fn every_list(task: &Task, most: More, take: &mut impl FnMut(&[u32])) {
+    extend(&Follower::fresh(task), &mut Vec::new(), most, take);
+}
+
+fn extend(follower: &Follower, events: &mut Vec<u32>, more: More, take: &mut impl FnMut(&[u32])) {
     take(events);
-    if more == 0 {
+    if more.events == 0 {
         return;
     }
     let fresh = events.len() as u32 + 100;
@@ -162,12 +185,12 @@ fn extend(follower: &Follower, events: &mut Vec<u32>, more: usize, take: &mut im
         let mut next = follower.clone();
         next.step(value);
         with(events, [0, value], |events| {
-            extend(&next, events, more - 1, take);
+            extend(&next, events, more.after_step(), take);
         });
     }
-    if follower.point().is_some() {
+    if follower.point().is_some() && more.preemptions > 0 {
         with(events, [1, fresh], |events| {
-            extend(follower, events, more - 1, take);
+            extend(follower, events, more.after_preemption(), take);
         });
     }
     for &event in refused {

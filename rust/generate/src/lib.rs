@@ -19,6 +19,7 @@ pub use events::Lent;
 pub use prices::Price;
 pub use rng::Rng;
 
+use events::More;
 use model::Task;
 
 /// How a text was made.
@@ -210,8 +211,17 @@ fn small_of(name: &'static str, seed: u64, task: Task) -> Small {
 impl Small {
     /// Hands every event list of up to `length` events to `take`, each once: a step for each way on, a preemption, and as the last event also
     /// one that is refused.
-    pub fn every_list(&self, length: usize, mut take: impl FnMut(&[u32])) {
-        events::every_list(&self.task, length, &mut take);
+    pub fn every_list(&self, length: usize, take: impl FnMut(&[u32])) {
+        self.every_list_with(length, length, take);
+    }
+
+    /// The same, with at most so many preemptions that are done.
+    pub fn every_list_with(&self, preemptions: usize, length: usize, mut take: impl FnMut(&[u32])) {
+        let most = More {
+            events: length,
+            preemptions,
+        };
+        events::every_list(&self.task, most, &mut take);
     }
 
     /// What a run of this event list is lent.

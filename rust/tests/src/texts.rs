@@ -1,5 +1,7 @@
 //! Texts, event lists and prices that several tests use.
 
+use std::ops::Range;
+
 use generate::Price;
 
 /// A task of two functions in which the callee spills one block.
@@ -37,6 +39,25 @@ pub fn called(stack: usize, callees: &[(usize, &[&str])]) -> String {
     let mut points: Vec<&str> = calls.iter().flat_map(|call| [call, "ensure 0"]).collect();
     points.push("return");
     text(stack, &[&[(0, &points[..])], callees].concat())
+}
+
+/// A task of the most functions and points, 64 and 1,024. Function 0 has four blocks, each other one has one. Each of the functions 0 to 58 calls the next one for ever,
+/// function 59 calls the last four in turn, and these store their block once and load it for ever.
+pub fn largest() -> String {
+    let caller = |callees: Range<usize>, frame: usize| {
+        let call = |callee| format!("  (call {callee})\n  (ensure {frame})\n");
+        let calls: String = callees.map(call).collect();
+        format!("(func {frame}\n{calls}  (goto 0)\n)\n")
+    };
+    let mut text = String::from("(stack 64)\n");
+    text += &caller(1..2, 4);
+    text.extend((1..59).map(|number| caller(number + 1..number + 2, 1)));
+    text += &caller(60..64, 1);
+    for loads in [254, 254, 254, 68] {
+        let loads = "  (load 0)\n".repeat(loads);
+        text += &format!("(func 1\n  (store 0)\n{loads}  (goto 1)\n)\n");
+    }
+    text
 }
 
 /// The event list of `count` steps with this value.

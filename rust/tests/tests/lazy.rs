@@ -7,7 +7,7 @@ use std::fmt::Display;
 
 use generate::{Price, RunCase};
 use second::WORK_MIN;
-use tests::{all_done, run_both_at, steps, text, BothRan, Lent, TWO};
+use tests::{all_done, run_both_at, steps, text, BothRan, Lent, Named, TWO};
 
 /// The tasks of the random lists, of two kinds, and how many lists each has: 200,000 in all.
 const VALID: u64 = 14_000;
@@ -144,17 +144,6 @@ impl Counted {
         self.less += u64::from(ran.lazy_moves_less());
         self.refused += u64::from(result.ending.is_err());
         drop(named);
-    }
-}
-
-/// Prints the name of a case if its test fails before this is dropped.
-struct Named<'a, T: Display>(&'a T);
-
-impl<T: Display> Drop for Named<'_, T> {
-    fn drop(&mut self) {
-        if std::thread::panicking() {
-            eprintln!("case: {}", self.0);
-        }
     }
 }
 

@@ -2,14 +2,14 @@
 //! are worked out by hand, of one to eight digits, and in outputs that are too short for the line or for a part of it.
 
 use std::collections::{BTreeMap, BTreeSet};
-use std::ops::Range;
 
 use generate::{Case, Price};
 use second::figures::Displacement;
 use second::sheet::{Foot, Last};
 use second::WORK_MIN;
 use tests::{
-    called, deep, report_at, report_by, rows, split_total, sum_of_costs, text, whole_report, TWO,
+    called, deep, largest, report_at, report_by, rows, split_total, sum_of_costs, text,
+    whole_report, TWO,
 };
 
 /// How many generated texts of each kind have their totals compared, and how many of both kinds have them told from other sums.
@@ -255,27 +255,8 @@ fn totals_of_many_functions() {
     }
 }
 
-/// A task of 64 functions and 1,024 points. Function 0 has four blocks, each other one has one. Each of the functions 0 to 58 calls the next one for ever,
-/// function 59 calls the last four in turn, and these store their block once and load it for ever.
-fn most() -> String {
-    let caller = |callees: Range<usize>, frame: usize| {
-        let call = |callee| format!("  (call {callee})\n  (ensure {frame})\n");
-        let calls: String = callees.map(call).collect();
-        format!("(func {frame}\n{calls}  (goto 0)\n)\n")
-    };
-    let mut text = String::from("(stack 64)\n");
-    text += &caller(1..2, 4);
-    text.extend((1..59).map(|number| caller(number + 1..number + 2, 1)));
-    text += &caller(60..64, 1);
-    for loads in [254, 254, 254, 68] {
-        let loads = "  (load 0)\n".repeat(loads);
-        text += &format!("(func 1\n  (store 0)\n{loads}  (goto 1)\n)\n");
-    }
-    text
-}
-
-/// The total of this task, function by function. Function N has 3 + N blocks of callers, which are saved, and at each point its own block is to be filled.
-/// At a load of the last four functions 64 blocks are saved, and one comes back.
+/// The total of the largest task, function by function. Function N has 3 + N blocks of callers, which are saved, and at each point its own block is to be
+/// filled. At a load of the last four functions 64 blocks are saved, and one comes back.
 #[test]
 fn a_total_of_eight_digits() {
     let chain = |number: u64| dearest(4) + (number - 1) * dearest(1);
@@ -285,7 +266,7 @@ fn a_total_of_eight_digits() {
     let store = dearest(63) + chain(60);
     let load = dearest(64) + dearest(1) + chain(60);
     let total = first + callers + 9 * caller(59) + 4 * store + (1_024 - 3 * 59 - 9 - 4) * load;
-    let text = most();
+    let text = largest();
     let report = whole_report(text.as_bytes(), DEAREST);
     let lines = rows(&report);
     let points = lines.iter().filter(|(word, _)| *word == "at");

@@ -9,7 +9,8 @@ use second::sheet::{Foot, Last};
 use second::WORK_MIN;
 use tests::{
     func_lines, is_noise_from, once_of, prices, report, report_at, report_by, run, run_at,
-    run_both_at, run_by, split_once, split_total, sum_of_costs, verdict, whole_report, Lent,
+    run_both_at, run_by, split_once, split_total, sum_of_costs, verdict, whole_report, Allowed,
+    Lent,
 };
 use vectors::{amended, expected, in_force, original, read, read_text, tasks};
 
@@ -55,7 +56,8 @@ fn vectors_refused() {
 fn vectors_accepted() {
     let mut tasks = vectors::tasks("report");
     tasks.extend(vectors::tasks("run"));
-    assert_eq!(tasks.len(), 155);
+    tasks.extend(vectors::tasks("once"));
+    assert_eq!(tasks.len(), 161);
     for path in tasks {
         assert_eq!(verdict(read(&path)), (0, 0), "{}", path.display());
     }
@@ -183,6 +185,34 @@ fn vectors_run_lazy() {
         less += usize::from(numbers[3] < case.result[3]);
     }
     assert_eq!(less, 12);
+}
+
+/// Runs with one preemption among the events done. They move all that the sheet allows with once of its point, which is less than it allows with the cost. On the
+/// core with a lazy pointer some of them move less.
+#[test]
+fn vectors_run_once() {
+    let tasks = tasks("once");
+    assert_eq!(tasks.len(), 6);
+    let mut less = 0;
+    for case in tasks.iter().map(|path| RunVector::of(path)) {
+        let ran = run_both_at(
+            &case.text,
+            Price::BLOCKS,
+            &case.events,
+            &case.lent,
+            WORK_MIN,
+        );
+        assert_eq!(ran.eager.result.numbers()[..], case.result, "{}", case.name);
+        assert_eq!(ran.eager.lent, case.back, "{}", case.name);
+        let sheet = func_lines(&whole_report(&case.text, Price::BLOCKS));
+        let allowed = Allowed::of(&sheet, &case.text, &case.events);
+        assert_eq!(allowed.preemptions, 1, "{}", case.name);
+        assert_eq!(case.result[3], allowed.with_once(), "{}", case.name);
+        assert_eq!(case.result[4], allowed.with_cost(), "{}", case.name);
+        assert!(case.result[3] < case.result[4], "{}", case.name);
+        less += usize::from(ran.lazy_moves_less());
+    }
+    assert_eq!(less, 2);
 }
 
 /// A price that fits changes nothing but moved and allowed.
