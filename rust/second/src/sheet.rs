@@ -16,7 +16,7 @@ pub fn report(text: &[u8], start: u32, each: u32, work_len: usize, out: &mut [u8
 pub enum Last {
     /// The fill, as before request 7 and at every other price.
     Fill,
-    /// What moves because of the only preemption of a run.
+    /// The bound on what moves because of the only preemption of a run.
     Once,
 }
 

@@ -41,8 +41,8 @@ pub fn called(stack: usize, callees: &[(usize, &[&str])]) -> String {
     text(stack, &[&[(0, &points[..])], callees].concat())
 }
 
-/// A task of the most functions and points, 64 and 1,024. Function 0 has four blocks, each other one has one. Each of the functions 0 to 58 calls the next one for ever,
-/// function 59 calls the last four in turn, and these store their block once and load it for ever.
+/// A task of the most functions and points, 64 and 1,024. Function 0 has four blocks, each other one has one. Each of the functions 0 to 58 calls the next one
+/// for ever, function 59 calls the last four in turn, and these store their block once and load it for ever.
 pub fn largest() -> String {
     let caller = |callees: Range<usize>, frame: usize| {
         let call = |callee| format!("  (call {callee})\n  (ensure {frame})\n");

@@ -53,19 +53,19 @@ const MOST_BYTES: usize = 63_967;
 const MOST_LINE: usize = 52;
 
 /// A task and the lines of its report in blocks.
-struct Sheeted<'a> {
+struct TaskSheet<'a> {
     text: &'a [u8],
     sheet: Vec<FuncLines>,
 }
 
-impl<'a> Sheeted<'a> {
+impl<'a> TaskSheet<'a> {
     fn of(text: &'a [u8]) -> Self {
         let sheet = func_lines(&whole_report(text, Price::BLOCKS));
-        Sheeted { text, sheet }
+        TaskSheet { text, sheet }
     }
 }
 
-/// How many runs there are, and in how many of them once says more than the cost.
+/// How many runs there are, and in how many of them once is less than the cost, or reached, or both.
 #[derive(Debug, Default)]
 struct Counted {
     runs: u64,
@@ -120,7 +120,7 @@ struct Runs {
 impl Runs {
     /// Runs a list in blocks on both cores, in both implementations. Requires that moved is at most the spills and fills of the sheet and once of each point
     /// preempted at, and that allowed is the same with cost.
-    fn run(&mut self, case: &impl Display, task: &Sheeted, events: &[u32], lent: &Lent) {
+    fn run(&mut self, case: &impl Display, task: &TaskSheet, events: &[u32], lent: &Lent) {
         let named = format!("{case} {events:?}");
         let shown = Named(&named);
         let allowed = Allowed::of(&task.sheet, task.text, events);
@@ -174,7 +174,7 @@ fn every_list_of_small_tasks() {
     let mut runs = Runs::default();
     for seed in 0..SMALL {
         let small = generate::small(seed + 2_000_000, POINTS);
-        let task = Sheeted::of(&small.text);
+        let task = TaskSheet::of(&small.text);
         small.every_list(EVENTS, |events| {
             let lent = lent_for(events, &small.lent(events));
             runs.run(&small, &task, events, &lent);
@@ -198,7 +198,7 @@ fn every_list_of_small_tasks() {
 
 /// Runs every event list of up to so many events with one preemption. The last event may be a refused one.
 fn run_every_list_with_one(runs: &mut Runs, small: &Small, events: usize) {
-    let task = Sheeted::of(&small.text);
+    let task = TaskSheet::of(&small.text);
     small.every_list_with(1, events, |events| {
         if preemptions(events) == 1 {
             let lent = lent_for(events, &small.lent(events));
@@ -272,7 +272,7 @@ fn rows_of_three(stack: usize) -> Vec<String> {
 /// Runs every list with one preemption of a task without branches: so many steps before it and so many behind it, up to one past the finish, and then an event
 /// of an unknown kind or none.
 fn run_at_every_place(runs: &mut Runs, text: &str, stack: usize) {
-    let task = Sheeted::of(text.as_bytes());
+    let task = TaskSheet::of(text.as_bytes());
     let plain = plain::run(task.text, &steps(20, 5)).expect("an accepted text");
     assert!(plain.ending.is_err(), "a finish in 20 steps");
     let most = plain.done as usize + 1;
@@ -311,7 +311,7 @@ fn every_list_of_every_row_of_three() {
 #[test]
 fn lists_of_two() {
     let at_ensure = [steps(5, 3), vec![1, LEFT]].concat();
-    let task = Sheeted::of(TWO.as_bytes());
+    let task = TaskSheet::of(TWO.as_bytes());
     for (events, numbers) in [
         (steps(7, 3), [2, 2, 2]),
         (
@@ -363,7 +363,7 @@ fn with_one_preemption(text: &[u8], case: &RunCase) -> Vec<Vec<u32>> {
 fn random(name: &str, cases: impl Iterator<Item = Vec<RunCase>>) -> Runs {
     let mut runs = Runs::default();
     for lists in cases {
-        let task = Sheeted::of(&lists[0].text);
+        let task = TaskSheet::of(&lists[0].text);
         for case in &lists {
             let events = case.lent.events.clone();
             for events in [vec![events], with_one_preemption(task.text, case)].concat() {
@@ -476,14 +476,16 @@ fn other_formulas(at: &PointFigures) -> [(&'static str, u32); 16] {
     ]
 }
 
-/// Once is its formula and at most the cost. Each other formula differs at one of two hundred points or more.
+/// Once is its formula and at most the cost. Each other formula differs at one of two hundred points or more. No line has more bytes than the most.
 #[test]
 fn once_is_its_formula_and_no_other() {
     let (mut points, mut less) = (0, 0);
     let mut told = BTreeMap::new();
     for (case, text) in texts(FORMULAS) {
-        let sheet = func_lines(&whole_report(&text, Price::BLOCKS));
-        for at in sheet.iter().flat_map(|func| &func.points) {
+        let report = whole_report(&text, Price::BLOCKS);
+        let longest = line_lengths(&report).into_iter().max();
+        assert!(longest <= Some(MOST_LINE), "{case}: {longest:?}");
+        for at in func_lines(&report).iter().flat_map(|func| &func.points) {
             let once = once_of(at);
             assert_eq!(at.once, Some(once), "{case}: {at:?}");
             assert!(once <= at.cost, "{case}: {at:?}");
@@ -615,8 +617,8 @@ fn line_lengths(report: &[u8]) -> Vec<usize> {
         .collect()
 }
 
-/// Requires that a task of 1,024 points has lines and a report of no more bytes than the most, in blocks and at the largest prices, and is refused in outputs that
-/// are too short. Gives the bytes of its lines in blocks.
+/// Requires that a task of 1,024 points has lines and a report of no more bytes than the most, in blocks and at the largest prices, and is refused in outputs
+/// that are too short. Gives the bytes of its lines in blocks.
 fn assert_1024_points(task: &str) -> Vec<usize> {
     let text = task.as_bytes();
     for price in [Price::BLOCKS, DEAREST] {
@@ -639,11 +641,10 @@ fn assert_1024_points(task: &str) -> Vec<usize> {
 fn most_bytes() {
     let text = widest();
     let lengths = assert_1024_points(&text);
-    let longest = lengths.iter().copied().max();
-    let longest = longest.expect("a line");
-    let of_this = lengths.iter().filter(|&&length| length == longest).count();
     let line = "  (at 100 64 10 20 54 10 10 34 108 0 108)\n";
-    assert_eq!((longest, of_this), (line.len(), 3 * 154));
+    let longest = |&&length: &&usize| length == line.len();
+    assert_eq!(lengths.iter().max(), Some(&42));
+    assert_eq!(lengths.iter().filter(longest).count(), 3 * 154);
     let report = String::from_utf8(whole_report(text.as_bytes(), Price::BLOCKS));
     assert!(report.expect("a report is text").contains(line));
     assert_1024_points(&largest());

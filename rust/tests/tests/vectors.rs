@@ -187,8 +187,8 @@ fn vectors_run_lazy() {
     assert_eq!(less, 12);
 }
 
-/// Runs with one preemption among the events done. They move all that the sheet allows with once of its point, which is less than it allows with the cost. On the
-/// core with a lazy pointer some of them move less.
+/// Runs with one preemption among the events done. They move all that the sheet allows with once of its point, which is less than it allows with the cost. On
+/// the core with a lazy pointer some of them move less.
 #[test]
 fn vectors_run_once() {
     let tasks = tasks("once");
