@@ -354,6 +354,29 @@ fn press_charges_the_callers() {
     assert_eq!(chained, 18);
 }
 
+/// What examples/README.md says of a slot with one preemption: at the ensure of function 1 once is below the cost, and a run costs as much.
+#[test]
+fn press_with_one_preemption() {
+    let (task, _) = shipped("press");
+    let figures = point_figures(&task);
+    let less = figures
+        .iter()
+        .filter(|point| point.once < Some(point.cost))
+        .count();
+    assert_eq!(less, 4);
+    let ensure = &figures[12 + 3];
+    assert_eq!((ensure.once, ensure.cost), (Some(12), 15));
+    let most = figures.iter().map(|point| (point.once, point.cost)).max();
+    assert_eq!(most, Some((Some(23), 23)));
+    // To that ensure through the branch of function 1; from there to the point behind the ensure of function 0.
+    let before = steps(11, 0);
+    let after = steps(4, 0);
+    let undisturbed = run_like_plain(&task, 12, 17, &[&before[..], &after].concat());
+    let preempted = run_like_plain(&task, 12, 17, &[&before[..], &[1, 5], &after].concat());
+    assert_eq!((undisturbed.moved, preempted.moved), (2, 14));
+    assert_eq!((undisturbed.allowed, preempted.allowed), (4, 19));
+}
+
 /// What examples/README.md says of the wrapper: its two sheets.
 #[test]
 fn wrapper_costs_less_by_whole_walks() {
