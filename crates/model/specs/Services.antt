@@ -81,7 +81,7 @@ abbrev pub reportOf : List ℕ → ℕ → ℕ → List ℕ → List ℕ → Aft
 reportOf text start each work output =
     writtenOf (pricedRows (length work) start each) (reportText (countsBlocks start each) (movePrice start each)) text work output
 
--- the report of document 01: in blocks, and without row 23
+-- the report of document 01, with once and the total: in blocks, and without row 23
 abbrev pub blocksReportOf : List ℕ → List ℕ → List ℕ → AfterWrite
 blocksReportOf text work output = writtenOf (workRow (length work)) (reportText true inBlocks) text work output
 

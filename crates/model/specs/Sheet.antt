@@ -8,7 +8,7 @@ use Rattle.model.specs.Text.{bytes}
 use Rattle.model.specs.Task.{Task, func, size, count}
 use Rattle.model.specs.Figures as Figures
 
--- the figures of a point: all that a line of the report shows of it but its number
+-- the figures of a point: all that a line of the report shows of it but for its number and once, which follows from them
 pub record PointSheet : Type 0 where
   pub high : ℕ
   pub dead : ℕ

@@ -16,16 +16,17 @@ use Rattle.model.specs.declared.Point.{Point}
 use Rattle.model.specs.declared.Point.the-variants.{Load, Store, Call, Ensure, Goto, Either, Return}
 use Rattle.model.specs.declared.Refusal.{Refusal}
 use Rattle.model.specs.Basic.{sumOf}
-use Rattle.model.specs.Task.{Task, Judged, refused, task, count, func, point}
+use Rattle.model.specs.Task.{Task, Judged, refused, task, size, count, func, point}
 use Rattle.model.specs.Core.{Core, Clean, written, effective, savedFrom, saveMoves, resumed, resumeMoves, reserve, free, ensure, store, save, resume, filledWith, idle}
-use Rattle.model.specs.Sheet.{Sheet, movePrice, inBlocks, costed, sheetWith, onceOf, charging, chargingOnce, sheetOf}
-use Rattle.model.specs.Refusal.{pricedRows, eventRows}
+use Rattle.model.specs.Sheet.{PointSheet, Sheet, movePrice, inBlocks, costed, sheetWith, onceOf, charging, chargingOnce, pricedSheet, sheetOf}
+use Rattle.model.specs.Refusal.{judged, pricedRows, eventRows}
 use Rattle.model.specs.Plain.{Event, Act, takes, preempted, act, Frame, firstFrames, running, stepped, afterEvent, eventsOf}
 use Rattle.model.specs.Run.{Place, Turn, Ran, stepTurn, preemptTurn, turn, orRan, ranFrom, ran, stepBound, eventBound, orBound, allowedFrom, allowed}
 use Rattle.model.specs.Preemptions.{preemptedAt, orPreempted, preemptionsFrom, preemptions, spillsAndFills}
 use Rattle.model.specs.Services.{cleared, runJudged, runAs, runWith, runOf, PaysOnce}
 use Rattle.model.specs.WellFormed.{WellFormed}
-use Rattle.theory.specs.Sound.{Sound}
+use Rattle.theory.specs.Sound.{Price, Sound}
+use Rattle.theory.specs.Displacement.{NoHigher, sheetBefore}
 use Rattle.theory.specs.Cores.{eagerly}
 use Rattle.theory.proofs.Lists.{sum-append}
 use Rattle.theory.proofs.Blocks.{length-filled}
@@ -36,6 +37,7 @@ use Rattle.theory.proofs.Occupancy.{Occupied}
 use Rattle.theory.proofs.Potential.{potential, paid, potential-start, save-covers, reload-covers, left-delayed}
 use Rattle.theory.proofs.Fair.{Running, fair-step, fair-preempt, runs-start, state-is}
 use Rattle.theory.proofs.Lawful.{sound}
+use Rattle.theory.proofs.Before.{never-rises}
 use Rattle.theory.proofs.Prices.{counted-price, moves-blocks}
 use Rattle.theory.proofs.Faithful.{run-accepted}
 use Rattle.theory.proofs.Cores.{less-moved}
@@ -46,8 +48,8 @@ use Rattle.theory.proofs.Cores.{less-moved}
 pub record Fewer (a b : Core) : Type 0 where
   pub sizes : length (a .cache) ≡ length (b .cache)
   pub fewer : a .occupancy ≤ b .occupancy
-  pub left : a .eviction ≡ Eager
-  pub right : b .eviction ≡ Eager
+  pub first-eager : a .eviction ≡ Eager
+  pub second-eager : b .eviction ≡ Eager
 
 -- an eager core writes back all that is cached
 all-written : (c : Core) → c .eviction ≡ Eager → effective c ≡ c .occupancy
@@ -59,7 +61,7 @@ pub record Closer (gap : ℕ) (u v : Turn) : Type 0 where
   pub next : Fewer (u .state .core) (v .state .core)
   pub moves : u .out + u .back + (v .state .core .occupancy - u .state .core .occupancy) ≤ v .out + v .back + gap
 
--- a preemption of m and of n blocks, of which e and f stay and a and b are there again behind it
+-- a preemption of m and of n blocks: e and f of them are not written back, and a and b are cached after it
 preempt-gap : (m n e f a b : ℕ) → m ≤ n → e ≤ m → f ≤ n → e ≤ a → f ≤ b → a ≤ b → m + f ≤ n + e
     → m - e + (a - e) + (b - a) ≤ n - f + (b - f) + (n - m)
 preempt-gap m n e f a b h i j k l o p = omega arith
@@ -87,19 +89,19 @@ closer-step : (t : Task) (f p : ℕ) (fs : List Frame) (a b : Core) (y : Point) 
 unfolding reserve free ensure store
 closer-step t f p fs a b (Load o) v h = record { next = h; moves = omega arith }
 closer-step t f p fs a b (Store o) v h =
-    record { next = record { sizes = simp length-set (h .sizes); fewer = h .fewer; left = h .left; right = h .right }; moves = omega arith }
+    record { next = record { sizes = simp length-set (h .sizes); fewer = h .fewer; first-eager = h .first-eager; second-eager = h .second-eager }; moves = omega arith }
 closer-step t f p fs a b (Call g) v h =
     record {
-      next = record { sizes = h .sizes; fewer = omega (arith, h .sizes, h .fewer); left = h .left; right = h .right };
-      moves = omega (arith, h .sizes, h .fewer, all-written a (h .left), all-written b (h .right));
+      next = record { sizes = h .sizes; fewer = omega (arith, h .sizes, h .fewer); first-eager = h .first-eager; second-eager = h .second-eager };
+      moves = omega (arith, h .sizes, h .fewer, all-written a (h .first-eager), all-written b (h .second-eager));
     }
 closer-step t f p fs a b (Ensure k) v h =
     record {
       next = record {
         sizes = length-filled (a .cache) (a .memory) _ _ ∙ h .sizes ∙ sym (length-filled (b .cache) (b .memory) _ _);
         fewer = omega (arith, h .fewer);
-        left = h .left;
-        right = h .right;
+        first-eager = h .first-eager;
+        second-eager = h .second-eager;
       };
       moves = omega (arith, h .fewer);
     }
@@ -107,7 +109,7 @@ closer-step t f p fs a b (Goto q) v h = record { next = h; moves = omega arith }
 closer-step t f p fs a b (Either q r) v h = record { next = h; moves = omega arith }
 closer-step t f p fs a b Return v h =
     record {
-      next = record { sizes = h .sizes; fewer = omega (arith, h .fewer); left = h .left; right = h .right };
+      next = record { sizes = h .sizes; fewer = omega (arith, h .fewer); first-eager = h .first-eager; second-eager = h .second-eager };
       moves = omega (arith, h .fewer);
     }
 
@@ -118,17 +120,17 @@ closer-turn t s [] a b e h = record { next = h; moves = omega arith }
 closer-turn t s (x ∷ fs) a b (takes v) h = closer-step t (x .fn) (x .at) fs a b (point (func t (x .fn)) (x .at)) v h
 closer-turn t s (x ∷ fs) a b (preempted v) h =
     let y = s .at (x .fn) (x .at) in
-    let left : (c : Core) → length (filledWith v c) ≡ length (c .cache) = λ c. length-replicate (length (c .cache)) v in
+    let filled-size : (c : Core) → length (filledWith v c) ≡ length (c .cache) = λ c. length-replicate (length (c .cache)) v in
     record {
       next = record {
         sizes =
-            length-filled (filledWith v a) _ _ _ ∙ left a ∙ h .sizes ∙ sym (left b) ∙ sym (length-filled (filledWith v b) _ _ _);
+            length-filled (filledWith v a) _ _ _ ∙ filled-size a ∙ h .sizes ∙ sym (filled-size b) ∙ sym (length-filled (filledWith v b) _ _ _);
         fewer = there-more (a .occupancy) (b .occupancy) (max (y .dead) (y .need)) (h .fewer);
-        left = h .left;
-        right = h .right;
+        first-eager = h .first-eager;
+        second-eager = h .second-eager;
       };
       moves =
-          rw (all-written a (h .left), all-written b (h .right))
+          rw (all-written a (h .first-eager), all-written b (h .second-eager))
           (closer-preempt (a .occupancy) (b .occupancy) (y .dead) (y .need) (h .fewer));
     }
 
@@ -175,6 +177,20 @@ pub once-tighter : (price : ℕ → ℕ) (t : Task) (d : ℕ → ℕ) (dead need
 unfolding onceOf costed
 once-tighter price t d dead need f p = omega arith
 
+once-mono : (s z r k h g d m : ℕ) → s ≤ z → h ≤ g → s + r + min k (h - max d m) ≤ z + r + min k (g - max d m)
+once-mono s z r k h g d m a b = omega arith
+
+once-less : (a b : PointSheet) → NoHigher a b → onceOf a ≤ onceOf b
+unfolding onceOf
+once-less a b h =
+    rw (h .reload, h .later, h .chain, h .dead, h .need)
+    (once-mono (a .save) (b .save) (b .reload) (b .later + b .chain) (a .high) (b .high) (b .dead) (b .need) (h .save) (h .high))
+
+-- with d by whole walks it is at most that by the rule before request 4
+pub once-never-rises : (text : List ℕ) (t : Task) → judged text ≡ task t → (price : ℕ → ℕ) → Price price → (f p : ℕ) → f < count t → p < size (func t f)
+    → onceOf (pricedSheet price t .at f p) ≤ onceOf (sheetBefore price t .at f p)
+once-never-rises text t e price c f p l m = once-less _ _ (never-rises text t e price c .at f p l m)
+
 -- a step is allowed the same, whatever a preemption costs
 step-charged : (s : Sheet) (cost : ℕ → ℕ → ℕ) (f p : ℕ) (y : Point) → stepBound (charging cost s) f p y ≡ stepBound s f p y
 step-charged s cost f p (Load o) = refl
@@ -185,7 +201,7 @@ step-charged s cost f p (Goto q) = refl
 step-charged s cost f p (Either q r) = refl
 step-charged s cost f p Return = refl
 
--- a step leaves the core as it writes back
+-- a step keeps the eviction of the core
 eviction-stays : (t : Task) (f p : ℕ) (fs : List Frame) (c : Core) (y : Point) (v : ℕ) → stepTurn t f p (places fs) c y v .state .core .eviction ≡ c .eviction
 unfolding reserve free ensure store
 eviction-stays t f p fs c (Load o) v = refl
@@ -243,15 +259,15 @@ module _ (t : Task) (s : Sheet) (w : WellFormed t) (r : Sound t s) (counted : s 
       let n = length-replicate (length (c .cache)) v in
       let f = fair-preempt t s w r x fs c (filledWith v c) (n ∙ k .window .blocks) j b k in
       let less : Fewer (u .state .core) c =
-      record { sizes = length-filled (filledWith v c) _ _ _ ∙ n; fewer = omega arith; left = e; right = e } in
+      record { sizes = length-filled (filledWith v c) _ _ _ ∙ n; fewer = omega arith; first-eager = e; second-eager = e } in
       let after = rest (x ∷ fs) (u .state .core) (f .runs) e in
       let without = rest (x ∷ fs) c k e in
       let near = closer t s counted i es (x ∷ fs) (u .state .core) c less in
-      let left = left-delayed t s w r x fs (c .occupancy) (y .dead) b (k .window .needed) in
+      let delayed-few = left-delayed t s w r x fs (c .occupancy) (y .dead) b (k .window .needed) in
       let gap = gap-covers (c .occupancy) (y .dead) (y .need) (y .high) (k .occupied .here .high) in
       once-sum _ _ _ _ _ _ _ _ _ _ _ _ _
       (r .price .more _ _ (save-covers (c .occupancy) (effective c) (y .dead) (y .high) (effective-between c (k .clean) .1) (k .occupied .here .high)))
-      (r .price .more _ _ (reload-covers (c .occupancy) (y .dead) (y .need))) after left near without gap
+      (r .price .more _ _ (reload-covers (c .occupancy) (y .dead) (y .need))) after delayed-few near without gap
       (once-pays x j)
 
   -- from every state that a run can be in

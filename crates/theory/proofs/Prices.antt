@@ -63,7 +63,7 @@ rows-blocks work = go (workRow work)
     go none = refl
     go (some r) = refl
 
--- the report and the run are those of document 01, for every text and every buffer
+-- the report, with once and the total, and the run are those of document 01, for every text and every buffer
 pub report-blocks : (text work output : List ℕ) → reportOf text 0 1 work output ≡ blocksReportOf text work output
 report-blocks text work output =
     λ i. writtenOf (rows-blocks (length work) i) (reportText true (moves-blocks i)) text work output
