@@ -6,20 +6,21 @@ use mathlib.Core.Path.{_≡_, refl}
 use mathlib.Core.List.{List, [], _∷_, _++_}
 use lib.ListN.{replicate}
 use Rattle.model.specs.declared.Row.the-variants.{WorkTooSmall, PriceRange, TextTooLong, Form, StackSize, FrameSize, Offset, TooMany, Callee, Pairing}
-use Rattle.model.specs.declared.Row.the-variants.{Target, LastPoint, Unreachable, Uncalled, Uninitialised, AnswersTooSmall}
+use Rattle.model.specs.declared.Row.the-variants.{Target, LastPoint, Unreachable, Uncalled, Uninitialised, EventList, AnswersTooSmall}
 use Rattle.model.specs.declared.Row.the-variants.{OutputTooSmall, MemoryTooSmall, AfterFinish, Kind, Choice}
-use Rattle.model.specs.declared.Eviction.the-variants.{Eager}
+use Rattle.model.specs.declared.Eviction.the-variants.{Eager, Lazy}
+use Rattle.model.specs.declared.Verdict.the-variants.{Accepted}
 use Rattle.model.specs.declared.Verdict.the-variants as verdict
 use Rattle.model.specs.declared.Ending.the-variants.{AllDone, Refused}
 use Rattle.model.specs.declared.RunResult.{RunResult}
 use Rattle.model.specs.Text.{bytes}
-use Rattle.model.specs.Task.{Task, Judged, refused, task}
+use Rattle.model.specs.Task.{Task, without, Judged, refused, task}
 use Rattle.model.specs.Figures.{shortest}
 use Rattle.model.specs.Sheet.{movePrice, inBlocks, pricedSheet, sheetOf, onceOf, chargingOnce, recordsOf, totalOf, reportText}
 use Rattle.model.specs.Dearest.{dearestText}
 use Rattle.model.specs.Rows.{refuse}
 use Rattle.model.specs.Refusal.{judged, workRow, pricedRows, judge, noRows}
-use Rattle.model.specs.Plain.{eventsOf}
+use Rattle.model.specs.Plain.{eventsOf, plain}
 use Rattle.model.specs.Run.{Place, allowed}
 use Rattle.model.specs.Preemptions.{preemptions, spillsAndFills}
 use Rattle.model.specs.Services.{reportOf, dearestOf, runOf}
@@ -36,11 +37,13 @@ spaceAfter = replicate 16384 0
 -- the task of an accepted text
 abbrev pub the : Judged → Task
 the (task t) = t
-the (refused r) = record { stack = 0; funcs = [] }
+the (refused r) = without
 
 -- refusals 2 to 13
 pub refusals :
-    (judged (lines ([])) ≡ refused (refuse Form 1))
+    (judged (lines ([])) ≡ task without)
+    × (judged (lines ("" ∷ [])) ≡ refused (refuse Form 1))
+    × (judged (lines ("(stack 1)" ∷ [])) ≡ refused (refuse Form 2))
     × (judged (bytes "(stack 1)") ≡ refused (refuse Form 1))
     × (judged (bytes "(st") ≡ refused (refuse Form 1))
     × (judged (lines ("(stack 65)" ∷ "(stack 16)" ∷ "(func 4" ∷ [])) ≡ refused (refuse StackSize 1))
@@ -72,7 +75,7 @@ pub refusals :
     × (judged (lines ("(stack 16)" ∷ "(func 6" ∷ "  (store 3)" ∷ "  (store 2)" ∷ "  (store 0)" ∷ "  (load 1)"
     ∷ "  (either 1 5)" ∷ "  (return)" ∷ ")" ∷ [])) ≡ refused (refuse Uninitialised 6))
 unfolding opened lines sample
-refusals = (refl, refl, refl, refl, refl, refl, refl, refl, refl, refl, refl, refl, refl, refl)
+refusals = (refl, refl, refl, refl, refl, refl, refl, refl, refl, refl, refl, refl, refl, refl, refl, refl)
 
 -- reports: loops and branches; calls in a row; a chain of calls in a small cache
 pub reports :
@@ -320,3 +323,37 @@ pub dearestSaves :
     ≡ lines ("(dear 0 1 6)" ∷ "(dear 0 4 5)" ∷ "(dear 0 2 4)" ∷ "(dear 0 0 0)" ∷ "(dear 0 3 0)" ∷ "(dear 0 5 0)" ∷ []))
 unfolding opened lines
 dearestSaves = (refl, refl)
+
+-- a task without a stack: its report, its list of no line, runs of no event and of an event on either core and any cache and
+-- memory, and rows 16 and 17
+pub withoutStack :
+    (reportOf [] 0 1 space (replicate 30 7)
+    ≡ record {
+      result = record { verdict = Accepted; written = 22 };
+      work = spaceAfter;
+      output = lines ("(report" ∷ "  (total 0)" ∷ ")" ∷ []) ++ replicate 8 7;
+    })
+    × (reportOf [] 0 1 space (replicate 21 7) .result ≡ record { verdict = verdict.Refused (refuse OutputTooSmall 22); written = 0 })
+    × (reportOf [] 256 1 space [] .result ≡ record { verdict = verdict.Refused (refuse PriceRange 0); written = 0 })
+    × (dearestOf [] 0 1 space [] .result ≡ record { verdict = Accepted; written = 0 })
+    × (runOf Eager [] 0 1 space [] [] (6 ∷ 6 ∷ []) (8 ∷ [])
+    ≡ record {
+      result = record { ending = AllDone; done = 0; moved = 0; allowed = 0 };
+      work = spaceAfter;
+      answers = [];
+      cache = 6 ∷ 6 ∷ [];
+      memory = 8 ∷ [];
+    })
+    × (runOf Lazy [] 0 1 space (1 ∷ 3 ∷ 0 ∷ 0 ∷ []) (5 ∷ 5 ∷ []) [] []
+    ≡ record {
+      result = record { ending = Refused (refuse AfterFinish 0); done = 0; moved = 0; allowed = 0 };
+      work = spaceAfter;
+      answers = 5 ∷ 5 ∷ [];
+      cache = [];
+      memory = [];
+    })
+    × (runOf Eager [] 0 1 space (1 ∷ []) [] [] [] .result .ending ≡ Refused (refuse EventList 0))
+    × (runOf Eager [] 0 1 space (1 ∷ 1 ∷ []) [] [] [] .result .ending ≡ Refused (refuse AnswersTooSmall 1))
+    × (plain without (eventsOf (1 ∷ 1 ∷ [])) ≡ record { ending = Refused (refuse AfterFinish 0); done = 0; answers = [] })
+unfolding opened lines
+withoutStack = (refl, refl, refl, refl, refl, refl, refl, refl, refl)

@@ -4,7 +4,7 @@ use Prim.Native.String.{String}
 use mathlib.Core.Path.{_≡_, refl}
 use mathlib.Core.List.{List, [], _∷_, _++_}
 use lib.ListN.{replicate}
-use Rattle.model.specs.declared.Row.the-variants.{Form, StackSize, FrameSize, Offset}
+use Rattle.model.specs.declared.Row.the-variants.{StackSize, FrameSize, Offset}
 use Rattle.model.specs.declared.Verdict.the-variants.{Accepted}
 use Rattle.model.specs.declared.Verdict.the-variants as verdict
 use Rattle.model.specs.declared.Ending.the-variants.{AllDone}
@@ -115,7 +115,7 @@ pub starred :
       memory = 8 ∷ 22 ∷ 6 ∷ 6 ∷ 6 ∷ 6 ∷ 11 ∷ [];
     })
     × (sampleRun Eager [] .result ≡ record { ending = AllDone; done = 0; moved = 0; allowed = 0 })
-    × (verdictOn [] ≡ record { verdict = verdict.Refused (refuse Form 1); work = spaceAfter })
+    × (verdictOn [] ≡ record { verdict = Accepted; work = spaceAfter })
     × (verdictOn ("(stack 65)" ∷ []) ≡ record { verdict = verdict.Refused (refuse StackSize 1); work = spaceAfter })
     × (verdictOn ("(stack 5)" ∷ "(func 5" ∷ "  (return)" ∷ ")" ∷ []) ≡ record { verdict = Accepted; work = spaceAfter })
     × (verdictOn ("(stack 5)" ∷ "(func 6" ∷ "  (return)" ∷ ")" ∷ [])

@@ -11,7 +11,7 @@ use Rattle.model.specs.declared.Refusal.{Refusal}
 use Rattle.model.specs.declared.Ending.{Ending}
 use Rattle.model.specs.declared.Ending.the-variants.{AllDone, Refused}
 use Rattle.model.specs.Basic.{if_then_else_}
-use Rattle.model.specs.Task.{Task, func, point}
+use Rattle.model.specs.Task.{Task, func, point, stackless}
 use Rattle.model.specs.Refusal.{eventRows}
 
 -- an event: kind 0 takes a step, kind 1 preempts
@@ -100,9 +100,13 @@ plainFrom t i fs (e ∷ es) =
     (answerOf t fs (act e))
     (plainFrom t (suc i) (afterEvent t fs (act e)) es)
 
--- at the start function 0 has been entered, its frame all zeros
+-- function 0 has been entered, its frame all zeros
+abbrev pub mainFrames : Task → List Frame
+mainFrames t = entered t 0 ∷ []
+
+-- so it is at the start; a task without a stack has finished
 abbrev pub firstFrames : Task → List Frame
-firstFrames t = entered t 0 ∷ []
+firstFrames t = if stackless t then [] else mainFrames t
 
 abbrev pub plain : Task → List Event → Plain
 plain t es = plainFrom t 0 (firstFrames t) es

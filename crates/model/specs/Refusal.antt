@@ -14,7 +14,7 @@ use Rattle.model.specs.declared.Row.the-variants.{AfterFinish, Kind, Cho
 use Rattle.model.specs.Limits.{mostBytes, workLength, mostEventNumbers, mostStart, mostEach}
 use Rattle.model.specs.Rows.{refuse}
 use Rattle.model.specs.Basic.{if_then_else_, unless, _orElse_, firstOf, any, upTo, countFrom}
-use Rattle.model.specs.Task.{Func, Task, Judged, refused, task, size, count, func, point, funcLine, pointLine, readText}
+use Rattle.model.specs.Task.{Func, Task, Judged, refused, task, size, count, func, point, stackless, funcLine, pointLine, readText}
 use Rattle.model.specs.Walk.{loaded, called, ensured, calls, isCall, isEnsure}
 use Rattle.model.specs.Figures.{reached, uninitialised, longest}
 
@@ -147,12 +147,12 @@ noRows t = none
 unfoldable pub outputRows : (Task → List ℕ) → ℕ → Task → Option Refusal
 outputRows print output t = unless (leb (length (print t)) output) (refuse OutputTooSmall (length (print t)))
 
--- 16 to 19, for buffers of these lengths; 17 names how many events there are
+-- 16 to 19, for buffers of these lengths; 17 names how many events there are. A task without a stack takes any cache, and its D(0) is 0
 unfoldable pub runRows : ℕ → ℕ → ℕ → ℕ → Task → Option Refusal
 runRows events answers cache memory t =
     unless (eqb (events % 2) 0 && leb events mostEventNumbers) (refuse EventList 0)
     orElse unless (leb (events / 2) answers) (refuse AnswersTooSmall (events / 2))
-    orElse unless (eqb cache (t .stack)) (refuse CacheSize (t .stack))
+    orElse unless (stackless t || eqb cache (t .stack)) (refuse CacheSize (t .stack))
     orElse unless (leb (longest t 0) memory) (refuse MemoryTooSmall (longest t 0))
 
 -- 22, 20, 21 at event i of this kind and value, tried in this order; the point is that of the running frame, if there is one

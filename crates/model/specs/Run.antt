@@ -10,7 +10,7 @@ use Rattle.model.specs.declared.Refusal.{Refusal}
 use Rattle.model.specs.declared.Ending.{Ending}
 use Rattle.model.specs.declared.Ending.the-variants.{AllDone, Refused}
 use Rattle.model.specs.Basic.{if_then_else_}
-use Rattle.model.specs.Task.{Task, func, point}
+use Rattle.model.specs.Task.{Task, func, point, stackless}
 use Rattle.model.specs.Core.{Core, Clean, effective, saveMoves, resumeMoves, reserve, free, ensure, load, store, preempt, filledWith}
 use Rattle.model.specs.Sheet.{Sheet}
 use Rattle.model.specs.Refusal.{eventRows}
@@ -113,9 +113,13 @@ ranFrom t s i x (e ∷ es) =
     (turn t s x (act e))
     (ranFrom t s (suc i) (turn t s x (act e) .state) es)
 
--- a fresh start on core c: function 0 has just been entered, and cache and memory hold whatever they were lent with
+-- function 0 has just been entered on core c, and cache and memory hold whatever they were lent with
+abbrev pub mainState : Task → Core → State
+mainState t c = record { frames = record { fn = 0; at = 0 } ∷ []; core = reserve (func t 0 .frame) c .core }
+
+-- so it is at a fresh start; a task without a stack has finished, and nothing is touched
 abbrev pub freshState : Task → Core → State
-freshState t c = record { frames = record { fn = 0; at = 0 } ∷ []; core = reserve (func t 0 .frame) c .core }
+freshState t c = if stackless t then record { frames = []; core = c } else mainState t c
 
 abbrev pub ran : Task → Sheet → Core → List Event → Ran
 ran t s c es = ranFrom t s 0 (freshState t c) es

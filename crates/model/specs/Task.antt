@@ -3,7 +3,7 @@ use Prim.Native.Nat.{ℕ, suc, _+_, _*_}
 use mathlib.Core.Bool.{Bool, true, not, _&&_, _||_}
 use mathlib.Core.List.{List, [], _∷_, _++_}
 use lib.ListN.{length, take, getD}
-use lib.Dec.{leb, ltb}
+use lib.Dec.{leb, ltb, eqb}
 use Rattle.model.specs.declared.Point.{Point}
 use Rattle.model.specs.declared.Point.the-variants.{Load, Store, Call, Ensure, Goto, Either, Return}
 use Rattle.model.specs.declared.Line.{Line}
@@ -56,6 +56,13 @@ funcLine t f = 2 + 2 * f + inAll (take f (t .funcs))
 
 abbrev pub pointLine : Task → ℕ → ℕ → ℕ
 pointLine t f p = funcLine t f + 1 + p
+
+-- a task without a stack: no functions (document 02, request 14)
+abbrev pub without : Task
+without = record { stack = 0; funcs = [] }
+
+abbrev pub stackless : Task → Bool
+stackless t = eqb (count t) 0
 
 -- how far a text has been read
 pub data Progress : Type 0 where
@@ -115,9 +122,9 @@ readLine n (inside t x) (line.At p) =
 readLine n (inside t x) line.Close = if leb 1 (size x) then goes (between (withFunc t x)) else stop (refuse Form n)
 readLine n (inside t x) line.Malformed = stop (refuse Form n)
 
--- the text ends before line n: a line that is missing is refused as one of no allowed form
+-- the text ends before line n: an empty text is a task without a stack; else a line that is missing is refused as one of no allowed form
 unfoldable pub readEnd : ℕ → Progress → Judged
-readEnd n start = refused (refuse Form n)
+readEnd n start = task without
 readEnd n (between t) = if leb 1 (count t) then task t else refused (refuse Form n)
 readEnd n (inside t x) = refused (refuse Form n)
 

@@ -16,9 +16,8 @@ AtAll t test = (f p : ℕ) → f < count t → p < size (func t f) → T (test f
 
 -- rows 2 to 6: the task is within the limits
 pub record Shaped (t : Task) : Type 0 where
-  pub stack-low : 1 ≤ t .stack
+  pub stack-low : 0 < count t → 1 ≤ t .stack
   pub stack-high : t .stack ≤ mostStack
-  pub some : 1 ≤ count t
   pub few : count t ≤ mostFuncs
   pub all : inAll (t .funcs) ≤ mostInAll
   pub frames : (f : ℕ) → f < count t → func t f .frame ≤ t .stack

@@ -151,14 +151,14 @@ not-func n t (At p ∷ ls) i h = refl
 not-func n t (Close ∷ ls) i h = refl
 not-func n t (Malformed ∷ ls) i h = refl
 
-not-stack : (n : ℕ) (ls : List Line) → firstIs isStack ls ≡ false → readFrom n start ls ≡ refused (refuse Form n)
-unfolding readFrom readLine readEnd
-not-stack n [] h = refl
-not-stack n (Stack s ∷ ls) h = cc
-not-stack n (Func k ∷ ls) h = refl
-not-stack n (At p ∷ ls) h = refl
-not-stack n (Close ∷ ls) h = refl
-not-stack n (Malformed ∷ ls) h = refl
+not-stack : (n : ℕ) (ls : List Line) → 0 < length ls → firstIs isStack ls ≡ false → readFrom n start ls ≡ refused (refuse Form n)
+unfolding readFrom readLine
+not-stack n [] i h = absurd (omega arith)
+not-stack n (Stack s ∷ ls) i h = cc
+not-stack n (Func k ∷ ls) i h = refl
+not-stack n (At p ∷ ls) i h = refl
+not-stack n (Close ∷ ls) i h = refl
+not-stack n (Malformed ∷ ls) i h = refl
 
 -- the line that opens a function
 pub func-none : (text : List ℕ) (a n : ℕ) (t : Task) (r : Num) → funcAs r (take (length text - a) (drop a text)) → r ≡ Absent → a < length text
@@ -178,9 +178,16 @@ module _ (w : List ℕ) (h : Header) (k n : ℕ) where
   unfolding readLine pointsOf
   func-goes i j = rw (le-ltb (h .stack) k i, count-is w h, lt-leb mostFuncs (h .funcs) j)
 
+-- no line at all
+pub text-none : (text w : List ℕ) → length text ≡ 0 → readText text ≡ task (taskOf w (record { stack = 0; funcs = 0; points = 0 }))
+unfolding readFrom readEnd linesFrom funcsOf
+text-none [] w h = refl
+text-none (b ∷ text) w h = absurd (omega arith)
+
 -- the stack line
-pub stack-none : (text : List ℕ) (r : Num) → stackAs r (take (length text - 0) (drop 0 text)) → r ≡ Absent → readText text ≡ refused (refuse Form 1)
-stack-none text r i e = not-stack 1 (linesOf text) (rw (part-to-end text 0) at (rw e at i))
+pub stack-none : (text : List ℕ) (r : Num) → stackAs r (take (length text - 0) (drop 0 text)) → r ≡ Absent → 0 < length text
+    → readText text ≡ refused (refuse Form 1)
+stack-none text r i e h = not-stack 1 (linesOf text) (some-line text 0 h) (rw (part-to-end text 0) at (rw e at i))
 
 module _ (text : List ℕ) (s c : ℕ) (next : Next text 0 (Stack s) c) where
   pub stack-off : (leb 1 s && leb s mostStack) ≡ false → readText text ≡ refused (refuse StackSize 1)

@@ -218,12 +218,19 @@ fn read_funcs(text: &[u8], work: &mut [u32], stack: u32, a: usize) -> Read
     Read::Task(h)
 }
 
-// A whole text: its stack line, then its functions.
+// A whole text: nothing, or its stack line, then its functions.
 pub fn read_text(text: &[u8], work: &mut [u32]) -> Read
     requires { ⌜ (tablesLength ≤ length (now work)) × (length (now text) ≤ mostBytes) ⌝ }
     ensures { λ r. ⌜ readAs r (readText (now (text .entry))) (now (work .entry)) (now (work .exit)) ⌝ }
 {
     let b = text.len();
+    if b == 0 {
+        return Read::Task(Header {
+            stack: 0,
+            funcs: 0,
+            points: 0,
+        });
+    }
     let Num::Value(s, c) = line::read_stack(&text[0..b]) else {
         return Read::Refused(Refusal {
             row: Row::Form,

@@ -14,17 +14,19 @@ use Rattle.model.specs.declared.Ending.the-variants.{AllDone, Refused}
 use Rattle.model.specs.declared.RunResult.{RunResult}
 use Rattle.model.specs.Limits.{mostEventNumbers}
 use Rattle.model.specs.Rows.{rowVerdict}
-use Rattle.model.specs.Task.{Task}
-use Rattle.model.specs.Core.{Core, reserve}
+use Rattle.model.specs.Task.{Task, count}
+use Rattle.model.specs.Core.{Core, reserve, idle}
 use Rattle.model.specs.Refusal.{eventRows}
 use Rattle.model.specs.Plain.{eventsOf, running, afterEvent}
 use Rattle.model.specs.Run as run
 use Rattle.model.specs.Run.{runningPlace, turn, eventBound}
 use Rattle.theory.proofs.Search.{verdict-none, verdict-some}
 use Rattle.theory.proofs.Frames.{running-same}
+use Rattle.theory.proofs.Fair.{ran-main, allowed-main}
 use Rattle.tables.specs.declared.Header.{Header}
 use Rattle.tables.specs.Tables.{taskOf}
 use Rattle.tables.specs.Valid.{Kept}
+use Rattle.tables.proofs.Laws.{count-is}
 use Rattle.tables.proofs.Valid.{kept-on}
 use Rattle.prices.specs.declared.Price.{Price}
 use Rattle.prices.specs.Prices.{priceOf}
@@ -59,12 +61,16 @@ module _ {price : Price} {h : Header} {events buffer cache₀ memory₀ w₀ : L
 
   loops-first : Loops y price h events buffer cache₀ memory₀ w₀ 0 x buffer cache₀ memory₀ w₀
   loops-first =
-      let j = begins y cache₀ memory₀ (f .bounded) s (f .blocks) (f .room) in
+      let j = begins y cache₀ memory₀ (f .bounded) (f .some) s (f .blocks) (f .room) in
+      let t = taskOf w₀ h in
+      let c : 0 < count t = omega (arith, f .some, count-is w₀ h) in
+      let ran-is = ran-main t (sheetAt price t) (idle y cache₀ memory₀) (eventsOf events) c in
+      let allowed-is = allowed-main t (sheetAt price t) (eventsOf events) c in
       record {
         runs = j .runs;
         task = refl;
         kept = record { size = refl; past = refl };
-        going = rw (s .state cache₀ memory₀ (f .blocks) refl, j .frames, s .moved, s .allowed) (going-start (taskOf w₀ h) (sheetAt price (taskOf w₀ h)) buffer _ _ (eventsOf events));
+        going = rw (ran-is, allowed-is, s .state cache₀ memory₀ (f .blocks) refl, j .frames, s .moved, s .allowed) (going-start t (sheetAt price t) buffer _ _ (eventsOf events));
         small = omega (arith, s .moved);
         little = omega (arith, s .allowed);
       }

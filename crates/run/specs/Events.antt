@@ -1,5 +1,5 @@
 -- A run of the task in the tables over an event list: what it is given, and what it returns and leaves.
-use Prim.Native.Nat.{ℕ, _/_, _%_, _≤_}
+use Prim.Native.Nat.{ℕ, _/_, _%_, _≤_, _<_}
 use mathlib.Core.List.{List}
 use mathlib.Core.Path.{_≡_}
 use lib.ListN.{length}
@@ -21,9 +21,11 @@ use Rattle.figures.specs.Figured.{sheetAt}
 use Rattle.bounds.specs.Bounds.{Bounded}
 pub use Rattle.steps.specs.Frames.{framesEnd}
 
--- the working space has the task, its figures and the bounds of its events, and rows 16 to 19 refuse none of the buffers
+-- the working space has the task, its figures and the bounds of its events, the task has a function 0, and rows 16 to 19 refuse none of the
+-- buffers
 pub record Fitting (price : Price) (w : List ℕ) (h : Header) (events answers cache memory : List ℕ) : Type 0 where
   pub bounded : Bounded price w h
+  pub some : 0 < h .funcs
   pub paired : length events % 2 ≡ 0
   pub few : length events ≤ mostEventNumbers
   pub answered : length events / 2 ≤ length answers

@@ -1,31 +1,35 @@
 -- The rows of run by their tests, and what run returns and leaves.
 use Prim.Native.Nat.{ℕ, _/_, _%_, _≤_, _<_}
 use mathlib.Core.Bool.{_&&_}
-use mathlib.Core.List.{List}
+use mathlib.Core.List.{List, [], _∷_}
 use mathlib.Core.Option.{Option, none, some}
 use mathlib.Core.Path.{_≡_, refl, ap, sym, subst, _∙_}
 use native.Mathlib.Omega.{arith}
-use lib.Dec.{eqb, leb, eqb→eq, leb→le}
+use lib.Dec.{eqb, leb, eqb→eq, leb→le, leb·zero}
 use lib.ListN.{length}
 use borrow.Author.Tests.{eq-eqb, ne-eqb, lt-leb, le-leb}
 use Rattle.model.specs.declared.Eviction.{Eviction}
-use Rattle.model.specs.declared.Row.the-variants.{EventList, AnswersTooSmall, CacheSize, MemoryTooSmall}
+use Rattle.model.specs.declared.Row.the-variants.{EventList, AnswersTooSmall, CacheSize, MemoryTooSmall, AfterFinish}
 use Rattle.model.specs.declared.Refusal.{Refusal}
 use Rattle.model.specs.declared.Verdict.{Verdict}
 use Rattle.model.specs.declared.Verdict.the-variants.{Accepted, Refused}
+use Rattle.model.specs.declared.Ending.the-variants.{AllDone}
 use Rattle.model.specs.declared.RunResult.{RunResult}
 use Rattle.model.specs.Limits.{mostEventNumbers}
 use Rattle.model.specs.Basic.{unless, _orElse_}
 use Rattle.model.specs.Rows.{refuse, rowVerdict}
-use Rattle.model.specs.Task.{Task, Judged, refused, task}
-use Rattle.model.specs.Figures.{longest}
-use Rattle.model.specs.Sheet.{movePrice}
-use Rattle.model.specs.Refusal.{withRows, pricedRows, runRows}
-use Rattle.model.specs.Plain.{eventsOf}
-use Rattle.model.specs.Services.{cleared, AfterRun, runAs, runJudged, runWith, runOf, Demand3, LeavesClean, PaysOnce}
+use Rattle.model.specs.Task.{Task, count, Judged, refused, task}
+use Rattle.model.specs.Core.{idle}
+use Rattle.model.specs.Figures.{longest, longestTo}
+use Rattle.model.specs.Sheet.{movePrice, pricedSheet}
+use Rattle.model.specs.Refusal.{withRows, pricedRows, runRows, eventRows}
+use Rattle.model.specs.Plain.{Event, eventsOf}
+use Rattle.model.specs.Run.{Ran, ranFrom, allowed, allowedFrom}
+use Rattle.model.specs.Services.{cleared, over, AfterRun, servedAs, runAs, runJudged, runWith, runOf, Demand3, LeavesClean, PaysOnce}
 use Rattle.theory.proofs.Lists.{and-holds}
 use Rattle.theory.proofs.Firsts.{row-none, unless-none}
 use Rattle.theory.proofs.Search.{verdict-none, verdict-some}
+use Rattle.theory.proofs.Fair.{ran-none, allowed-none}
 use Rattle.theory.proofs.Faithful.{demand-3, leaves-clean}
 use Rattle.theory.proofs.Once.{services-once}
 use Rattle.tables.specs.declared.Header.{Header}
@@ -34,13 +38,13 @@ use Rattle.tables.proofs.Laws.{count-is}
 use Rattle.prices.specs.declared.Price.{Price}
 use Rattle.prices.specs.Prices.{priceOf}
 use Rattle.figures.specs.declared.FuncFigures.{FuncFigures}
-use Rattle.figures.specs.Figured.{Figured, funcFigures}
+use Rattle.figures.specs.Figured.{funcFigures}
 use Rattle.bounds.specs.Bounds.{Bounded}
-use Rattle.run.specs.Events.{Fitting, Serves}
+use Rattle.run.specs.Events.{Fitting, endedWith, Serves}
 use Rattle.judge.specs.declared.Judgement.{Judgement}
 use Rattle.judge.specs.Judgement.{judgedIn}
 use Rattle.serving.specs.Served.{Lent}
-use Rattle.running.specs.Performs.{bufferRows, noneDone, afterRun, performed, Performs}
+use Rattle.running.specs.Performs.{bufferRows, noneDone, afterRun, performed, Performs, Finishes}
 use Rattle.serving.proofs.Laws.{own-rows}
 
 -- ---- 16, 17 and 18 by their tests
@@ -90,22 +94,27 @@ or-later none none c d = refl
 or-later none (some r) c d = refl
 or-later (some r) b c d = refl
 
--- 19 comes after the others
-rows-split : (e a c m : ℕ) (t : Task)
+-- function 0 is there
+pub some-func : (w : List ℕ) (h : Header) → 0 < h .funcs → 0 < count (taskOf w h)
+some-func w h n = omega (arith, count-is w h)
+
+-- 19 comes after the others; there is a stack, so 18 is asked
+rows-split : (e a c m : ℕ) (t : Task) → 0 < count t
     → runRows e a c m t ≡ (bufferRows e a c (t .stack) orElse unless (leb (longest t 0) m) (refuse MemoryTooSmall (longest t 0)))
 unfolding runRows
-rows-split e a c m t =
-    or-later (unless (eqb (e % 2) 0 && leb e mostEventNumbers) (refuse EventList 0)) (unless (leb (e / 2) a) (refuse AnswersTooSmall (e / 2))) _ _
+rows-split e a c m t n =
+    rw (ne-eqb (count t) 0 (λ z. omega arith))
+    (or-later (unless (eqb (e % 2) 0 && leb e mostEventNumbers) (refuse EventList 0)) (unless (leb (e / 2) a) (refuse AnswersTooSmall (e / 2))) _ _)
 
 -- the run of an accepted task, where v is the verdict of 16, 17 and 18
-module _ (x : Eviction) (price : Price) {t : Task} (events answers cache memory : List ℕ) {v : Verdict}
+module _ (x : Eviction) (price : Price) {t : Task} (some-func : 0 < count t) (events answers cache memory : List ℕ) {v : Verdict}
     (e : v ≡ rowVerdict (bufferRows (length events) (length answers) (length cache) (t .stack))) where
   pub unfit : {q : Refusal} {r : RunResult} (w : List ℕ) → v ≡ Refused q → r ≡ noneDone q
       → Performs x price (task t) w events answers cache memory r w answers cache memory
   unfit w n i =
       let m : bufferRows (length events) (length answers) (length cache) (t .stack) ≡ some _ = verdict-some _ (sym e ∙ n) in
       record {
-        left = λ work. rw (rows-split (length events) (length answers) (length cache) (length memory) t, m)
+        left = λ work. rw (rows-split (length events) (length answers) (length cache) (length memory) t some-func, m)
             (ap (λ (z : RunResult). afterRun z work answers cache memory) i);
         after = refl;
       }
@@ -120,7 +129,7 @@ module _ (x : Eviction) (price : Price) {t : Task} (events answers cache memory 
         ≡ unless (leb (longest t 0) (length memory)) (refuse MemoryTooSmall (longest t 0))
     rows-are =
         let m : bufferRows (length events) (length answers) (length cache) (t .stack) ≡ none = verdict-none _ (sym e ∙ n) in
-        rw (rows-split (length events) (length answers) (length cache) (length memory) t, m) refl
+        rw (rows-split (length events) (length answers) (length cache) (length memory) t some-func, m) refl
 
     module _ {w w′ : List ℕ} {r : RunResult} (after : cleared w′ ≡ cleared w) where
       pub too-little : length memory < k .longest → r ≡ noneDone (refuse MemoryTooSmall (k .longest))
@@ -146,13 +155,8 @@ module _ (x : Eviction) (price : Price) {t : Task} (events answers cache memory 
             after = d ∙ after;
           }
 
--- function 0 is there
-module _ {price : Price} {w : List ℕ} {h : Header} (f : Figured price w h) where
-  pub some-func : 0 < h .funcs
-  some-func = omega (arith, f .settled .formed .shaped .some, count-is w h)
-
 -- what the run of the events asks for; w: the working space when the room was asked for
-module _ {price : Price} (w : List ℕ) {w′ : List ℕ} {h : Header} (b : Bounded price w′ h) (same : taskOf w′ h ≡ taskOf w h) where
+module _ {price : Price} (w : List ℕ) {w′ : List ℕ} {h : Header} (b : Bounded price w′ h) (same : taskOf w′ h ≡ taskOf w h) (some-func : 0 < h .funcs) where
   pub fits : (events answers cache memory : List ℕ) {v : Verdict} {k : FuncFigures}
       → v ≡ rowVerdict (bufferRows (length events) (length answers) (length cache) (h .stack)) → v ≡ Accepted → k ≡ funcFigures price (taskOf w h) 0
       → k .longest ≤ length memory → Fitting price w′ h events answers cache memory
@@ -161,12 +165,71 @@ module _ {price : Price} (w : List ℕ) {w′ : List ℕ} {h : Header} (b : Boun
       let p = passes (length events) (length answers) (length cache) (h .stack) (verdict-none _ (sym e ∙ n)) in
       record {
         bounded = b;
+        some = some-func;
         paired = p .paired;
         few = p .few;
         answered = p .answered;
         blocks = p .blocks;
         room = omega (arith, ap (λ (z : FuncFigures). z .longest) g, ap (λ (z : Task). longest z 0) same);
       }
+
+-- ---- a task without a stack
+
+-- of its buffers only 16 and 17 ask something
+rows-without : (e a c m : ℕ) (t : Task) → count t ≡ 0 → runRows e a c m t ≡ bufferRows e a 0 0
+unfolding runRows longest longestTo
+rows-without e a c m t z = rw (z, leb·zero m) refl
+
+-- its run, which has finished
+run-without : (x : Eviction) (price : ℕ → ℕ) (t : Task) → count t ≡ 0 → (es : List Event) (work answers cache memory : List ℕ)
+    → runAs x price (task t) work es answers cache memory
+    ≡ servedAs (ranFrom t (pricedSheet price t) 0 (record { frames = []; core = idle x cache memory }) es) (allowedFrom t (pricedSheet price t) 0 [] es)
+    work answers
+run-without x price t z es work answers cache memory =
+    let s = pricedSheet price t in
+    ap (λ (q : Ran). servedAs q (allowed t s es) work answers) (ran-none t s (idle x cache memory) es z)
+    ∙ ap (λ (n : ℕ). servedAs (ranFrom t s 0 (record { frames = []; core = idle x cache memory }) es) n work answers) (allowed-none t s es z)
+
+-- v: the verdict of 16 and 17
+module _ (e a : ℕ) {v : Verdict} (k : v ≡ rowVerdict (bufferRows e a 0 0)) where
+  rows-found : (o : Option Refusal) → bufferRows e a 0 0 ≡ o → (t : Task) (events answers cache memory : List ℕ) → count t ≡ 0
+      → length events ≡ e → length answers ≡ a → runRows (length events) (length answers) (length cache) (length memory) t ≡ o
+  rows-found o m t events answers cache memory z h j =
+      rows-without (length events) (length answers) (length cache) (length memory) t z ∙ (λ i. bufferRows (h i) (j i) 0 0) ∙ m
+
+  pub without-unfit : {q : Refusal} {r : RunResult} → v ≡ Refused q → r ≡ noneDone q → Finishes e a r
+  without-unfit {q = q} n i x price t work events answers cache memory z h j =
+      rw (rows-found (some q) (verdict-some _ (sym k ∙ n)) t events answers cache memory z h j)
+      (ap (λ (y : RunResult). afterRun y work answers cache memory) i)
+
+  module _ (n : v ≡ Accepted) where
+    rows-none : bufferRows e a 0 0 ≡ none
+    rows-none = verdict-none _ (sym k ∙ n)
+
+    -- no event
+    pub without-idle : {r : RunResult} → e ≡ 0 → r ≡ endedWith AllDone 0 0 0 → Finishes e a r
+    unfolding eventsOf ranFrom allowedFrom over
+    without-idle y i x price t work [] answers cache memory z h j =
+        rw (rows-found none rows-none t [] answers cache memory z h j)
+        (ap (λ (q : RunResult). afterRun q work answers cache memory) i ∙ sym (run-without x (priceOf price) t z [] work answers cache memory))
+    without-idle y i x price t work (b ∷ l) answers cache memory z h j = absurd (omega arith)
+
+    -- the first event is refused
+    pub without-refused : {r : RunResult} → (e ≡ 0 → ⊥) → r ≡ noneDone (refuse AfterFinish 0) → Finishes e a r
+    unfolding eventsOf ranFrom allowedFrom eventRows over
+    without-refused y i x price t work [] answers cache memory z h j = absurd (y (sym h))
+    without-refused y i x price t work (b ∷ []) answers cache memory z h j = absurd (omega (arith, passes e a 0 0 rows-none .paired))
+    without-refused y i x price t work (b ∷ c ∷ l) answers cache memory z h j =
+        rw (rows-found none rows-none t (b ∷ c ∷ l) answers cache memory z h j)
+        (ap (λ (q : RunResult). afterRun q work answers cache memory) i
+        ∙ sym (run-without x (priceOf price) t z (eventsOf (b ∷ c ∷ l)) work answers cache memory))
+
+-- the tables hold a task of no functions
+pub finishes : (x : Eviction) (price : Price) (h : Header) (w events answers cache memory : List ℕ) {r : RunResult} → h .funcs ≡ 0
+    → Finishes (length events) (length answers) r
+    → Performs x price (task (taskOf w h)) w events answers cache memory r w answers cache memory
+finishes x price h w events answers cache memory z f =
+    record { left = λ work. f x price (taskOf w h) work events answers cache memory (count-is w h ∙ z) refl refl; after = refl }
 
 -- ---- what was judged
 

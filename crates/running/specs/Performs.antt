@@ -1,4 +1,4 @@
--- 16, 17 and 18; and what run returns and leaves of a text that is judged.
+-- 16, 17 and 18; what run returns and leaves of a text that is judged, and of a task without a stack.
 use Prim.Native.Nat.{ℕ, _/_, _%_}
 use mathlib.Core.Bool.{_&&_}
 use mathlib.Core.Path.{_≡_}
@@ -14,7 +14,7 @@ use Rattle.model.specs.declared.RunResult.{RunResult}
 use Rattle.model.specs.Limits.{mostEventNumbers}
 use Rattle.model.specs.Basic.{unless, _orElse_}
 use Rattle.model.specs.Rows.{refuse}
-use Rattle.model.specs.Task.{Judged}
+use Rattle.model.specs.Task.{Task, count, Judged, task}
 use Rattle.model.specs.Refusal.{withRows, runRows}
 use Rattle.model.specs.Plain.{eventsOf}
 use Rattle.model.specs.Services.{cleared, AfterRun, runAs}
@@ -52,3 +52,9 @@ performed x price j work events answers cache memory =
 pub record Performs (x : Eviction) (price : Price) (j : Judged) (w events answers cache memory : List ℕ) (r : RunResult) (w′ answers′ cache′ memory′ : List ℕ) : Type 0 where
   pub left : (work : List ℕ) → afterRun r work answers′ cache′ memory′ ≡ performed x price j work events answers cache memory
   pub after : cleared w′ ≡ cleared w
+
+-- r is what a run of a task without a stack returns, over an event list and answers of these lengths; it leaves all buffers as they were
+abbrev pub Finishes : ℕ → ℕ → RunResult → Type 0
+Finishes numbers places r =
+    (x : Eviction) (price : Price) (t : Task) (work events answers cache memory : List ℕ) → count t ≡ 0 → length events ≡ numbers → length answers ≡ places
+    → afterRun r work answers cache memory ≡ performed x price (task t) work events answers cache memory

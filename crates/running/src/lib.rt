@@ -10,7 +10,7 @@ ghost use Rattle.tables.specs.Valid.{Settled};
 ghost use Rattle.prices.specs.Prices.{Small};
 ghost use Rattle.judge.specs.Judgement.{judgedIn};
 ghost use Rattle.serving.specs.Served.{ReadyAt};
-ghost use Rattle.running.specs.Performs.{bufferRows, noneDone, Performs};
+ghost use Rattle.running.specs.Performs.{bufferRows, noneDone, Performs, Finishes};
 use judge::Judgement;
 use model::Ending;
 use model::Eviction;
@@ -56,6 +56,28 @@ fn refused(r: Refusal) -> RunResult
     }
 }
 
+// A run of a task without a stack, for an event list and answers of these lengths: 16 and 17, and then it has finished. A cache of no blocks for a
+// stack of none passes 18.
+fn run_without(events: usize, answers: usize) -> RunResult
+    ensures { λ r. ⌜ Finishes events answers r ⌝ }
+{
+    if let Verdict::Refused(r) = buffer_row(events, answers, 0, 0) {
+        return refused(r);
+    }
+    if events == 0 {
+        return RunResult {
+            ending: Ending::AllDone,
+            done: 0,
+            moved: 0,
+            allowed: 0,
+        };
+    }
+    refused(Refusal {
+        row: Row::AfterFinish,
+        place: 0,
+    })
+}
+
 // 16 to 19, or the run of the task that the tables hold, on the core that evicts so.
 fn run_task(
     eviction: Eviction,
@@ -71,6 +93,9 @@ fn run_task(
     ensures { λ r. ⌜ Performs eviction price (task (taskOf (now (work .entry)) h)) (now (work .entry)) (now (events .entry)) (now (answers .entry)) (now (cache .entry))
         (now (memory .entry)) r (now (work .exit)) (now (answers .exit)) (now (cache .exit)) (now (memory .exit)) ⌝ }
 {
+    if h.funcs == 0 {
+        return run_without(events.len(), answers.len());
+    }
     if let Verdict::Refused(r) = buffer_row(events.len(), answers.len(), cache.len(), h.stack) {
         return refused(r);
     }

@@ -17,7 +17,7 @@ use Rattle.model.specs.Walk.{leads, loaded, called, stores}
 use Rattle.model.specs.Core.{Core, Clean, reserve, free, ensure, load, store, save, resume}
 use Rattle.model.specs.Figures.{uninitialised, live}
 use Rattle.model.specs.Sheet.{Sheet}
-use Rattle.model.specs.Plain.{Frame, entered, movedTo, stepped, loadedFrom, firstFrames}
+use Rattle.model.specs.Plain.{Frame, entered, movedTo, stepped, loadedFrom, mainFrames}
 use Rattle.model.specs.Run.{stepTurn}
 use Rattle.theory.proofs.Lists.{by-test, or-holds}
 use Rattle.model.specs.WellFormed.{WellFormed}
@@ -169,7 +169,7 @@ module _ (t : Task) (s : Sheet) (w : WellFormed t) (r : Sound t s) where
   coherent-step x fs c Return v e i b u k h = coherent-free x fs c h
 
   -- a fresh start holds nothing that is live
-  pub coherent-start : 0 < count t → (c : Core) → Coherent t (firstFrames t) (reserve (func t 0 .frame) c .core)
+  pub coherent-start : 0 < count t → (c : Core) → Coherent t (mainFrames t) (reserve (func t 0 .frame) c .core)
   unfolding HoldsFrom
   coherent-start h c = (λ o l v. absurd (live-first 0 o h v), tt)
 

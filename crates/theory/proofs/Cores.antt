@@ -12,13 +12,14 @@ use Rattle.model.specs.declared.Eviction.the-variants.{Eager, Lazy}
 use Rattle.model.specs.declared.Point.{Point}
 use Rattle.model.specs.declared.Point.the-variants.{Load, Store, Call, Ensure, Goto, Either, Return}
 use Rattle.model.specs.declared.Refusal.{Refusal}
+use Rattle.model.specs.Basic.{if_then_else_}
 use Rattle.model.specs.Task.{Task, count, func, point, Judged, refused, task}
 use Rattle.model.specs.Core.{Core, Clean, written, effective, spilled, reserveMoves, savedFrom, saveMoves, reserve, free, ensure, store, load, save, withCache, resume, preempt, filledWith, idle}
 use Rattle.model.specs.Figures.{longest}
 use Rattle.model.specs.Sheet.{Sheet, movePrice, pricedSheet}
 use Rattle.model.specs.Refusal.{pricedRows, eventRows}
-use Rattle.model.specs.Plain.{Event, eventsOf, Act, takes, preempted, act, Frame, running, afterEvent, firstFrames}
-use Rattle.model.specs.Run.{Turn, Ran, stepTurn, turn, orRan, ranFrom, ran}
+use Rattle.model.specs.Plain.{Event, eventsOf, Act, takes, preempted, act, Frame, running, afterEvent, mainFrames}
+use Rattle.model.specs.Run.{Turn, Ran, mainState, stepTurn, turn, orRan, ranFrom, ran}
 use Rattle.model.specs.Services.{cleared, runJudged, over, runAs, runWith, runOf}
 use Rattle.model.specs.WellFormed.{WellFormed}
 use Rattle.theory.specs.Sound.{Price, Sound}
@@ -27,7 +28,7 @@ use Rattle.theory.proofs.Blocks.{spilled-out}
 use Rattle.theory.proofs.Clean.{effective-between, clean-idle}
 use Rattle.theory.proofs.Frames.{places, running-same, In, Below, Standing, Window}
 use Rattle.theory.proofs.Window.{room-below, room-start, window-idle}
-use Rattle.theory.proofs.Fair.{Running, fair-event, runs-start, state-is}
+use Rattle.theory.proofs.Fair.{Running, fair-event, runs-start, state-is, by-stack}
 use Rattle.theory.proofs.Lawful.{sound}
 use Rattle.theory.proofs.Prices.{price-moves}
 use Rattle.theory.proofs.Faithful.{run-accepted}
@@ -137,17 +138,33 @@ module _ (t : Task) (s : Sheet) (w : WellFormed t) (r : Sound t s) where
       (less-or (eventRows i (e .kind) (e .value) (running t fs)) c _ _ _ _ (l .answer) (l .out) (l .back)
       (less-from (suc i) es (afterEvent t fs (act e)) (u .state .core) (f .runs)))
 
-  -- from a fresh start on any core with no frames: written back eagerly it leaves the same, and moves no less
-  pub less-moved : 0 < count t → (c : Core) (es : List Event) → Window t s [] c → Clean c → LessRun (ran t s c es) (ran t s (eagerly c) es)
+  -- from function 0 on
+  less-main : 0 < count t → (c : Core) (es : List Event) → Window t s [] c → Clean c
+      → LessRun (ranFrom t s 0 (mainState t c) es) (ranFrom t s 0 (mainState t (eagerly c)) es)
   unfolding places
-  less-moved h c es u k =
+  less-main h c es u k =
       rw (reserve-same c k (func t 0 .frame) (room-start t s w r h c u))
-      (less-from 0 es (firstFrames t) (reserve (func t 0 .frame) c .core) (runs-start t s w r h c u k))
+      (less-from 0 es (mainFrames t) (reserve (func t 0 .frame) c .core) (runs-start t s w r h c u k))
+
+  -- a task that has finished moves nothing on either
+  less-finished : (c : Core) (es : List Event)
+      → LessRun (ranFrom t s 0 (record { frames = []; core = c }) es) (ranFrom t s 0 (record { frames = []; core = eagerly c }) es)
+  unfolding ranFrom eventRows
+  less-finished c [] = record { ending = refl; done = refl; answers = refl; core = refl; moved = omega arith }
+  less-finished c (e ∷ es) = record { ending = refl; done = refl; answers = refl; core = refl; moved = omega arith }
+
+  -- from a fresh start on any core with no frames: written back eagerly it leaves the same, and moves no less
+  pub less-moved : (c : Core) (es : List Event) → (0 < count t → Window t s [] c) → Clean c → LessRun (ran t s c es) (ran t s (eagerly c) es)
+  less-moved c es u k =
+      by-stack (count t) (λ b. LessRun (ranFrom t s 0 (if b then record { frames = []; core = c } else mainState t c) es)
+      (ranFrom t s 0 (if b then record { frames = []; core = eagerly c } else mainState t (eagerly c)) es)) (less-finished c es)
+      (λ h. less-main h c es (u h) k)
 
   -- the two cores of a run
-  pub lazy-less : 0 < count t → (cache memory : List ℕ) (es : List Event) → length cache ≡ t .stack → longest t 0 ≤ length memory
+  pub lazy-less : (cache memory : List ℕ) (es : List Event) → (0 < count t → length cache ≡ t .stack) → longest t 0 ≤ length memory
       → LessRun (ran t s (idle Lazy cache memory) es) (ran t s (idle Eager cache memory) es)
-  lazy-less h cache memory es j k = less-moved h (idle Lazy cache memory) es (window-idle t s Lazy cache memory j k) (clean-idle Lazy cache memory)
+  lazy-less cache memory es j k =
+      less-moved (idle Lazy cache memory) es (λ h. window-idle t s Lazy cache memory (j h) k) (clean-idle Lazy cache memory)
 
 -- the two services: for every price of moves and every first rows
 pub lazy-less-with : (price : ℕ → ℕ) → Price price → (first : Option Refusal) (text work events answers cache memory : List ℕ)
@@ -171,7 +188,7 @@ lazy-less-with price c first text work events answers cache memory = go (runJudg
     go (task t) e =
         let a = run-accepted first text events answers cache memory t e in
         let w = a .formed in
-        let l = lazy-less t (pricedSheet price t) w (sound t w price c) (w .shaped .some) cache memory (eventsOf events) (a .blocks) (a .room) in
+        let l = lazy-less t (pricedSheet price t) w (sound t w price c) cache memory (eventsOf events) (a .blocks) (a .room) in
         rw e (record {
           ending = l .ending;
           done = l .done;

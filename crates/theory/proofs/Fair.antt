@@ -1,20 +1,24 @@
 -- What is so of a task that runs, and of one that waits between the halves of a preemption. Every event of a run is fair: it goes on as the
 -- plain stack does, answers as it does, and moves at most what the sheet allows and what the potential falls by. So is every list of events.
-use Prim.Native.Nat.{ℕ, suc, _+_, _≤_, _<_}
+use Prim.Native.Nat.{ℕ, zero, suc, _+_, _≤_, _<_}
+use mathlib.Core.Bool.{Bool, true, false}
 use mathlib.Core.List.{List, [], _∷_}
 use mathlib.Core.Option.{Option, none, some}
 use mathlib.Core.Path.{_≡_, refl, ap, _∙_}
 use native.Mathlib.Omega.{arith}
+use lib.Dec.{eqb, eqb·suc-zero}
+use borrow.Author.Tests.{eq-eqb, ne-eqb}
 use lib.ListN.{length, length-replicate}
 use Rattle.model.specs.declared.Point.{Point}
 use Rattle.model.specs.declared.Refusal.{Refusal}
+use Rattle.model.specs.Basic.{if_then_else_}
 use Rattle.model.specs.Task.{Task, count, func, point}
 use Rattle.model.specs.Core.{Core, Clean, effective, save, reserve, withCache, resume, filledWith}
 use Rattle.model.specs.Sheet.{Sheet}
 use Rattle.model.specs.Refusal.{eventRows}
 use Rattle.model.specs.Plain.{Event, Act, takes, preempted, act, Frame, Plain, entered, running, stepped, afterEvent, loadedFrom, answerOf, orPlain}
-use Rattle.model.specs.Plain.{plainFrom, plain, firstFrames}
-use Rattle.model.specs.Run.{State, Turn, stepTurn, preemptTurn, turn, Ran, orRan, ranFrom, ran, stepBound, eventBound, orBound, allowedFrom, allowed}
+use Rattle.model.specs.Plain.{plainFrom, plain, mainFrames}
+use Rattle.model.specs.Run.{State, Turn, mainState, stepTurn, preemptTurn, turn, Ran, orRan, ranFrom, ran, stepBound, eventBound, orBound, allowedFrom, allowed}
 use Rattle.model.specs.WellFormed.{WellFormed}
 use Rattle.theory.specs.Sound.{Ground, Sound}
 use Rattle.theory.proofs.Frames.{places, running-same, frames-step, In, Below, Standing, standing-start, standing-step, Window, Needed}
@@ -159,7 +163,7 @@ module _ (t : Task) (s : Sheet) (w : WellFormed t) (r : Sound t s) where
 
   -- function 0 has just been entered on a core that had no frames
   pub runs-start : 0 < count t → (c : Core) → Window t s [] c → Clean c
-      → Running t s (r .ground) (firstFrames t) (reserve (func t 0 .frame) c .core)
+      → Running t s (r .ground) (mainFrames t) (reserve (func t 0 .frame) c .core)
   runs-start h c u k = record {
     standing = standing-start t w h;
     window = window-start t s w r h c u;
@@ -168,9 +172,46 @@ module _ (t : Task) (s : Sheet) (w : WellFormed t) (r : Sound t s) where
     occupied = occupied-start t s w r h c u;
   }
 
-  -- from a fresh start, whatever cache and memory hold
-  pub fair-run : 0 < count t → (c : Core) (es : List Event) → Window t s [] c → Clean c
-      → FairRun (ran t s c es) (plain t es) (allowed t s es) 0
+  -- from there, whatever cache and memory hold
+  fair-main : 0 < count t → (c : Core) (es : List Event) → Window t s [] c → Clean c
+      → FairRun (ranFrom t s 0 (mainState t c) es) (plainFrom t 0 (mainFrames t) es) (allowedFrom t s 0 (mainFrames t) es) 0
   unfolding places
-  fair-run h c es u k =
-      rw (potential-start t s w r h c u) at (fair-from 0 es (firstFrames t) (reserve (func t 0 .frame) c .core) (runs-start h c u k))
+  fair-main h c es u k =
+      rw (potential-start t s w r h c u) at (fair-from 0 es (mainFrames t) (reserve (func t 0 .frame) c .core) (runs-start h c u k))
+
+-- a task that has finished is refused its next event, and nothing is touched
+fair-finished : (t : Task) (s : Sheet) (i : ℕ) (c : Core) → Clean c → (es : List Event)
+    → FairRun (ranFrom t s i (record { frames = []; core = c }) es) (plainFrom t i [] es) (allowedFrom t s i [] es) 0
+unfolding ranFrom plainFrom allowedFrom eventRows
+fair-finished t s i c k [] = record { ending = refl; done = refl; answers = refl; bounded = omega arith; clean = k }
+fair-finished t s i c k (e ∷ es) = record { ending = refl; done = refl; answers = refl; bounded = omega arith; clean = k }
+
+-- by whether there is a function
+pub by-stack : (n : ℕ) (P : Bool → Type 0) → P true → (0 < n → P false) → P (eqb n 0)
+by-stack zero P a b = a
+by-stack (suc n) P a b = rw (eqb·suc-zero n) (b (omega arith))
+
+-- a run starts in function 0, where there is one
+pub ran-main : (t : Task) (s : Sheet) (c : Core) (es : List Event) → 0 < count t → ran t s c es ≡ ranFrom t s 0 (mainState t c) es
+ran-main t s c es h =
+    ap (λ (b : Bool). ranFrom t s 0 (if b then record { frames = []; core = c } else mainState t c) es) (ne-eqb (count t) 0 (λ e. omega arith))
+
+pub allowed-main : (t : Task) (s : Sheet) (es : List Event) → 0 < count t → allowed t s es ≡ allowedFrom t s 0 (mainFrames t) es
+allowed-main t s es h =
+    ap (λ (b : Bool). allowedFrom t s 0 (if b then [] else mainFrames t) es) (ne-eqb (count t) 0 (λ e. omega arith))
+
+-- where there is none it has finished
+pub ran-none : (t : Task) (s : Sheet) (c : Core) (es : List Event) → count t ≡ 0 → ran t s c es ≡ ranFrom t s 0 (record { frames = []; core = c }) es
+ran-none t s c es e =
+    ap (λ (b : Bool). ranFrom t s 0 (if b then record { frames = []; core = c } else mainState t c) es) (eq-eqb (count t) 0 e)
+
+pub allowed-none : (t : Task) (s : Sheet) (es : List Event) → count t ≡ 0 → allowed t s es ≡ allowedFrom t s 0 [] es
+allowed-none t s es e = ap (λ (b : Bool). allowedFrom t s 0 (if b then [] else mainFrames t) es) (eq-eqb (count t) 0 e)
+
+-- a run of any task, with a stack or without
+pub fair-run : (t : Task) (s : Sheet) → WellFormed t → Sound t s → (c : Core) (es : List Event) → (0 < count t → Window t s [] c) → Clean c
+    → FairRun (ran t s c es) (plain t es) (allowed t s es) 0
+fair-run t s w r c es u k =
+    by-stack (count t) (λ b. FairRun (ranFrom t s 0 (if b then record { frames = []; core = c } else mainState t c) es)
+    (plainFrom t 0 (if b then [] else mainFrames t) es) (allowedFrom t s 0 (if b then [] else mainFrames t) es) 0) (fair-finished t s 0 c k es)
+    (λ h. fair-main t s w r h c es (u h) k)

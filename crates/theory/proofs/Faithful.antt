@@ -1,12 +1,13 @@
 -- Demand 3, on either core: over every event list from a fresh start, whatever cache and memory hold, a run ends, counts its events and
 -- answers as the plain stack does, moves at most what the sheet allows, and leaves the blocks from LP up to MT equal to memory.
 use Prim.Native.Nat.{ℕ, _/_, _%_, _≤_, _<_}
-use mathlib.Core.Bool.{_&&_}
-use mathlib.Core.List.{List, []}
+use mathlib.Core.Bool.{_&&_, _||_}
+use mathlib.Core.List.{List, [], _∷_}
+use mathlib.Core.Logic.{⊎-elim}
 use mathlib.Core.Option.{Option, none}
 use mathlib.Core.Path.{_≡_, refl, ap}
 use native.Mathlib.Omega.{arith}
-use lib.Dec.{eqb, leb, eqb→eq, leb→le}
+use lib.Dec.{eqb, leb, eqb→eq, leb→le, leb·zero}
 use lib.ListN.{length}
 use Rattle.model.specs.declared.Eviction.{Eviction}
 use Rattle.model.specs.declared.Refusal.{Refusal}
@@ -14,16 +15,17 @@ use Rattle.model.specs.declared.Row.the-variants.{EventList, AnswersTooSmall, C
 use Rattle.model.specs.Limits.{mostEventNumbers}
 use Rattle.model.specs.Rows.{refuse}
 use Rattle.model.specs.Basic.{unless}
-use Rattle.model.specs.Task.{Task, count, Judged, refused, task}
+use Rattle.model.specs.Task.{Task, count, without, stackless, Judged, refused, task}
 use Rattle.model.specs.Core.{Core, Clean, idle}
-use Rattle.model.specs.Figures.{longest}
+use Rattle.model.specs.Figures.{longest, longestTo}
 use Rattle.model.specs.Sheet.{Sheet, movePrice, pricedSheet}
-use Rattle.model.specs.Refusal.{pricedRows, runRows}
+use Rattle.model.specs.Refusal.{pricedRows, runRows, eventRows}
 use Rattle.model.specs.WellFormed.{WellFormed}
 use Rattle.model.specs.Plain.{Event, eventsOf}
-use Rattle.model.specs.Run.{Faithful}
+use Rattle.model.specs.Run.{ranFrom, ran, Faithful}
 use Rattle.model.specs.Services.{cleared, over, runJudged, runAs, runWith, runOf, Demand3, LeavesClean}
 use Rattle.theory.specs.Sound.{Price, Sound}
+use Rattle.theory.proofs.Lists.{or-holds}
 use Rattle.theory.proofs.Firsts.{row-none, unless-none}
 use Rattle.theory.proofs.Accepted.{accepted}
 use Rattle.theory.proofs.Frames.{Window}
@@ -33,28 +35,33 @@ use Rattle.theory.proofs.Fair.{fair-run}
 use Rattle.theory.proofs.Lawful.{sound}
 use Rattle.theory.proofs.Prices.{price-moves}
 
--- of every sheet that obeys the rules, from every clean core that has no frames
-pub faithful : (t : Task) (s : Sheet) → WellFormed t → Sound t s → 0 < count t → (c : Core) (es : List Event) → Window t s [] c → Clean c
+-- of every sheet that obeys the rules, from every clean core that has no frames; a task without a stack asks for no window
+pub faithful : (t : Task) (s : Sheet) → WellFormed t → Sound t s → (c : Core) (es : List Event) → (0 < count t → Window t s [] c) → Clean c
     → Faithful t s c es
-faithful t s w r h c es u k =
-    let f = fair-run t s w r h c es u k in
+faithful t s w r c es u k =
+    let f = fair-run t s w r c es u k in
     record { ending = f .ending; done = f .done; answers = f .answers; bounded = omega (arith, f .bounded); clean = f .clean }
 
--- rows 18 and 19 give the cache its size and the memory its room
+-- rows 18 and 19 give the cache its size, where there is a stack, and the memory its room
 run-room : (events answers cache memory : ℕ) (t : Task) → runRows events answers cache memory t ≡ none
-    → (cache ≡ t .stack) × (longest t 0 ≤ memory)
+    → (0 < count t → cache ≡ t .stack) × (longest t 0 ≤ memory)
 unfolding runRows
 run-room events answers cache memory t e =
+    let fits = stackless t || eqb cache (t .stack) in
     let i = row-none (eqb (events % 2) 0 && leb events mostEventNumbers) (refuse EventList 0) _ .0 e in
     let j = row-none (leb (events / 2) answers) (refuse AnswersTooSmall (events / 2)) _ .0 (i .1) in
-    let k = row-none (eqb cache (t .stack)) (refuse CacheSize (t .stack)) (unless (leb (longest t 0) memory) (refuse MemoryTooSmall (longest t 0))) .0 (j .1) in
-    let l = unless-none (leb (longest t 0) memory) (refuse MemoryTooSmall (longest t 0)) .0 (k .1) in
-    (eqb→eq cache (t .stack) (k .0), leb→le (longest t 0) memory l)
+    let k = row-none fits (refuse CacheSize (t .stack)) (unless (leb (longest t 0) memory) (refuse MemoryTooSmall (longest t 0))) .0 (j .1) in
+    let l = unless-none (leb (longest t 0) memory) (refuse MemoryTooSmall (longest t 0)) .0 (k .1) in (
+      λ h.
+          ⊎-elim (λ z. absurd (omega (arith, eqb→eq (count t) 0 z))) (eqb→eq cache (t .stack))
+          (or-holds (stackless t) (eqb cache (t .stack)) .0 (k .0)),
+      leb→le (longest t 0) memory l,
+    )
 
 -- what run gives by accepting a text with these buffers
 pub record RunAccepted (t : Task) (cache memory : List ℕ) : Type 0 where
   pub formed : WellFormed t
-  pub blocks : length cache ≡ t .stack
+  pub blocks : 0 < count t → length cache ≡ t .stack
   pub room : longest t 0 ≤ length memory
 
 pub run-accepted : (first : Option Refusal) (text events answers cache memory : List ℕ) (t : Task)
@@ -73,7 +80,7 @@ run-faithful x price c first text events answers cache memory t e es =
     let a = run-accepted first text events answers cache memory t e in
     let w = a .formed in
     let s = pricedSheet price t in
-    faithful t s w (sound t w price c) (w .shaped .some) (idle x cache memory) es (window-idle t s x cache memory (a .blocks) (a .room)) (clean-idle x cache memory)
+    faithful t s w (sound t w price c) (idle x cache memory) es (λ h. window-idle t s x cache memory (a .blocks h) (a .room)) (clean-idle x cache memory)
 
 pub demand-3-with : (x : Eviction) (price : ℕ → ℕ) → Price price → (first : Option Refusal) (text work events answers cache memory : List ℕ)
     → Demand3 first text events answers cache memory (runWith x price first text work events answers cache memory)
@@ -115,3 +122,18 @@ pub leaves-clean : (x : Eviction) (text : List ℕ) (start each : ℕ) (work eve
     (runOf x text start each work events answers cache memory)
 leaves-clean x text start each work events answers cache memory =
     leaves-clean-with x (movePrice start each) (price-moves start each) (pricedRows (length work) start each) text work events answers cache memory
+
+-- ---- a task without a stack (document 02, request 14)
+
+-- no event is done, nothing moves, and cache and memory are as they were lent
+pub without-run : (s : Sheet) (c : Core) (es : List Event)
+    → (ran without s c es .done ≡ 0) × (ran without s c es .moved ≡ 0) × (ran without s c es .core ≡ c)
+unfolding ranFrom eventRows
+without-run s c [] = (refl, refl, refl)
+without-run s c (e ∷ es) = (refl, refl, refl)
+
+-- its rows 16 to 19 are the same for every cache and memory
+pub without-rows : (events answers cache memory cache′ memory′ : ℕ)
+    → runRows events answers cache memory without ≡ runRows events answers cache′ memory′ without
+unfolding runRows longest longestTo
+without-rows events answers cache memory cache′ memory′ = rw (leb·zero memory, leb·zero memory′) refl

@@ -12,7 +12,7 @@ use Rattle.model.specs.Walk.{leads, called, isCall}
 use Rattle.model.specs.Core.{Core}
 use Rattle.model.specs.Figures.{longest}
 use Rattle.model.specs.Sheet.{Sheet}
-use Rattle.model.specs.Plain.{Frame, entered, movedTo, running, stepped, firstFrames}
+use Rattle.model.specs.Plain.{Frame, entered, movedTo, running, stepped, mainFrames}
 use Rattle.model.specs.Run.{Place, runningPlace, stepTurn}
 use Rattle.theory.proofs.Lists.{by-test}
 use Rattle.model.specs.WellFormed.{WellFormed}
@@ -71,7 +71,7 @@ below-stands Below.bottom = Standing.finished
 below-stands (Below.above i s l c b) = Standing.runs i b
 
 -- at the start function 0 stands at its first point
-pub standing-start : (t : Task) → WellFormed t → 0 < count t → Standing t (firstFrames t)
+pub standing-start : (t : Task) → WellFormed t → 0 < count t → Standing t (mainFrames t)
 standing-start t w h =
     Standing.runs
     (record { fn-in = h; at-in = w .shaped .nonempty 0 h; whole = length-replicate {A = ℕ} (func t 0 .frame) 0 })

@@ -12,7 +12,7 @@ use Rattle.model.specs.Task.{Task, size, count, func, point}
 use Rattle.model.specs.Walk.{leads, called, isCall}
 use Rattle.model.specs.Core.{Core, reserve, free, ensure, store}
 use Rattle.model.specs.Sheet.{Sheet}
-use Rattle.model.specs.Plain.{Frame, entered, movedTo, stepped, firstFrames}
+use Rattle.model.specs.Plain.{Frame, entered, movedTo, stepped, mainFrames}
 use Rattle.model.specs.Run.{stepTurn}
 use Rattle.theory.proofs.Lists.{by-test}
 use Rattle.model.specs.WellFormed.{WellFormed}
@@ -159,7 +159,7 @@ module _ (t : Task) (s : Sheet) (w : WellFormed t) (r : Sound t s) where
 
   -- at the start the frame of function 0 is cached
   pub occupied-start : 0 < count t → (c : Core) → Window t s [] c
-      → Occupied t s (r .ground) (firstFrames t) (reserve (func t 0 .frame) c .core .occupancy)
+      → Occupied t s (r .ground) (mainFrames t) (reserve (func t 0 .frame) c .core .occupancy)
   unfolding Occupied Waiting total reserve
   occupied-start h c u = record {
     here = record {

@@ -18,10 +18,11 @@ use Rattle.model.specs.declared.Refusal.{Refusal}
 use Rattle.model.specs.Basic.{sumOf}
 use Rattle.model.specs.Task.{Task, Judged, refused, task, size, count, func, point}
 use Rattle.model.specs.Core.{Core, Clean, written, effective, savedFrom, saveMoves, resumed, resumeMoves, reserve, free, ensure, store, save, resume, filledWith, idle}
+use Rattle.model.specs.Basic.{if_then_else_}
 use Rattle.model.specs.Sheet.{PointSheet, Sheet, movePrice, inBlocks, costed, sheetWith, onceOf, charging, chargingOnce, pricedSheet, sheetOf}
 use Rattle.model.specs.Refusal.{judged, pricedRows, eventRows}
-use Rattle.model.specs.Plain.{Event, Act, takes, preempted, act, Frame, firstFrames, running, stepped, afterEvent, eventsOf}
-use Rattle.model.specs.Run.{Place, Turn, Ran, stepTurn, preemptTurn, turn, orRan, ranFrom, ran, stepBound, eventBound, orBound, allowedFrom, allowed}
+use Rattle.model.specs.Plain.{Event, Act, takes, preempted, act, Frame, mainFrames, firstFrames, running, stepped, afterEvent, eventsOf}
+use Rattle.model.specs.Run.{Place, Turn, Ran, stepTurn, preemptTurn, turn, orRan, ranFrom, ran, mainState, stepBound, eventBound, orBound, allowedFrom, allowed}
 use Rattle.model.specs.Preemptions.{preemptedAt, orPreempted, preemptionsFrom, preemptions, spillsAndFills}
 use Rattle.model.specs.Services.{cleared, runJudged, runAs, runWith, runOf, PaysOnce}
 use Rattle.model.specs.WellFormed.{WellFormed}
@@ -35,7 +36,7 @@ use Rattle.theory.proofs.Frames.{places, running-same, frames-step, In,
 use Rattle.theory.proofs.Window.{window-idle}
 use Rattle.theory.proofs.Occupancy.{Occupied}
 use Rattle.theory.proofs.Potential.{potential, paid, potential-start, save-covers, reload-covers, left-delayed}
-use Rattle.theory.proofs.Fair.{Running, fair-step, fair-preempt, runs-start, state-is}
+use Rattle.theory.proofs.Fair.{Running, fair-step, fair-preempt, runs-start, by-stack, state-is}
 use Rattle.theory.proofs.Lawful.{sound}
 use Rattle.theory.proofs.Before.{never-rises}
 use Rattle.theory.proofs.Prices.{counted-price, moves-blocks}
@@ -281,29 +282,43 @@ module _ (t : Task) (s : Sheet) (w : WellFormed t) (r : Sound t s) (counted : s 
       (once-or s (eventRows i (e .kind) (e .value) (running t fs)) c (turn t s (record { frames = places fs; core = c }) (act e)) _ _ _ _
       (once-event (suc i) es fs c (act e) (k .standing) k x (once-from (suc i) es)))
 
-  -- from a fresh start on a core that writes back all
-  eager-once : 0 < count t → (c : Core) (es : List Event) → Window t s [] c → Clean c → c .eviction ≡ Eager
-      → ran t s c es .moved ≤ allowed t (chargingOnce s) es
+  -- from function 0 on, on a core that writes back all
+  once-main : 0 < count t → (c : Core) (es : List Event) → Window t s [] c → Clean c → c .eviction ≡ Eager
+      → ranFrom t s 0 (mainState t c) es .moved ≤ allowedFrom t (chargingOnce s) 0 (mainFrames t) es
   unfolding places reserve
-  eager-once h c es u k e =
+  once-main h c es u k e =
       omega (
         arith,
         potential-start t s w r h c u,
-        once-from 0 es (firstFrames t) (reserve (func t 0 .frame) c .core) (runs-start t s w r h c u k) e,
+        once-from 0 es (mainFrames t) (reserve (func t 0 .frame) c .core) (runs-start t s w r h c u k) e,
       )
 
+  -- a task that has finished moves nothing
+  once-finished : (c : Core) (es : List Event)
+      → ranFrom t s 0 (record { frames = []; core = c }) es .moved ≤ allowedFrom t (chargingOnce s) 0 [] es
+  unfolding ranFrom allowedFrom eventRows
+  once-finished c [] = omega arith
+  once-finished c (e ∷ es) = omega arith
+
+  -- from a fresh start on a core that writes back all
+  eager-once : (c : Core) (es : List Event) → (0 < count t → Window t s [] c) → Clean c → c .eviction ≡ Eager
+      → ran t s c es .moved ≤ allowed t (chargingOnce s) es
+  eager-once c es u k e =
+      by-stack (count t) (λ b. ranFrom t s 0 (if b then record { frames = []; core = c } else mainState t c) es .moved
+      ≤ allowedFrom t (chargingOnce s) 0 (if b then [] else mainFrames t) es) (once-finished c es) (λ h. once-main h c es (u h) k e)
+
   -- from a fresh start on either core, over every list: the same core that writes back all moves no less
-  pub run-once : 0 < count t → (c : Core) (es : List Event) → Window t s [] c → Clean c → ran t s c es .moved ≤ allowed t (chargingOnce s) es
-  run-once h c es u k =
-      let v : Window t s [] (eagerly c) = record {
-        top = u .top;
-        blocks = u .blocks;
-        room = u .room;
-        inside = u .inside;
-        fits = u .fits;
-        needed = u .needed;
+  pub run-once : (c : Core) (es : List Event) → (0 < count t → Window t s [] c) → Clean c → ran t s c es .moved ≤ allowed t (chargingOnce s) es
+  run-once c es u k =
+      let v : 0 < count t → Window t s [] (eagerly c) = λ h. record {
+        top = u h .top;
+        blocks = u h .blocks;
+        room = u h .room;
+        inside = u h .inside;
+        fits = u h .fits;
+        needed = u h .needed;
       } in
-      le-trans (less-moved t s w r h c es u k .moved) (eager-once h (eagerly c) es v (record { within = k .within; equal = k .equal }) refl)
+      le-trans (less-moved t s w r c es u k .moved) (eager-once (eagerly c) es v (record { within = k .within; equal = k .equal }) refl)
 
 -- ---- exactly one preemption
 
@@ -354,8 +369,8 @@ pays-once x first text work events answers cache memory = go (runJudged first te
     go (task t) e =
         let a = run-accepted first text events answers cache memory t e in
         let w = a .formed in
-        rw e (run-once t (sheetOf t) w (sound t w inBlocks counted-price) refl (w .shaped .some) (idle x cache memory) (eventsOf events)
-        (window-idle t (sheetOf t) x cache memory (a .blocks) (a .room)) (clean-idle x cache memory))
+        rw e (run-once t (sheetOf t) w (sound t w inBlocks counted-price) refl (idle x cache memory) (eventsOf events)
+        (λ h. window-idle t (sheetOf t) x cache memory (a .blocks h) (a .room)) (clean-idle x cache memory))
 
 -- run and run_lazy, with start 0 and each 1
 pub services-once : (x : Eviction) (text : List ℕ) (start each : ℕ) (work events answers cache memory : List ℕ) → start ≡ 0 → each ≡ 1

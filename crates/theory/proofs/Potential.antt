@@ -15,7 +15,7 @@ use Rattle.model.specs.Walk.{leads, called, isEnsure}
 use Rattle.model.specs.Core.{Core, Clean, effective, saveMoves, resumed, resumeMoves, reserve, free, ensure, store}
 use Rattle.model.specs.Figures.{longest}
 use Rattle.model.specs.Sheet.{Sheet}
-use Rattle.model.specs.Plain.{Frame, entered, movedTo, stepped, firstFrames}
+use Rattle.model.specs.Plain.{Frame, entered, movedTo, stepped, mainFrames}
 use Rattle.model.specs.Run.{Turn, stepTurn, stepBound}
 use Rattle.theory.proofs.Lists.{by-test}
 use Rattle.model.specs.WellFormed.{WellFormed}
@@ -252,7 +252,7 @@ module _ (t : Task) (s : Sheet) (w : WellFormed t) (r : Sound t s) where
 
   -- at the start there is no delayed fill
   pub potential-start : 0 < count t → (c : Core) → Window t s [] c
-      → potential t s (r .ground) (firstFrames t) (reserve (func t 0 .frame) c .core .occupancy) ≡ 0
+      → potential t s (r .ground) (mainFrames t) (reserve (func t 0 .frame) c .core .occupancy) ≡ 0
   unfolding delayed reserve
   potential-start l c u =
       let q = r .at 0 0 l (w .shaped .nonempty 0 l) .next-frame in

@@ -135,12 +135,21 @@ line-keeps n s l k e = rw e at (line-goes n s l k)
 
 end-keeps : (n : ℕ) (s : Progress) → WithinLimits s → Tasked Shaped (readEnd n s)
 unfolding readEnd
-end-keeps n start k = tt
+end-keeps n start k =
+    record {
+      stack-low = λ h. absurd (omega arith);
+      stack-high = omega arith;
+      few = omega arith;
+      all = unfold sumOf in omega arith;
+      frames = λ f h. absurd (omega arith);
+      nonempty = λ f h. absurd (omega arith);
+      small = λ f h. absurd (omega arith);
+      offsets = λ f p h. absurd (omega arith);
+    }
 end-keeps n (between t) k =
     by-test (Tasked Shaped) (leb 1 (count t)) (λ h. record {
-      stack-low = k .low;
+      stack-low = λ j. k .low;
       stack-high = k .high;
-      some = leb→le 1 (count t) h;
       few = k .few;
       all = k .all;
       frames = λ f j. k .closed f j .0 .frame;

@@ -15,7 +15,7 @@ use Rattle.model.specs.Walk.{leads, called, touches, isEnsure}
 use Rattle.model.specs.Core.{Core, reserve, free, ensure, store, save, withCache, resume, idle}
 use Rattle.model.specs.Figures.{longest}
 use Rattle.model.specs.Sheet.{Sheet}
-use Rattle.model.specs.Plain.{Frame, entered, movedTo, stepped, firstFrames}
+use Rattle.model.specs.Plain.{Frame, entered, movedTo, stepped, mainFrames}
 use Rattle.model.specs.Run.{stepTurn}
 use Rattle.theory.proofs.Lists.{by-test, largest-bounds}
 use Rattle.model.specs.WellFormed.{WellFormed}
@@ -198,7 +198,7 @@ module _ (t : Task) (s : Sheet) (w : WellFormed t) (r : Sound t s) where
   unfolding total
   room-start h c u = omega (arith, frame-room t w 0 h, u .top, u .room)
 
-  pub window-start : 0 < count t → (c : Core) → Window t s [] c → Window t s (firstFrames t) (reserve (func t 0 .frame) c .core)
+  pub window-start : 0 < count t → (c : Core) → Window t s [] c → Window t s (mainFrames t) (reserve (func t 0 .frame) c .core)
   window-start h c u = window-reserve [] c 0 h (room-start h c u) u
 
 -- an idle core has no frames

@@ -115,7 +115,7 @@ module _ {price : Price} {w : List ℕ} {h : Header} {x : State} {cache memory :
   at-within = omega (arith, top-in .at-in, size-is w h (x .f) fn-within)
 
   pub runs-good : Good (coreOf (x .machine) cache memory)
-  runs-good = window-good t (sheetAt price t) _ _ (formed .shaped .stack-low) (runs-top .window) (runs-top .clean)
+  runs-good = window-good t (sheetAt price t) _ _ (formed .shaped .stack-low (omega (arith, top-in .fn-in))) (runs-top .window) (runs-top .clean)
 
   pub depth-few : x .depth ≤ mostFuncs
   depth-few =

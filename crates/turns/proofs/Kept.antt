@@ -7,10 +7,10 @@ use native.Mathlib.Omega.{arith}
 use lib.ListN.{length}
 use Rattle.model.specs.declared.Eviction.{Eviction}
 use Rattle.model.specs.Refusal.{eventRows}
-use Rattle.model.specs.Task.{Task}
+use Rattle.model.specs.Task.{Task, count}
 use Rattle.model.specs.Core.{Core, idle}
 use Rattle.model.specs.Figures as model
-use Rattle.model.specs.Plain.{Act, afterEvent, firstFrames}
+use Rattle.model.specs.Plain.{Act, afterEvent, mainFrames}
 use Rattle.model.specs.Run as run
 use Rattle.model.specs.Run.{runningPlace, turn, eventBound}
 use Rattle.theory.specs.Sound.{Sound}
@@ -22,6 +22,7 @@ use Rattle.theory.proofs.Lawful.{sound}
 use Rattle.theory.proofs.Prices.{price-moves}
 use Rattle.tables.specs.declared.Header.{Header}
 use Rattle.tables.specs.Tables.{taskOf}
+use Rattle.tables.proofs.Laws.{count-is}
 use Rattle.prices.specs.declared.Price.{Price}
 use Rattle.prices.specs.Prices.{priceOf}
 use Rattle.figures.specs.Figured.{sheetAt}
@@ -93,30 +94,32 @@ module _ {price : Price} {w : List ℕ} {h : Header} {x : State} {cache memory :
 -- a loop begins with a state in which function 0 has just been entered
 pub record FirstState (price : Price) (w : List ℕ) (h : Header) (x : State) (cache memory : List ℕ) : Type 0 where
   pub runs : Runs price w h x cache memory
-  pub frames : runs .frames ≡ firstFrames (taskOf w h)
+  pub frames : runs .frames ≡ mainFrames (taskOf w h)
 
-pub begins : {price : Price} {w : List ℕ} {h : Header} {x : State} (e : Eviction) (cache memory : List ℕ) → Bounded price w h → Started e w h (length memory) x
+pub begins : {price : Price} {w : List ℕ} {h : Header} {x : State} (e : Eviction) (cache memory : List ℕ) → Bounded price w h → 0 < h .funcs
+    → Started e w h (length memory) x
     → length cache ≡ h .stack
     → model.longest (taskOf w h) 0 ≤ length memory → FirstState price w h x cache memory
 unfolding places
-begins {price} {w} {h} {x} y cache memory k a i j =
+begins {price} {w} {h} {x} y cache memory k n a i j =
     let t = taskOf w h in
+    let some-func : 0 < count t = omega (arith, n, count-is w h) in
     let f = k .figured .settled .formed in
     let s = sound t f (priceOf price) (price-moves (price .start) (price .each)) in
     let e = a .state cache memory i refl in
-    let r = runs-start t (sheetAt price t) f s (f .shaped .some) (idle y cache memory) (window-idle t (sheetAt price t) y cache memory i j) (clean-idle y cache memory) in
+    let r = runs-start t (sheetAt price t) f s some-func (idle y cache memory) (window-idle t (sheetAt price t) y cache memory i j) (clean-idle y cache memory) in
     record {
       runs = record {
         bounded = k;
-        frames = firstFrames t;
+        frames = mainFrames t;
         same = ap (λ (z : run.State). z .frames) e;
         sound = s;
         on = record {
-          some = omega (arith, f .shaped .stack-low);
+          some = omega (arith, f .shaped .stack-low some-func);
           few = omega (arith, f .shaped .stack-high);
           top = a .top ∙ ap (λ (n : ℕ). x .machine .st % n) (sym i);
         };
-        running = subst (λ (z : Core). Running t (sheetAt price t) (s .ground) (firstFrames t) z) (sym (ap (λ (z : run.State). z .core) e)) r;
+        running = subst (λ (z : Core). Running t (sheetAt price t) (s .ground) (mainFrames t) z) (sym (ap (λ (z : run.State). z .core) e)) r;
       };
       frames = refl;
     }

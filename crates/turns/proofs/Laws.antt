@@ -43,19 +43,18 @@ stays-same w = record { below = λ i l. refl; kept = kept-same framesEnd w }
 
 -- ---- a start
 
-module _ {w : List ℕ} {h : Header} (k : Settled w h) where
-  some-funcs : 0 < h .funcs
-  some-funcs = omega (arith, count-is w h, k .formed .shaped .some)
+module _ {w : List ℕ} {h : Header} (k : Settled w h) (some : 0 < h .funcs) where
+  some-func : 0 < count (taskOf w h)
+  some-func = omega (arith, count-is w h, some)
 
   first-frame : (s : Span) → s ≡ spanAt w 0 → s .frame ≡ func (taskOf w h) 0 .frame
-  first-frame s e = ap (λ (z : Span). z .frame) e ∙ sym (frame-is w h 0 some-funcs)
+  first-frame s e = ap (λ (z : Span). z .frame) e ∙ sym (frame-is w h 0 some)
 
   pub start-room : (s : Span) (n : ℕ) → s ≡ spanAt w 0 → longest (taskOf w h) 0 ≤ n → (0 < h .stack) × (s .frame ≤ h .stack) × (s .frame ≤ n)
   start-room s n e l =
       let t = k .formed in
-      let c : 0 < count (taskOf w h) = t .shaped .some in
       let f = first-frame s e in
-      (omega (arith, t .shaped .stack-low), omega (arith, f, t .shaped .frames 0 c), omega (arith, f, frame-room (taskOf w h) t 0 c))
+      (omega (arith, t .shaped .stack-low some-func), omega (arith, f, t .shaped .frames 0 some-func), omega (arith, f, frame-room (taskOf w h) t 0 some-func))
 
   -- x: the eviction; l, the number that the machine has for it
   pub start-is : (x : Eviction) (s : Span) (l : ℕ) (m r : Machine) (n : ℕ) → s ≡ spanAt w 0 → evictionOf l ≡ x → Entered Eager (h .stack) (s .frame) n m
@@ -63,7 +62,7 @@ module _ {w : List ℕ} {h : Header} (k : Settled w h) where
       → Started x w h n (record { depth = 1; f = 0; p = 0; machine = r; moved = 0; allowed = 0 })
   unfolding placesIn
   start-is x s l m r n e y a b =
-      let f = k .formed .shaped .frames 0 (k .formed .shaped .some) in
+      let f = k .formed .shaped .frames 0 some-func in
       let a′ = entered-with m r (evictionOf l) Eager (h .stack) (s .frame) n (omega (arith, f, first-frame s e)) a b in
       record {
         state = λ cache memory i j.

@@ -9,7 +9,7 @@ use Rattle.model.specs.Task.{func, point}
 use Rattle.model.specs.Core.{idle}
 use Rattle.model.specs.Plain.{Frame, Act, act}
 use Rattle.model.specs.Run as run
-use Rattle.model.specs.Run.{eventBound, freshState}
+use Rattle.model.specs.Run.{eventBound, mainState}
 use Rattle.theory.specs.Sound.{Sound}
 use Rattle.theory.proofs.Frames.{places}
 use Rattle.theory.proofs.Fair.{Running}
@@ -69,7 +69,7 @@ pub record Turns (price : Price) (w : List ℕ) (h : Header) (x : State) (cache 
 -- nothing is allowed
 pub record Started (e : Eviction) (w : List ℕ) (h : Header) (numbers : ℕ) (x : State) : Type 0 where
   pub state : (cache memory : List ℕ) → length cache ≡ h .stack → length memory ≡ numbers
-      → stateOf w x cache memory ≡ freshState (taskOf w h) (idle e cache memory)
+      → stateOf w x cache memory ≡ mainState (taskOf w h) (idle e cache memory)
   pub top : x .machine .top ≡ x .machine .st % h .stack
   pub moved : x .moved ≡ 0
   pub allowed : x .allowed ≡ 0

@@ -62,7 +62,7 @@ fn lazy_of(eviction: Eviction) -> usize
 
 // Function 0 has been entered on a memory of this length, on the core that evicts so. Nothing was moved, and nothing is allowed.
 pub fn start(work: &[u32], h: Header, eviction: Eviction, length: usize) -> State
-    requires { ⌜ Settled (now work) h × (longest (taskOf (now work) h) 0 ≤ length) ⌝ }
+    requires { ⌜ Settled (now work) h × (0 < h .funcs) × (longest (taskOf (now work) h) 0 ≤ length) ⌝ }
     ensures { λ r. ⌜ Started eviction (now (work .entry)) h length r ⌝ }
 {
     let s = tables::span_at(work, 0);

@@ -74,7 +74,7 @@ run-events-spec =
     (tie.spec
     Inv-loop
     μ-loop
-    (λ c κs. let p = c .before .before .before .before .before .before .pre in (p .bounded .figured .settled, p .room))
+    (λ c κs. let p = c .before .before .before .before .before .before .pre in (p .bounded .figured .settled, p .some, p .room))
     (λ c. let s = c .before .before .before .before .before .before .before in (loops-start (s .args .eviction) (c .start .result) (s .pre) (c .start .ensures), omega arith, refl, refl))
     (λ c. omega arith)
     (λ c. omega arith)

@@ -8,7 +8,7 @@ returns : tie.Need-returns
 returns c =
     let f = c .before in
     let s = f .before .before in
-    start-is (s .before .before .pre .0) _ _ _ (f .fresh .result) _ _ (s .span-at .ensures) (f .before .lazy-of .ensures) (f .fresh .ensures)
+    start-is (s .before .before .pre .0) (s .before .before .pre .1) _ _ _ (f .fresh .result) _ _ (s .span-at .ensures) (f .before .lazy-of .ensures) (f .fresh .ensures)
     (c .evicting .ensures)
 
 pub start-spec : {M : Type 1} → statement M
@@ -17,6 +17,6 @@ start-spec =
     (tie.spec
     (λ c κs. search needs)
     (λ c κs. search needs)
-    (λ c κs. start-room (c .before .before .before .pre .0) _ _ (c .before .span-at .ensures) (c .before .before .before .pre .1))
+    (λ c κs. start-room (c .before .before .before .pre .0) (c .before .before .before .pre .1) _ _ (c .before .span-at .ensures) (c .before .before .before .pre .2))
     (λ c κs. search needs)
     returns)
