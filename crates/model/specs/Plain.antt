@@ -104,7 +104,7 @@ plainFrom t i fs (e ∷ es) =
 abbrev pub mainFrames : Task → List Frame
 mainFrames t = entered t 0 ∷ []
 
--- so it is at the start; a task without a stack has finished
+-- a fresh start: function 0 has been entered; a task without a stack has finished
 abbrev pub firstFrames : Task → List Frame
 firstFrames t = if stackless t then [] else mainFrames t
 

@@ -117,9 +117,13 @@ ranFrom t s i x (e ∷ es) =
 abbrev pub mainState : Task → Core → State
 mainState t c = record { frames = record { fn = 0; at = 0 } ∷ []; core = reserve (func t 0 .frame) c .core }
 
--- so it is at a fresh start; a task without a stack has finished, and nothing is touched
+-- a task that has finished on core c
+abbrev pub finishedState : Core → State
+finishedState c = record { frames = []; core = c }
+
+-- a fresh start: function 0 has been entered; a task without a stack has finished, and nothing is touched
 abbrev pub freshState : Task → Core → State
-freshState t c = if stackless t then record { frames = []; core = c } else mainState t c
+freshState t c = if stackless t then finishedState c else mainState t c
 
 abbrev pub ran : Task → Sheet → Core → List Event → Ran
 ran t s c es = ranFrom t s 0 (freshState t c) es

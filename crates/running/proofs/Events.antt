@@ -1,6 +1,7 @@
 -- The rows of run by their tests, and what run returns and leaves.
 use Prim.Native.Nat.{ℕ, _/_, _%_, _≤_, _<_}
-use mathlib.Core.Bool.{_&&_}
+use mathlib.Core.Bool.{_&&_, _||_}
+use mathlib.Core.Logic.{⊎-elim}
 use mathlib.Core.List.{List, [], _∷_}
 use mathlib.Core.Option.{Option, none, some}
 use mathlib.Core.Path.{_≡_, refl, ap, sym, subst, _∙_}
@@ -19,19 +20,18 @@ use Rattle.model.specs.Limits.{mostEventNumbers}
 use Rattle.model.specs.Basic.{unless, _orElse_}
 use Rattle.model.specs.Rows.{refuse, rowVerdict}
 use Rattle.model.specs.Task.{Task, count, Judged, refused, task}
-use Rattle.model.specs.Core.{idle}
-use Rattle.model.specs.Figures.{longest, longestTo}
-use Rattle.model.specs.Sheet.{movePrice, pricedSheet}
-use Rattle.model.specs.Refusal.{withRows, pricedRows, runRows, eventRows}
-use Rattle.model.specs.Plain.{Event, eventsOf}
-use Rattle.model.specs.Run.{Ran, ranFrom, allowed, allowedFrom}
-use Rattle.model.specs.Services.{cleared, over, AfterRun, servedAs, runAs, runJudged, runWith, runOf, Demand3, LeavesClean, PaysOnce}
-use Rattle.theory.proofs.Lists.{and-holds}
+use Rattle.model.specs.Figures.{longest}
+use Rattle.model.specs.Sheet.{movePrice}
+use Rattle.model.specs.Refusal.{withRows, pricedRows, runRows}
+use Rattle.model.specs.Plain.{eventsOf}
+use Rattle.model.specs.Services.{cleared, AfterRun, runAs, runJudged, runWith, runOf, Demand3, LeavesClean, PaysOnce}
+use Rattle.theory.specs.Without.{firstRow, nothingDone}
+use Rattle.theory.proofs.Lists.{and-holds, or-holds}
 use Rattle.theory.proofs.Firsts.{row-none, unless-none}
 use Rattle.theory.proofs.Search.{verdict-none, verdict-some}
-use Rattle.theory.proofs.Fair.{ran-none, allowed-none}
 use Rattle.theory.proofs.Faithful.{demand-3, leaves-clean}
 use Rattle.theory.proofs.Once.{services-once}
+use Rattle.theory.proofs.Without.{longest-none, finished-run}
 use Rattle.tables.specs.declared.Header.{Header}
 use Rattle.tables.specs.Tables.{taskOf}
 use Rattle.tables.proofs.Laws.{count-is}
@@ -44,48 +44,69 @@ use Rattle.run.specs.Events.{Fitting, endedWith, Serves}
 use Rattle.judge.specs.declared.Judgement.{Judgement}
 use Rattle.judge.specs.Judgement.{judgedIn}
 use Rattle.serving.specs.Served.{Lent}
-use Rattle.running.specs.Performs.{bufferRows, noneDone, afterRun, performed, Performs, Finishes}
+use Rattle.running.specs.Performs.{bufferRows, noneDone, finishedBefore, afterRun, performed, Performs}
 use Rattle.serving.proofs.Laws.{own-rows}
 
 -- ---- 16, 17 and 18 by their tests
 
-module _ (e a c s : ℕ) {v : Verdict} where
-  pub odd-list : (e % 2 ≡ 0 → ⊥) → v ≡ Refused (refuse EventList 0) → v ≡ rowVerdict (bufferRows e a c s)
-  odd-list n i = rw (ne-eqb (e % 2) 0 n) i
+module _ (e a c n s : ℕ) {v : Verdict} where
+  pub odd-list : (e % 2 ≡ 0 → ⊥) → v ≡ Refused (refuse EventList 0) → v ≡ rowVerdict (bufferRows e a c n s)
+  odd-list p i = rw (ne-eqb (e % 2) 0 p) i
 
   module _ (p : e % 2 ≡ 0) where
-    pub long-list : mostEventNumbers < e → v ≡ Refused (refuse EventList 0) → v ≡ rowVerdict (bufferRows e a c s)
+    pub long-list : mostEventNumbers < e → v ≡ Refused (refuse EventList 0) → v ≡ rowVerdict (bufferRows e a c n s)
     long-list h i = rw (eq-eqb (e % 2) 0 p, lt-leb e mostEventNumbers h) i
 
     module _ (h : e ≤ mostEventNumbers) where
-      pub few-answers : a < e / 2 → v ≡ Refused (refuse AnswersTooSmall (e / 2)) → v ≡ rowVerdict (bufferRows e a c s)
+      pub few-answers : a < e / 2 → v ≡ Refused (refuse AnswersTooSmall (e / 2)) → v ≡ rowVerdict (bufferRows e a c n s)
       few-answers k i = rw (eq-eqb (e % 2) 0 p, le-leb e mostEventNumbers h, lt-leb (e / 2) a k) i
 
-      pub other-cache : e / 2 ≤ a → (c ≡ s → ⊥) → v ≡ Refused (refuse CacheSize s) → v ≡ rowVerdict (bufferRows e a c s)
-      other-cache k n i = rw (eq-eqb (e % 2) 0 p, le-leb e mostEventNumbers h, le-leb (e / 2) a k, ne-eqb c s n) i
+      module _ (k : e / 2 ≤ a) where
+        pub any-cache : n ≡ 0 → v ≡ Accepted → v ≡ rowVerdict (bufferRows e a c n s)
+        any-cache z i = rw (eq-eqb (e % 2) 0 p, le-leb e mostEventNumbers h, le-leb (e / 2) a k, eq-eqb n 0 z) i
 
-      pub buffers-pass : e / 2 ≤ a → c ≡ s → v ≡ Accepted → v ≡ rowVerdict (bufferRows e a c s)
-      buffers-pass k j i = rw (eq-eqb (e % 2) 0 p, le-leb e mostEventNumbers h, le-leb (e / 2) a k, eq-eqb c s j) i
+        module _ (z : n ≡ 0 → ⊥) where
+          pub other-cache : (c ≡ s → ⊥) → v ≡ Refused (refuse CacheSize s) → v ≡ rowVerdict (bufferRows e a c n s)
+          other-cache j i = rw (eq-eqb (e % 2) 0 p, le-leb e mostEventNumbers h, le-leb (e / 2) a k, ne-eqb n 0 z, ne-eqb c s j) i
+
+          pub buffers-pass : c ≡ s → v ≡ Accepted → v ≡ rowVerdict (bufferRows e a c n s)
+          buffers-pass j i = rw (eq-eqb (e % 2) 0 p, le-leb e mostEventNumbers h, le-leb (e / 2) a k, ne-eqb n 0 z, eq-eqb c s j) i
 
 -- buffers that they do not refuse
-record Pass (e a c s : ℕ) : Type 0 where
+record Pass (e a c n s : ℕ) : Type 0 where
   paired : e % 2 ≡ 0
   few : e ≤ mostEventNumbers
   answered : e / 2 ≤ a
-  blocks : c ≡ s
+  blocks : 0 < n → c ≡ s
 
-passes : (e a c s : ℕ) → bufferRows e a c s ≡ none → Pass e a c s
-passes e a c s n =
-    let i = row-none (eqb (e % 2) 0 && leb e mostEventNumbers) (refuse EventList 0) _ .0 n in
+passes : (e a c n s : ℕ) → bufferRows e a c n s ≡ none → Pass e a c n s
+passes e a c n s o =
+    let i = row-none (eqb (e % 2) 0 && leb e mostEventNumbers) (refuse EventList 0) _ .0 o in
     let j = row-none (leb (e / 2) a) (refuse AnswersTooSmall (e / 2)) _ .0 (i .1) in
-    let k = unless-none (eqb c s) (refuse CacheSize s) .0 (j .1) in
+    let k = unless-none (eqb n 0 || eqb c s) (refuse CacheSize s) .0 (j .1) in
     let l = and-holds (eqb (e % 2) 0) (leb e mostEventNumbers) .0 (i .0) in
     record {
       paired = eqb→eq (e % 2) 0 (l .0);
       few = leb→le e mostEventNumbers (l .1);
       answered = leb→le (e / 2) a (j .0);
-      blocks = eqb→eq c s k;
+      blocks = λ h. ⊎-elim (λ z. absurd (omega (arith, eqb→eq n 0 z))) (eqb→eq c s) (or-holds (eqb n 0) (eqb c s) .0 k);
     }
+
+-- ---- a run that has finished before the first event
+
+pub none-to-do : (e : ℕ) {r : RunResult} → e ≡ 0 → r ≡ endedWith AllDone 0 0 0 → r ≡ finishedBefore e
+none-to-do e z i = rw (eq-eqb e 0 z) i
+
+pub first-refused : (e : ℕ) {r : RunResult} → (e ≡ 0 → ⊥) → r ≡ noneDone (refuse AfterFinish 0) → r ≡ finishedBefore e
+first-refused e z i = rw (ne-eqb e 0 z) i
+
+-- as the model has it
+finished-after : (events work answers cache memory : List ℕ) → length events % 2 ≡ 0
+    → afterRun (finishedBefore (length events)) work answers cache memory ≡ nothingDone (firstRow (eventsOf events)) work answers cache memory
+unfolding eventsOf
+finished-after [] work answers cache memory p = refl
+finished-after (b ∷ []) work answers cache memory p = absurd (omega arith)
+finished-after (b ∷ c ∷ l) work answers cache memory p = rw (ne-eqb (length (b ∷ c ∷ l)) 0 (λ z. omega arith)) refl
 
 -- ---- 16 to 19
 
@@ -94,42 +115,56 @@ or-later none none c d = refl
 or-later none (some r) c d = refl
 or-later (some r) b c d = refl
 
--- function 0 is there
-pub some-func : (w : List ℕ) (h : Header) → 0 < h .funcs → 0 < count (taskOf w h)
-some-func w h n = omega (arith, count-is w h)
-
--- 19 comes after the others; there is a stack, so 18 is asked
-rows-split : (e a c m : ℕ) (t : Task) → 0 < count t
-    → runRows e a c m t ≡ (bufferRows e a c (t .stack) orElse unless (leb (longest t 0) m) (refuse MemoryTooSmall (longest t 0)))
+-- 19 comes after the others
+rows-split : (e a c m : ℕ) (t : Task)
+    → runRows e a c m t ≡ (bufferRows e a c (count t) (t .stack) orElse unless (leb (longest t 0) m) (refuse MemoryTooSmall (longest t 0)))
 unfolding runRows
-rows-split e a c m t n =
-    rw (ne-eqb (count t) 0 (λ z. omega arith))
-    (or-later (unless (eqb (e % 2) 0 && leb e mostEventNumbers) (refuse EventList 0)) (unless (leb (e / 2) a) (refuse AnswersTooSmall (e / 2))) _ _)
+rows-split e a c m t =
+    or-later (unless (eqb (e % 2) 0 && leb e mostEventNumbers) (refuse EventList 0)) (unless (leb (e / 2) a) (refuse AnswersTooSmall (e / 2))) _ _
 
--- the run of an accepted task, where v is the verdict of 16, 17 and 18
-module _ (x : Eviction) (price : Price) {t : Task} (some-func : 0 < count t) (events answers cache memory : List ℕ) {v : Verdict}
-    (e : v ≡ rowVerdict (bufferRows (length events) (length answers) (length cache) (t .stack))) where
+-- what they find, for a task of n functions
+rows-found : (e a c m n : ℕ) (t : Task) → count t ≡ n → (o : Option Refusal) → bufferRows e a c n (t .stack) ≡ o
+    → runRows e a c m t ≡ (o orElse unless (leb (longest t 0) m) (refuse MemoryTooSmall (longest t 0)))
+rows-found e a c m n t k o h =
+    rows-split e a c m t
+    ∙ ap (λ (z : Option Refusal). z orElse unless (leb (longest t 0) m) (refuse MemoryTooSmall (longest t 0)))
+    (ap (λ (z : ℕ). bufferRows e a c z (t .stack)) k ∙ h)
+
+-- the run of an accepted task of n functions, where v is the verdict of 16, 17 and 18
+module _ (x : Eviction) (price : Price) {t : Task} {n : ℕ} (c : count t ≡ n) (events answers cache memory : List ℕ) {v : Verdict}
+    (e : v ≡ rowVerdict (bufferRows (length events) (length answers) (length cache) n (t .stack))) where
   pub unfit : {q : Refusal} {r : RunResult} (w : List ℕ) → v ≡ Refused q → r ≡ noneDone q
       → Performs x price (task t) w events answers cache memory r w answers cache memory
-  unfit w n i =
-      let m : bufferRows (length events) (length answers) (length cache) (t .stack) ≡ some _ = verdict-some _ (sym e ∙ n) in
+  unfit {q = q} w o i =
       record {
-        left = λ work. rw (rows-split (length events) (length answers) (length cache) (length memory) t some-func, m)
-            (ap (λ (z : RunResult). afterRun z work answers cache memory) i);
+        left = λ work. rw (rows-found (length events) (length answers) (length cache) (length memory) n t c (some q) (verdict-some _ (sym e ∙ o)))
+             (ap (λ (z : RunResult). afterRun z work answers cache memory) i);
+        after = refl;
+      }
+
+  -- there is no function 0
+  pub all-finished : {r : RunResult} (w : List ℕ) → v ≡ Accepted → n ≡ 0 → r ≡ finishedBefore (length events)
+      → Performs x price (task t) w events answers cache memory r w answers cache memory
+  all-finished w o z i =
+      let m : bufferRows (length events) (length answers) (length cache) n (t .stack) ≡ none = verdict-none _ (sym e ∙ o) in
+      let p = passes (length events) (length answers) (length cache) n (t .stack) m in
+      record {
+        left = λ work.
+            rw (rows-found (length events) (length answers) (length cache) (length memory) n t c none m, longest-none t (c ∙ z), leb·zero (length memory))
+            (ap (λ (y : RunResult). afterRun y work answers cache memory) i ∙ finished-after events work answers cache memory (p .paired)
+            ∙ sym (finished-run x (priceOf price) t (c ∙ z) work (eventsOf events) answers cache memory));
         after = refl;
       }
 
   -- t′: the task as its figures were worked out; k: those of function 0
-  module _ (n : v ≡ Accepted) {t′ : Task} (same : t′ ≡ t) {k : FuncFigures} (g : k ≡ funcFigures price t′ 0) where
+  module _ (o : v ≡ Accepted) {t′ : Task} (same : t′ ≡ t) {k : FuncFigures} (g : k ≡ funcFigures price t′ 0) where
     room-is : k .longest ≡ longest t 0
     unfolding funcFigures
     room-is = ap (λ (z : FuncFigures). z .longest) g ∙ ap (λ (z : Task). longest z 0) same
 
     rows-are : runRows (length events) (length answers) (length cache) (length memory) t
         ≡ unless (leb (longest t 0) (length memory)) (refuse MemoryTooSmall (longest t 0))
-    rows-are =
-        let m : bufferRows (length events) (length answers) (length cache) (t .stack) ≡ none = verdict-none _ (sym e ∙ n) in
-        rw (rows-split (length events) (length answers) (length cache) (length memory) t some-func, m) refl
+    rows-are = rows-found (length events) (length answers) (length cache) (length memory) n t c none (verdict-none _ (sym e ∙ o))
 
     module _ {w w′ : List ℕ} {r : RunResult} (after : cleared w′ ≡ cleared w) where
       pub too-little : length memory < k .longest → r ≡ noneDone (refuse MemoryTooSmall (k .longest))
@@ -158,78 +193,21 @@ module _ (x : Eviction) (price : Price) {t : Task} (some-func : 0 < count t) (ev
 -- what the run of the events asks for; w: the working space when the room was asked for
 module _ {price : Price} (w : List ℕ) {w′ : List ℕ} {h : Header} (b : Bounded price w′ h) (same : taskOf w′ h ≡ taskOf w h) (some-func : 0 < h .funcs) where
   pub fits : (events answers cache memory : List ℕ) {v : Verdict} {k : FuncFigures}
-      → v ≡ rowVerdict (bufferRows (length events) (length answers) (length cache) (h .stack)) → v ≡ Accepted → k ≡ funcFigures price (taskOf w h) 0
+      → v ≡ rowVerdict (bufferRows (length events) (length answers) (length cache) (h .funcs) (h .stack)) → v ≡ Accepted
+      → k ≡ funcFigures price (taskOf w h) 0
       → k .longest ≤ length memory → Fitting price w′ h events answers cache memory
   unfolding funcFigures
   fits events answers cache memory e n g l =
-      let p = passes (length events) (length answers) (length cache) (h .stack) (verdict-none _ (sym e ∙ n)) in
+      let p = passes (length events) (length answers) (length cache) (h .funcs) (h .stack) (verdict-none _ (sym e ∙ n)) in
       record {
         bounded = b;
         some = some-func;
         paired = p .paired;
         few = p .few;
         answered = p .answered;
-        blocks = p .blocks;
+        blocks = p .blocks some-func;
         room = omega (arith, ap (λ (z : FuncFigures). z .longest) g, ap (λ (z : Task). longest z 0) same);
       }
-
--- ---- a task without a stack
-
--- of its buffers only 16 and 17 ask something
-rows-without : (e a c m : ℕ) (t : Task) → count t ≡ 0 → runRows e a c m t ≡ bufferRows e a 0 0
-unfolding runRows longest longestTo
-rows-without e a c m t z = rw (z, leb·zero m) refl
-
--- its run, which has finished
-run-without : (x : Eviction) (price : ℕ → ℕ) (t : Task) → count t ≡ 0 → (es : List Event) (work answers cache memory : List ℕ)
-    → runAs x price (task t) work es answers cache memory
-    ≡ servedAs (ranFrom t (pricedSheet price t) 0 (record { frames = []; core = idle x cache memory }) es) (allowedFrom t (pricedSheet price t) 0 [] es)
-    work answers
-run-without x price t z es work answers cache memory =
-    let s = pricedSheet price t in
-    ap (λ (q : Ran). servedAs q (allowed t s es) work answers) (ran-none t s (idle x cache memory) es z)
-    ∙ ap (λ (n : ℕ). servedAs (ranFrom t s 0 (record { frames = []; core = idle x cache memory }) es) n work answers) (allowed-none t s es z)
-
--- v: the verdict of 16 and 17
-module _ (e a : ℕ) {v : Verdict} (k : v ≡ rowVerdict (bufferRows e a 0 0)) where
-  rows-found : (o : Option Refusal) → bufferRows e a 0 0 ≡ o → (t : Task) (events answers cache memory : List ℕ) → count t ≡ 0
-      → length events ≡ e → length answers ≡ a → runRows (length events) (length answers) (length cache) (length memory) t ≡ o
-  rows-found o m t events answers cache memory z h j =
-      rows-without (length events) (length answers) (length cache) (length memory) t z ∙ (λ i. bufferRows (h i) (j i) 0 0) ∙ m
-
-  pub without-unfit : {q : Refusal} {r : RunResult} → v ≡ Refused q → r ≡ noneDone q → Finishes e a r
-  without-unfit {q = q} n i x price t work events answers cache memory z h j =
-      rw (rows-found (some q) (verdict-some _ (sym k ∙ n)) t events answers cache memory z h j)
-      (ap (λ (y : RunResult). afterRun y work answers cache memory) i)
-
-  module _ (n : v ≡ Accepted) where
-    rows-none : bufferRows e a 0 0 ≡ none
-    rows-none = verdict-none _ (sym k ∙ n)
-
-    -- no event
-    pub without-idle : {r : RunResult} → e ≡ 0 → r ≡ endedWith AllDone 0 0 0 → Finishes e a r
-    unfolding eventsOf ranFrom allowedFrom over
-    without-idle y i x price t work [] answers cache memory z h j =
-        rw (rows-found none rows-none t [] answers cache memory z h j)
-        (ap (λ (q : RunResult). afterRun q work answers cache memory) i ∙ sym (run-without x (priceOf price) t z [] work answers cache memory))
-    without-idle y i x price t work (b ∷ l) answers cache memory z h j = absurd (omega arith)
-
-    -- the first event is refused
-    pub without-refused : {r : RunResult} → (e ≡ 0 → ⊥) → r ≡ noneDone (refuse AfterFinish 0) → Finishes e a r
-    unfolding eventsOf ranFrom allowedFrom eventRows over
-    without-refused y i x price t work [] answers cache memory z h j = absurd (y (sym h))
-    without-refused y i x price t work (b ∷ []) answers cache memory z h j = absurd (omega (arith, passes e a 0 0 rows-none .paired))
-    without-refused y i x price t work (b ∷ c ∷ l) answers cache memory z h j =
-        rw (rows-found none rows-none t (b ∷ c ∷ l) answers cache memory z h j)
-        (ap (λ (q : RunResult). afterRun q work answers cache memory) i
-        ∙ sym (run-without x (priceOf price) t z (eventsOf (b ∷ c ∷ l)) work answers cache memory))
-
--- the tables hold a task of no functions
-pub finishes : (x : Eviction) (price : Price) (h : Header) (w events answers cache memory : List ℕ) {r : RunResult} → h .funcs ≡ 0
-    → Finishes (length events) (length answers) r
-    → Performs x price (task (taskOf w h)) w events answers cache memory r w answers cache memory
-finishes x price h w events answers cache memory z f =
-    record { left = λ work. f x price (taskOf w h) work events answers cache memory (count-is w h ∙ z) refl refl; after = refl }
 
 -- ---- what was judged
 

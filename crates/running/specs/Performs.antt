@@ -1,6 +1,6 @@
--- 16, 17 and 18; what run returns and leaves of a text that is judged, and of a task without a stack.
+-- 16, 17 and 18; what run returns where it does no event; and what it returns and leaves of a text that is judged.
 use Prim.Native.Nat.{ℕ, _/_, _%_}
-use mathlib.Core.Bool.{_&&_}
+use mathlib.Core.Bool.{_&&_, _||_}
 use mathlib.Core.Path.{_≡_}
 use mathlib.Core.List.{List}
 use mathlib.Core.Option.{Option}
@@ -8,29 +8,34 @@ use lib.Dec.{eqb, leb}
 use lib.ListN.{length}
 use Rattle.model.specs.declared.Eviction.{Eviction}
 use Rattle.model.specs.declared.Refusal.{Refusal}
-use Rattle.model.specs.declared.Row.the-variants.{EventList, AnswersTooSmall, CacheSize}
+use Rattle.model.specs.declared.Row.the-variants.{EventList, AnswersTooSmall, CacheSize, AfterFinish}
 use Rattle.model.specs.declared.Ending.the-variants as ending
 use Rattle.model.specs.declared.RunResult.{RunResult}
 use Rattle.model.specs.Limits.{mostEventNumbers}
-use Rattle.model.specs.Basic.{unless, _orElse_}
+use Rattle.model.specs.Basic.{if_then_else_, unless, _orElse_}
 use Rattle.model.specs.Rows.{refuse}
-use Rattle.model.specs.Task.{Task, count, Judged, task}
+use Rattle.model.specs.Task.{Judged}
 use Rattle.model.specs.Refusal.{withRows, runRows}
 use Rattle.model.specs.Plain.{eventsOf}
 use Rattle.model.specs.Services.{cleared, AfterRun, runAs}
 use Rattle.prices.specs.declared.Price.{Price}
 use Rattle.prices.specs.Prices.{priceOf}
 
--- 16, 17 and 18, for buffers of these lengths and a task with this many cache blocks
-abbrev pub bufferRows : ℕ → ℕ → ℕ → ℕ → Option Refusal
-bufferRows events answers cache stack =
+-- 16, 17 and 18, for buffers of these lengths and a task with this many functions and cache blocks
+abbrev pub bufferRows : ℕ → ℕ → ℕ → ℕ → ℕ → Option Refusal
+bufferRows events answers cache funcs stack =
     unless (eqb (events % 2) 0 && leb events mostEventNumbers) (refuse EventList 0)
     orElse unless (leb (events / 2) answers) (refuse AnswersTooSmall (events / 2))
-    orElse unless (eqb cache stack) (refuse CacheSize stack)
+    orElse unless (eqb funcs 0 || eqb cache stack) (refuse CacheSize stack)
 
 -- a refusal before the first event
 abbrev pub noneDone : Refusal → RunResult
 noneDone r = record { ending = ending.Refused r; done = 0; moved = 0; allowed = 0 }
+
+-- a task that has finished before the first event, over an event list of so many numbers
+abbrev pub finishedBefore : ℕ → RunResult
+finishedBefore numbers =
+    if eqb numbers 0 then record { ending = ending.AllDone; done = 0; moved = 0; allowed = 0 } else noneDone (refuse AfterFinish 0)
 
 -- what a run has returned and left, as one
 abbrev pub afterRun : RunResult → (work answers cache memory : List ℕ) → AfterRun
@@ -52,9 +57,3 @@ performed x price j work events answers cache memory =
 pub record Performs (x : Eviction) (price : Price) (j : Judged) (w events answers cache memory : List ℕ) (r : RunResult) (w′ answers′ cache′ memory′ : List ℕ) : Type 0 where
   pub left : (work : List ℕ) → afterRun r work answers′ cache′ memory′ ≡ performed x price j work events answers cache memory
   pub after : cleared w′ ≡ cleared w
-
--- r is what a run of a task without a stack returns, over an event list and answers of these lengths; it leaves all buffers as they were
-abbrev pub Finishes : ℕ → ℕ → RunResult → Type 0
-Finishes numbers places r =
-    (x : Eviction) (price : Price) (t : Task) (work events answers cache memory : List ℕ) → count t ≡ 0 → length events ≡ numbers → length answers ≡ places
-    → afterRun r work answers cache memory ≡ performed x price (task t) work events answers cache memory

@@ -10,7 +10,7 @@ ghost use Rattle.tables.specs.Valid.{Settled};
 ghost use Rattle.prices.specs.Prices.{Small};
 ghost use Rattle.judge.specs.Judgement.{judgedIn};
 ghost use Rattle.serving.specs.Served.{ReadyAt};
-ghost use Rattle.running.specs.Performs.{bufferRows, noneDone, Performs, Finishes};
+ghost use Rattle.running.specs.Performs.{bufferRows, noneDone, finishedBefore, Performs};
 use judge::Judgement;
 use model::Ending;
 use model::Eviction;
@@ -22,9 +22,9 @@ use model::Verdict;
 use prices::Price;
 use tables::Header;
 
-// 16, 17 and 18, for buffers of these lengths.
-fn buffer_row(events: usize, answers: usize, cache: usize, stack: u32) -> Verdict
-    ensures { λ v. ⌜ v ≡ rowVerdict (bufferRows events answers cache stack) ⌝ }
+// 16, 17 and 18, for buffers of these lengths. A task without a stack takes any cache.
+fn buffer_row(events: usize, answers: usize, cache: usize, h: Header) -> Verdict
+    ensures { λ v. ⌜ v ≡ rowVerdict (bufferRows events answers cache (h .funcs) (h .stack)) ⌝ }
 {
     if events % 2 != 0 {
         return serving::refusal(Row::EventList, 0);
@@ -34,12 +34,15 @@ fn buffer_row(events: usize, answers: usize, cache: usize, stack: u32) -> Verdic
     }
     let count = events / 2;
     let place = count as u32;
-    let blocks = stack as usize;
+    let blocks = h.stack as usize;
     if answers < count {
         return serving::refusal(Row::AnswersTooSmall, place);
     }
+    if h.funcs == 0 {
+        return Verdict::Accepted;
+    }
     if cache != blocks {
-        return serving::refusal(Row::CacheSize, stack);
+        return serving::refusal(Row::CacheSize, h.stack);
     }
     Verdict::Accepted
 }
@@ -56,14 +59,10 @@ fn refused(r: Refusal) -> RunResult
     }
 }
 
-// A run of a task without a stack, for an event list and answers of these lengths: 16 and 17, and then it has finished. A cache of no blocks for a
-// stack of none passes 18.
-fn run_without(events: usize, answers: usize) -> RunResult
-    ensures { λ r. ⌜ Finishes events answers r ⌝ }
+// A run that has finished before the first event, over an event list of so many numbers.
+fn finished(events: usize) -> RunResult
+    ensures { λ r. ⌜ r ≡ finishedBefore events ⌝ }
 {
-    if let Verdict::Refused(r) = buffer_row(events, answers, 0, 0) {
-        return refused(r);
-    }
     if events == 0 {
         return RunResult {
             ending: Ending::AllDone,
@@ -93,11 +92,11 @@ fn run_task(
     ensures { λ r. ⌜ Performs eviction price (task (taskOf (now (work .entry)) h)) (now (work .entry)) (now (events .entry)) (now (answers .entry)) (now (cache .entry))
         (now (memory .entry)) r (now (work .exit)) (now (answers .exit)) (now (cache .exit)) (now (memory .exit)) ⌝ }
 {
-    if h.funcs == 0 {
-        return run_without(events.len(), answers.len());
-    }
-    if let Verdict::Refused(r) = buffer_row(events.len(), answers.len(), cache.len(), h.stack) {
+    if let Verdict::Refused(r) = buffer_row(events.len(), answers.len(), cache.len(), h) {
         return refused(r);
+    }
+    if h.funcs == 0 {
+        return finished(events.len());
     }
     figures::figure_task(work, h, price);
     let first = figures::func_figures(work, h, price, 0);

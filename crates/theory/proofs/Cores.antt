@@ -12,14 +12,13 @@ use Rattle.model.specs.declared.Eviction.the-variants.{Eager, Lazy}
 use Rattle.model.specs.declared.Point.{Point}
 use Rattle.model.specs.declared.Point.the-variants.{Load, Store, Call, Ensure, Goto, Either, Return}
 use Rattle.model.specs.declared.Refusal.{Refusal}
-use Rattle.model.specs.Basic.{if_then_else_}
 use Rattle.model.specs.Task.{Task, count, func, point, Judged, refused, task}
 use Rattle.model.specs.Core.{Core, Clean, written, effective, spilled, reserveMoves, savedFrom, saveMoves, reserve, free, ensure, store, load, save, withCache, resume, preempt, filledWith, idle}
 use Rattle.model.specs.Figures.{longest}
 use Rattle.model.specs.Sheet.{Sheet, movePrice, pricedSheet}
 use Rattle.model.specs.Refusal.{pricedRows, eventRows}
 use Rattle.model.specs.Plain.{Event, eventsOf, Act, takes, preempted, act, Frame, running, afterEvent, mainFrames}
-use Rattle.model.specs.Run.{Turn, Ran, mainState, stepTurn, turn, orRan, ranFrom, ran}
+use Rattle.model.specs.Run.{Turn, Ran, mainState, finishedState, stepTurn, turn, orRan, ranFrom, ran}
 use Rattle.model.specs.Services.{cleared, runJudged, over, runAs, runWith, runOf}
 use Rattle.model.specs.WellFormed.{WellFormed}
 use Rattle.theory.specs.Sound.{Price, Sound}
@@ -28,7 +27,7 @@ use Rattle.theory.proofs.Blocks.{spilled-out}
 use Rattle.theory.proofs.Clean.{effective-between, clean-idle}
 use Rattle.theory.proofs.Frames.{places, running-same, In, Below, Standing, Window}
 use Rattle.theory.proofs.Window.{room-below, room-start, window-idle}
-use Rattle.theory.proofs.Fair.{Running, fair-event, runs-start, state-is, by-stack}
+use Rattle.theory.proofs.Fair.{Running, fair-event, runs-start, state-is, by-start}
 use Rattle.theory.proofs.Lawful.{sound}
 use Rattle.theory.proofs.Prices.{price-moves}
 use Rattle.theory.proofs.Faithful.{run-accepted}
@@ -148,7 +147,7 @@ module _ (t : Task) (s : Sheet) (w : WellFormed t) (r : Sound t s) where
 
   -- a task that has finished moves nothing on either
   less-finished : (c : Core) (es : List Event)
-      → LessRun (ranFrom t s 0 (record { frames = []; core = c }) es) (ranFrom t s 0 (record { frames = []; core = eagerly c }) es)
+      → LessRun (ranFrom t s 0 (finishedState c) es) (ranFrom t s 0 (finishedState (eagerly c)) es)
   unfolding ranFrom eventRows
   less-finished c [] = record { ending = refl; done = refl; answers = refl; core = refl; moved = omega arith }
   less-finished c (e ∷ es) = record { ending = refl; done = refl; answers = refl; core = refl; moved = omega arith }
@@ -156,9 +155,7 @@ module _ (t : Task) (s : Sheet) (w : WellFormed t) (r : Sound t s) where
   -- from a fresh start on any core with no frames: written back eagerly it leaves the same, and moves no less
   pub less-moved : (c : Core) (es : List Event) → (0 < count t → Window t s [] c) → Clean c → LessRun (ran t s c es) (ran t s (eagerly c) es)
   less-moved c es u k =
-      by-stack (count t) (λ b. LessRun (ranFrom t s 0 (if b then record { frames = []; core = c } else mainState t c) es)
-      (ranFrom t s 0 (if b then record { frames = []; core = eagerly c } else mainState t (eagerly c)) es)) (less-finished c es)
-      (λ h. less-main h c es (u h) k)
+      by-start t (λ x fs. LessRun (ranFrom t s 0 (x c) es) (ranFrom t s 0 (x (eagerly c)) es)) (less-finished c es) (λ h. less-main h c es (u h) k)
 
   -- the two cores of a run
   pub lazy-less : (cache memory : List ℕ) (es : List Event) → (0 < count t → length cache ≡ t .stack) → longest t 0 ≤ length memory

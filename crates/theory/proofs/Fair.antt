@@ -17,11 +17,11 @@ use Rattle.model.specs.Core.{Core, Clean, effective, save, reserve, withCache, 
 use Rattle.model.specs.Sheet.{Sheet}
 use Rattle.model.specs.Refusal.{eventRows}
 use Rattle.model.specs.Plain.{Event, Act, takes, preempted, act, Frame, Plain, entered, running, stepped, afterEvent, loadedFrom, answerOf, orPlain}
-use Rattle.model.specs.Plain.{plainFrom, plain, mainFrames}
-use Rattle.model.specs.Run.{State, Turn, mainState, stepTurn, preemptTurn, turn, Ran, orRan, ranFrom, ran, stepBound, eventBound, orBound, allowedFrom, allowed}
+use Rattle.model.specs.Plain.{plainFrom, plain, mainFrames, firstFrames}
+use Rattle.model.specs.Run.{State, Turn, mainState, finishedState, freshState, stepTurn, preemptTurn, turn, Ran, orRan, ranFrom, ran, stepBound, eventBound, orBound, allowedFrom, allowed}
 use Rattle.model.specs.WellFormed.{WellFormed}
 use Rattle.theory.specs.Sound.{Ground, Sound}
-use Rattle.theory.proofs.Frames.{places, running-same, frames-step, In, Below, Standing, standing-start, standing-step, Window, Needed}
+use Rattle.theory.proofs.Frames.{places, running-same, frames-step, In, Below, Standing, first-main, first-none, standing-start, standing-step, Window, Needed}
 use Rattle.theory.proofs.Clean.{effective-between, clean-reserve, clean-resume, clean-step}
 use Rattle.theory.proofs.Window.{room-start, window-start, window-step, window-save, window-between, window-resume}
 use Rattle.theory.proofs.Contents.{Coherent, Stored, coherent-start, coherent-step, coherent-save, coherent-resume, answer-step}
@@ -181,37 +181,40 @@ module _ (t : Task) (s : Sheet) (w : WellFormed t) (r : Sound t s) where
 
 -- a task that has finished is refused its next event, and nothing is touched
 fair-finished : (t : Task) (s : Sheet) (i : ℕ) (c : Core) → Clean c → (es : List Event)
-    → FairRun (ranFrom t s i (record { frames = []; core = c }) es) (plainFrom t i [] es) (allowedFrom t s i [] es) 0
+    → FairRun (ranFrom t s i (finishedState c) es) (plainFrom t i [] es) (allowedFrom t s i [] es) 0
 unfolding ranFrom plainFrom allowedFrom eventRows
 fair-finished t s i c k [] = record { ending = refl; done = refl; answers = refl; bounded = omega arith; clean = k }
 fair-finished t s i c k (e ∷ es) = record { ending = refl; done = refl; answers = refl; bounded = omega arith; clean = k }
+
+-- ---- a fresh start
 
 -- by whether there is a function
 pub by-stack : (n : ℕ) (P : Bool → Type 0) → P true → (0 < n → P false) → P (eqb n 0)
 by-stack zero P a b = a
 by-stack (suc n) P a b = rw (eqb·suc-zero n) (b (omega arith))
 
+-- P: of the states and the frames that a task starts with
+pub by-start : (t : Task) (P : (Core → State) → List Frame → Type 0) → P finishedState [] → (0 < count t → P (mainState t) (mainFrames t))
+    → P (freshState t) (firstFrames t)
+by-start t P a b = by-stack (count t) (λ z. P (λ c. if z then finishedState c else mainState t c) (if z then [] else mainFrames t)) a b
+
 -- a run starts in function 0, where there is one
 pub ran-main : (t : Task) (s : Sheet) (c : Core) (es : List Event) → 0 < count t → ran t s c es ≡ ranFrom t s 0 (mainState t c) es
-ran-main t s c es h =
-    ap (λ (b : Bool). ranFrom t s 0 (if b then record { frames = []; core = c } else mainState t c) es) (ne-eqb (count t) 0 (λ e. omega arith))
+ran-main t s c es h = ap (λ (b : Bool). ranFrom t s 0 (if b then finishedState c else mainState t c) es) (ne-eqb (count t) 0 (λ e. omega arith))
 
 pub allowed-main : (t : Task) (s : Sheet) (es : List Event) → 0 < count t → allowed t s es ≡ allowedFrom t s 0 (mainFrames t) es
-allowed-main t s es h =
-    ap (λ (b : Bool). allowedFrom t s 0 (if b then [] else mainFrames t) es) (ne-eqb (count t) 0 (λ e. omega arith))
+allowed-main t s es h = ap (λ (fs : List Frame). allowedFrom t s 0 fs es) (first-main t h)
 
 -- where there is none it has finished
-pub ran-none : (t : Task) (s : Sheet) (c : Core) (es : List Event) → count t ≡ 0 → ran t s c es ≡ ranFrom t s 0 (record { frames = []; core = c }) es
-ran-none t s c es e =
-    ap (λ (b : Bool). ranFrom t s 0 (if b then record { frames = []; core = c } else mainState t c) es) (eq-eqb (count t) 0 e)
+pub ran-none : (t : Task) (s : Sheet) (c : Core) (es : List Event) → count t ≡ 0 → ran t s c es ≡ ranFrom t s 0 (finishedState c) es
+ran-none t s c es e = ap (λ (b : Bool). ranFrom t s 0 (if b then finishedState c else mainState t c) es) (eq-eqb (count t) 0 e)
 
 pub allowed-none : (t : Task) (s : Sheet) (es : List Event) → count t ≡ 0 → allowed t s es ≡ allowedFrom t s 0 [] es
-allowed-none t s es e = ap (λ (b : Bool). allowedFrom t s 0 (if b then [] else mainFrames t) es) (eq-eqb (count t) 0 e)
+allowed-none t s es e = ap (λ (fs : List Frame). allowedFrom t s 0 fs es) (first-none t e)
 
 -- a run of any task, with a stack or without
 pub fair-run : (t : Task) (s : Sheet) → WellFormed t → Sound t s → (c : Core) (es : List Event) → (0 < count t → Window t s [] c) → Clean c
     → FairRun (ran t s c es) (plain t es) (allowed t s es) 0
 fair-run t s w r c es u k =
-    by-stack (count t) (λ b. FairRun (ranFrom t s 0 (if b then record { frames = []; core = c } else mainState t c) es)
-    (plainFrom t 0 (if b then [] else mainFrames t) es) (allowedFrom t s 0 (if b then [] else mainFrames t) es) 0) (fair-finished t s 0 c k es)
+    by-start t (λ x fs. FairRun (ranFrom t s 0 (x c) es) (plainFrom t 0 fs es) (allowedFrom t s 0 fs es) 0) (fair-finished t s 0 c k es)
     (λ h. fair-main t s w r h c es (u h) k)

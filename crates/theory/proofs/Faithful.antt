@@ -2,12 +2,12 @@
 -- answers as the plain stack does, moves at most what the sheet allows, and leaves the blocks from LP up to MT equal to memory.
 use Prim.Native.Nat.{ℕ, _/_, _%_, _≤_, _<_}
 use mathlib.Core.Bool.{_&&_, _||_}
-use mathlib.Core.List.{List, [], _∷_}
+use mathlib.Core.List.{List, []}
 use mathlib.Core.Logic.{⊎-elim}
 use mathlib.Core.Option.{Option, none}
 use mathlib.Core.Path.{_≡_, refl, ap}
 use native.Mathlib.Omega.{arith}
-use lib.Dec.{eqb, leb, eqb→eq, leb→le, leb·zero}
+use lib.Dec.{eqb, leb, eqb→eq, leb→le}
 use lib.ListN.{length}
 use Rattle.model.specs.declared.Eviction.{Eviction}
 use Rattle.model.specs.declared.Refusal.{Refusal}
@@ -15,14 +15,14 @@ use Rattle.model.specs.declared.Row.the-variants.{EventList, AnswersTooSmall, C
 use Rattle.model.specs.Limits.{mostEventNumbers}
 use Rattle.model.specs.Rows.{refuse}
 use Rattle.model.specs.Basic.{unless}
-use Rattle.model.specs.Task.{Task, count, without, stackless, Judged, refused, task}
+use Rattle.model.specs.Task.{Task, count, stackless, Judged, refused, task}
 use Rattle.model.specs.Core.{Core, Clean, idle}
-use Rattle.model.specs.Figures.{longest, longestTo}
+use Rattle.model.specs.Figures.{longest}
 use Rattle.model.specs.Sheet.{Sheet, movePrice, pricedSheet}
-use Rattle.model.specs.Refusal.{pricedRows, runRows, eventRows}
+use Rattle.model.specs.Refusal.{pricedRows, runRows}
 use Rattle.model.specs.WellFormed.{WellFormed}
 use Rattle.model.specs.Plain.{Event, eventsOf}
-use Rattle.model.specs.Run.{ranFrom, ran, Faithful}
+use Rattle.model.specs.Run.{Faithful}
 use Rattle.model.specs.Services.{cleared, over, runJudged, runAs, runWith, runOf, Demand3, LeavesClean}
 use Rattle.theory.specs.Sound.{Price, Sound}
 use Rattle.theory.proofs.Lists.{or-holds}
@@ -122,18 +122,3 @@ pub leaves-clean : (x : Eviction) (text : List ℕ) (start each : ℕ) (work eve
     (runOf x text start each work events answers cache memory)
 leaves-clean x text start each work events answers cache memory =
     leaves-clean-with x (movePrice start each) (price-moves start each) (pricedRows (length work) start each) text work events answers cache memory
-
--- ---- a task without a stack (document 02, request 14)
-
--- no event is done, nothing moves, and cache and memory are as they were lent
-pub without-run : (s : Sheet) (c : Core) (es : List Event)
-    → (ran without s c es .done ≡ 0) × (ran without s c es .moved ≡ 0) × (ran without s c es .core ≡ c)
-unfolding ranFrom eventRows
-without-run s c [] = (refl, refl, refl)
-without-run s c (e ∷ es) = (refl, refl, refl)
-
--- its rows 16 to 19 are the same for every cache and memory
-pub without-rows : (events answers cache memory cache′ memory′ : ℕ)
-    → runRows events answers cache memory without ≡ runRows events answers cache′ memory′ without
-unfolding runRows longest longestTo
-without-rows events answers cache memory cache′ memory′ = rw (leb·zero memory, leb·zero memory′) refl

@@ -1,18 +1,22 @@
 -- The frames of a run and of the plain stack stay the same: functions, points and callers. And where the stack stands.
 use Prim.Native.Nat.{ℕ, suc, _+_, _≤_, _<_}
+use mathlib.Core.Bool.{Bool}
 use mathlib.Core.List.{List, [], _∷_, List·Memᴰ, List·Memᴰ·head, List·Memᴰ·tail}
 use mathlib.Core.Option.{some}
 use mathlib.Core.Path.{_≡_, refl, ap, _∙_}
+use native.Mathlib.Omega.{arith}
 use lib.Dec.{T, eqb}
+use borrow.Author.Tests.{eq-eqb, ne-eqb}
 use lib.ListN.{length, length-set, length-replicate}
 use Rattle.model.specs.declared.Point.{Point}
 use Rattle.model.specs.declared.Point.the-variants.{Load, Store, Call, Ensure, Goto, Either, Return}
+use Rattle.model.specs.Basic.{if_then_else_}
 use Rattle.model.specs.Task.{Task, size, count, func, point}
 use Rattle.model.specs.Walk.{leads, called, isCall}
 use Rattle.model.specs.Core.{Core}
 use Rattle.model.specs.Figures.{longest}
 use Rattle.model.specs.Sheet.{Sheet}
-use Rattle.model.specs.Plain.{Frame, entered, movedTo, running, stepped, mainFrames}
+use Rattle.model.specs.Plain.{Frame, entered, movedTo, running, stepped, mainFrames, firstFrames}
 use Rattle.model.specs.Run.{Place, runningPlace, stepTurn}
 use Rattle.theory.proofs.Lists.{by-test}
 use Rattle.model.specs.WellFormed.{WellFormed}
@@ -70,7 +74,14 @@ pub below-stands : {t : Task} {f : ℕ} {fs : List Frame} → Below t f fs → S
 below-stands Below.bottom = Standing.finished
 below-stands (Below.above i s l c b) = Standing.runs i b
 
--- at the start function 0 stands at its first point
+-- a task starts in function 0 where there is one, and has finished where there is none
+pub first-main : (t : Task) → 0 < count t → firstFrames t ≡ mainFrames t
+first-main t h = ap (λ (b : Bool). if b then [] else mainFrames t) (ne-eqb (count t) 0 (λ e. omega arith))
+
+pub first-none : (t : Task) → count t ≡ 0 → firstFrames t ≡ []
+first-none t e = ap (λ (b : Bool). if b then [] else mainFrames t) (eq-eqb (count t) 0 e)
+
+-- function 0 stands at its first point
 pub standing-start : (t : Task) → WellFormed t → 0 < count t → Standing t (mainFrames t)
 standing-start t w h =
     Standing.runs

@@ -58,3 +58,4 @@ pub mod Total
 pub mod Faithful
 pub mod Cores
 pub mod Once
+pub mod Without

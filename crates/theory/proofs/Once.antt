@@ -18,11 +18,10 @@ use Rattle.model.specs.declared.Refusal.{Refusal}
 use Rattle.model.specs.Basic.{sumOf}
 use Rattle.model.specs.Task.{Task, Judged, refused, task, size, count, func, point}
 use Rattle.model.specs.Core.{Core, Clean, written, effective, savedFrom, saveMoves, resumed, resumeMoves, reserve, free, ensure, store, save, resume, filledWith, idle}
-use Rattle.model.specs.Basic.{if_then_else_}
 use Rattle.model.specs.Sheet.{PointSheet, Sheet, movePrice, inBlocks, costed, sheetWith, onceOf, charging, chargingOnce, pricedSheet, sheetOf}
 use Rattle.model.specs.Refusal.{judged, pricedRows, eventRows}
 use Rattle.model.specs.Plain.{Event, Act, takes, preempted, act, Frame, mainFrames, firstFrames, running, stepped, afterEvent, eventsOf}
-use Rattle.model.specs.Run.{Place, Turn, Ran, stepTurn, preemptTurn, turn, orRan, ranFrom, ran, mainState, stepBound, eventBound, orBound, allowedFrom, allowed}
+use Rattle.model.specs.Run.{Place, Turn, Ran, stepTurn, preemptTurn, turn, orRan, ranFrom, ran, mainState, finishedState, stepBound, eventBound, orBound, allowedFrom, allowed}
 use Rattle.model.specs.Preemptions.{preemptedAt, orPreempted, preemptionsFrom, preemptions, spillsAndFills}
 use Rattle.model.specs.Services.{cleared, runJudged, runAs, runWith, runOf, PaysOnce}
 use Rattle.model.specs.WellFormed.{WellFormed}
@@ -36,7 +35,7 @@ use Rattle.theory.proofs.Frames.{places, running-same, frames-step, In,
 use Rattle.theory.proofs.Window.{window-idle}
 use Rattle.theory.proofs.Occupancy.{Occupied}
 use Rattle.theory.proofs.Potential.{potential, paid, potential-start, save-covers, reload-covers, left-delayed}
-use Rattle.theory.proofs.Fair.{Running, fair-step, fair-preempt, runs-start, by-stack, state-is}
+use Rattle.theory.proofs.Fair.{Running, fair-step, fair-preempt, runs-start, by-start, state-is}
 use Rattle.theory.proofs.Lawful.{sound}
 use Rattle.theory.proofs.Before.{never-rises}
 use Rattle.theory.proofs.Prices.{counted-price, moves-blocks}
@@ -295,7 +294,7 @@ module _ (t : Task) (s : Sheet) (w : WellFormed t) (r : Sound t s) (counted : s 
 
   -- a task that has finished moves nothing
   once-finished : (c : Core) (es : List Event)
-      → ranFrom t s 0 (record { frames = []; core = c }) es .moved ≤ allowedFrom t (chargingOnce s) 0 [] es
+      → ranFrom t s 0 (finishedState c) es .moved ≤ allowedFrom t (chargingOnce s) 0 [] es
   unfolding ranFrom allowedFrom eventRows
   once-finished c [] = omega arith
   once-finished c (e ∷ es) = omega arith
@@ -304,8 +303,7 @@ module _ (t : Task) (s : Sheet) (w : WellFormed t) (r : Sound t s) (counted : s 
   eager-once : (c : Core) (es : List Event) → (0 < count t → Window t s [] c) → Clean c → c .eviction ≡ Eager
       → ran t s c es .moved ≤ allowed t (chargingOnce s) es
   eager-once c es u k e =
-      by-stack (count t) (λ b. ranFrom t s 0 (if b then record { frames = []; core = c } else mainState t c) es .moved
-      ≤ allowedFrom t (chargingOnce s) 0 (if b then [] else mainFrames t) es) (once-finished c es) (λ h. once-main h c es (u h) k e)
+      by-start t (λ x fs. ranFrom t s 0 (x c) es .moved ≤ allowedFrom t (chargingOnce s) 0 fs es) (once-finished c es) (λ h. once-main h c es (u h) k e)
 
   -- from a fresh start on either core, over every list: the same core that writes back all moves no less
   pub run-once : (c : Core) (es : List Event) → (0 < count t → Window t s [] c) → Clean c → ran t s c es .moved ≤ allowed t (chargingOnce s) es

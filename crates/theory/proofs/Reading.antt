@@ -1,12 +1,12 @@
 -- What a text that is read as a task is: rows 2 to 6 as facts. Every line keeps what has been read so far within the limits, and
--- with it the task at the end.
+-- with it the task at the end. Only the empty text gives a task of no functions.
 use Prim.Native.Nat.{ℕ, suc, _+_, _≤_, _<_}
 use mathlib.Core.Bool.{Bool, true, false, not, _&&_, _||_}
 use mathlib.Core.List.{List, [], _∷_, _++_}
 use mathlib.Core.Path.{_≡_}
 use native.Mathlib.Decide.{decLt}
 use native.Mathlib.Omega.{arith}
-use lib.Dec.{T, leb, ltb, leb→le, nleb→lt, nltb→le}
+use lib.Dec.{T, eqb, leb, ltb, leb→le, nleb→lt, nltb→le}
 use lib.ListN.{length, getD, length-append, List·getD-append}
 use lib.Seq.{getD-append-seam}
 use Rattle.model.specs.declared.Point.{Point}
@@ -14,8 +14,8 @@ use Rattle.model.specs.declared.Point.the-variants.{Return}
 use Rattle.model.specs.declared.Line.{Line}
 use Rattle.model.specs.declared.Line.the-variants as line
 use Rattle.model.specs.Limits.{mostStack, mostFuncs, mostPoints, mostInAll}
-use Rattle.model.specs.Basic.{sumOf}
-use Rattle.model.specs.Text.{linesOf}
+use Rattle.model.specs.Basic.{if_then_else_, sumOf}
+use Rattle.model.specs.Text.{linesFrom, linesOf}
 use Rattle.model.specs.Task.{Func, Task, Judged, refused, task, Progress, start, between, inside, Step, stop, goes, size, count, inAll, empty, func}
 use Rattle.model.specs.Task.{point, offsetFits, withPoint, withFunc, readLine, readEnd, onward, readFrom, readText}
 use Rattle.model.specs.WellFormed.{Shaped}
@@ -159,16 +159,79 @@ end-keeps n (between t) k =
     }) (λ h. tt)
 end-keeps n (inside t x) k = tt
 
-onward-keeps : (r : Step) (go : Progress → Judged) → Goes WithinLimits r → ((s : Progress) → WithinLimits s → Tasked Shaped (go s))
-    → Tasked Shaped (onward r go)
-onward-keeps (stop r) go k h = tt
-onward-keeps (goes s) go k h = h s k
+-- what every line keeps holds where the text ends. P: of the progress; Q: of the task
+module _ (P : Progress → Type 0) (Q : Task → Type 0) (line : (n : ℕ) (s : Progress) (l : Line) → P s → Goes P (readLine n s l))
+    (end : (n : ℕ) (s : Progress) → P s → Tasked Q (readEnd n s)) where
+  onward-keeps : (r : Step) (go : Progress → Judged) → Goes P r → ((s : Progress) → P s → Tasked Q (go s)) → Tasked Q (onward r go)
+  onward-keeps (stop r) go k h = tt
+  onward-keeps (goes s) go k h = h s k
 
-lines-keep : (n : ℕ) (s : Progress) (ls : List Line) → WithinLimits s → Tasked Shaped (readFrom n s ls)
-unfolding readFrom
-lines-keep n s [] k = end-keeps n s k
-lines-keep n s (l ∷ ls) k = onward-keeps (readLine n s l) (λ s′. readFrom (suc n) s′ ls) (line-goes n s l k) (λ s′ k′. lines-keep (suc n) s′ ls k′)
+  lines-keep : (n : ℕ) (s : Progress) (ls : List Line) → P s → Tasked Q (readFrom n s ls)
+  unfolding readFrom
+  lines-keep n s [] k = end n s k
+  lines-keep n s (l ∷ ls) k = onward-keeps (readLine n s l) (λ s′. readFrom (suc n) s′ ls) (line n s l k) (λ s′ k′. lines-keep (suc n) s′ ls k′)
 
 -- a text that is read as a task gives one within the limits
 pub read-shaped : (text : List ℕ) (t : Task) → readText text ≡ task t → Shaped t
-read-shaped text t e = rw e at (lines-keep 1 start (linesOf text) tt)
+read-shaped text t e = rw e at (lines-keep WithinLimits Shaped line-goes end-keeps 1 start (linesOf text) tt)
+
+-- ---- a text that has a byte has a function
+
+-- a text that is not at its end has a line
+if-some : (t : Bool) (x y : List Line) → 0 < length x → 0 < length y → 0 < length (if t then x else y)
+if-some true x y h i = h
+if-some false x y h i = i
+
+pub lines-some : (l s : List ℕ) → 0 < length l + length s → 0 < length (linesFrom l s)
+unfolding linesFrom
+lines-some [] [] h = absurd (omega arith)
+lines-some (a ∷ l) [] h = omega arith
+lines-some [] (b ∷ s) h = if-some (eqb b 10) _ _ (omega arith) (lines-some (b ∷ []) s (omega arith))
+lines-some (a ∷ l) (b ∷ s) h =
+    if-some (eqb b 10) _ _ (omega arith) (lines-some (a ∷ l ++ (b ∷ [])) s (omega arith))
+
+-- a line has been read
+abbrev Past : Progress → Type 0
+Past start = ⊥
+Past (between t) = Unit {0}
+Past (inside t x) = Unit {0}
+
+line-past : (n : ℕ) (s : Progress) (l : Line) → Goes Past (readLine n s l)
+unfolding readLine
+line-past n start (line.Stack s) = by-test (Goes Past) (leb 1 s && leb s mostStack) (λ h. tt) (λ h. tt)
+line-past n start (line.Func m) = tt
+line-past n start (line.At x) = tt
+line-past n start line.Close = tt
+line-past n start line.Malformed = tt
+line-past n (between t) (line.Stack s) = tt
+line-past n (between t) (line.Func m) =
+    by-test (Goes Past) (ltb (t .stack) m) (λ h. tt) (λ h. by-test (Goes Past) (leb mostFuncs (count t)) (λ j. tt) (λ j. tt))
+line-past n (between t) (line.At x) = tt
+line-past n (between t) line.Close = tt
+line-past n (between t) line.Malformed = tt
+line-past n (inside t x) (line.Stack s) = tt
+line-past n (inside t x) (line.Func m) = tt
+line-past n (inside t x) (line.At p) =
+    by-test (Goes Past) (not (offsetFits (x .frame) p)) (λ h. tt) (λ h.
+    by-test (Goes Past) (leb mostPoints (size x) || leb mostInAll (inAll (t .funcs) + size x)) (λ j. tt) (λ j. tt))
+line-past n (inside t x) line.Close = by-test (Goes Past) (leb 1 (size x)) (λ h. tt) (λ h. tt)
+line-past n (inside t x) line.Malformed = tt
+
+abbrev SomeFunc : Task → Type 0
+SomeFunc t = 0 < count t
+
+end-past : (n : ℕ) (s : Progress) → Past s → Tasked SomeFunc (readEnd n s)
+unfolding readEnd
+end-past n start k = absurd k
+end-past n (between t) k = by-test (Tasked SomeFunc) (leb 1 (count t)) (λ h. omega (arith, leb→le 1 (count t) h)) (λ h. tt)
+end-past n (inside t x) k = tt
+
+lines-past : (ls : List Line) → 0 < length ls → Tasked SomeFunc (readFrom 1 start ls)
+unfolding readFrom
+lines-past [] h = absurd (omega arith)
+lines-past (l ∷ ls) h =
+    onward-keeps Past SomeFunc (λ n s l k. line-past n s l) end-past (readLine 1 start l) (λ s. readFrom 2 s ls) (line-past 1 start l)
+    (λ s k. lines-keep Past SomeFunc (λ n s l k. line-past n s l) end-past 2 s ls k)
+
+pub read-some : (text : List ℕ) (t : Task) → 0 < length text → readText text ≡ task t → 0 < count t
+read-some text t h e = rw e at (lines-past (linesOf text) (lines-some [] text (omega arith)))

@@ -1,6 +1,8 @@
 -- Sound: the rules that the theorem on runs asks of a sheet. Displacement: d over walks, and the rule for it before request 4. Order: what an order has
--- to obey, and what the first of a list are. Cores: two cores, two runs and two services that differ in what is written back.
+-- to obey, and what the first of a list are. Cores: two cores, two runs and two services that differ in what is written back. Without: a run
+-- that has finished before its first event.
 pub mod Sound
 pub mod Displacement
 pub mod Order
 pub mod Cores
+pub mod Without

@@ -1,32 +1,32 @@
--- A task without a stack has finished. Else 16, 17 and 18 refuse, or the figures are worked out; then 19 refuses, or the events are run.
+-- 16, 17 and 18 refuse, or a task without a stack has finished, or the figures are worked out; then 19 refuses, or the events are run.
 use Prim.Native.Nat.{_-_}
 use mathlib.Core.Path.{_∙_}
 use native.Mathlib.Omega.{arith}
 use borrow.Author.Needs.{needs}
 use Rattle.model.specs.Limits.{workLength}
+use Rattle.tables.proofs.Laws.{count-is}
 use Rattle.tables.proofs.Valid.{kept-later}
 use Rattle.figures.specs.Columns.{columnsEnd}
 use Rattle.bounds.specs.Bounds.{boundsEnd}
 use Rattle.run.specs.Events.{framesEnd}
 use Rattle.serving.proofs.Laws.{cleared-same}
-use Rattle.running.proofs.Events.{unfit, too-little, all-run, some-func, fits, finishes}
+use Rattle.running.proofs.Events.{unfit, all-finished, too-little, all-run, fits}
 use Rattle.running.proofs.run_task.Statement.{statement}
 use Rattle.running.proofs.run_task.Tie as tie
 
 returns : tie.Need-returns
 returns c =
-    let a = c .before .before .before .before .before .before .before .before .args in
-    finishes _ _ (a .h) _ _ _ _ _ (omega (arith, c .before .if1 .taken)) (c .run-without .ensures)
+    let a = c .before .before .before .before .before .before .before .before .before .before in
+    unfit _ _ (count-is _ (a .args .h)) _ _ _ _ (c .before .before .before .before .buffer-row .ensures) _ (c .before .before .r .given .1) (c .refused .ensures)
 
 returns-2 : tie.Need-returns-2
 returns-2 c =
-    let a = c .before .before .before .before .before .before .before .before .before .before .before .before .args in
-    unfit _ _ (some-func _ (a .h) (omega (arith, c .before .before .before .before .before .if1 .left))) _ _ _ _
-    (c .before .before .before .before .buffer-row .ensures) _ (c .before .before .r .given .1) (c .refused .ensures)
+    let a = c .before .before .before .before .before .before .before .before .before .before .before in
+    all-finished _ _ (count-is _ (a .args .h)) _ _ _ _ (c .before .before .before .before .before .buffer-row .ensures) _ (c .before .before .before .enum-told .given .1)
+    (omega (arith, c .before .if1 .taken)) (c .finished .ensures)
 
 func-figures-requires : tie.Need-func-figures-requires
-func-figures-requires c κs =
-    (c .before .before .before .figure-task .ensures .0, omega (arith, c .before .before .before .before .before .before .before .before .if1 .left))
+func-figures-requires c κs = (c .before .before .before .figure-task .ensures .0, omega (arith, c .before .before .before .before .before .if1 .left))
 
 returns-3 : tie.Need-returns-3
 returns-3 c =
@@ -34,36 +34,31 @@ returns-3 c =
     let a = c10 .before .before .before .before .before .before .before .before in
     let f = c .before .before .before .before .before .before .figure-task .ensures in
     let s = cleared-same (a .pre .1) (kept-later (workLength - columnsEnd) (f .2)) in
-    too-little _ _ (some-func _ (a .args .h) (omega (arith, c10 .before .if1 .left))) _ _ _ _ (c10 .buffer-row .ensures)
-    (c .before .before .before .before .before .before .before .before .enum-told .given .1) (f .1) (c .before .before .func-figures .ensures) s
-    (omega (arith, c .before .if2 .taken)) (c .refused2 .ensures)
+    too-little _ _ (count-is _ (a .args .h)) _ _ _ _ (c10 .before .before .buffer-row .ensures) (c10 .enum-told .given .1) (f .1)
+    (c .before .before .func-figures .ensures) s (omega (arith, c .before .if2 .taken)) (c .refused2 .ensures)
 
 run-events-requires : tie.Need-run-events-requires
 run-events-requires c κs =
     let c10 = c .before .before .before .before .before .before .before .before .before .before in
     let b = c .before .before .before .before .before .before .bound-task .ensures in
-    fits _ (b .0) (b .1) (omega (arith, c10 .before .before .before .before .before .before .before .before .if1 .left)) _ _ _ _
-    (c10 .before .before .before .before .before .before .before .buffer-row .ensures)
-    (c10 .before .before .before .before .before .enum-told .given .1)
-    (c .before .before .before .before .before .before .before .before .before .func-figures .ensures)
+    fits _ (b .0) (b .1) (omega (arith, c10 .before .before .before .before .before .if1 .left)) _ _ _ _ (c10 .before .before .before .before .before .before .before .before .before .buffer-row .ensures)
+    (c10 .before .before .before .before .before .before .before .enum-told .given .1) (c .before .before .before .before .before .before .before .before .before .func-figures .ensures)
     (omega (arith, c .before .before .before .before .before .before .before .before .if2 .left))
 
 returns-4 : tie.Need-returns-4
 returns-4 c =
     let c10 = c .before .before .before .before .before .before .before .before .before .before in
     let c20 = c10 .before .before .before .before .before .before .before .before .before .before in
-    let c30 = c20 .before .before .before .before .before .before .before .before .before .before in
+    let a = c20 .before .before .before .before .before .before .before .before .before .before .before .before .before .before in
     let f = c20 .before .before .figure-task .ensures in
     let b = c10 .before .before .before .before .before .bound-task .ensures in
     let r = c .before .before .before .before .before .before .before .before .run-events .ensures in
-    let a = c30 .before .before .before .before in
     let p = a .pre .1 in
     let s = cleared-same p (kept-later (workLength - columnsEnd) (f .2)) in
     let u = cleared-same (omega (arith, p, f .2 .size)) (kept-later (workLength - boundsEnd) (b .2)) in
     let d = cleared-same (omega (arith, p, f .2 .size, b .2 .size)) (kept-later (workLength - framesEnd) (r .kept)) in
-    all-run _ _ (some-func _ (a .args .h) (omega (arith, c20 .before .before .before .before .before .before .before .if1 .left))) _ _ _ _
-    (c20 .before .before .before .before .before .before .buffer-row .ensures)
-    (c20 .before .before .before .before .enum-told .given .1) (f .1)
+    all-run _ _ (count-is _ (a .args .h)) _ _ _ _ (c20 .before .before .before .before .before .before .before .before .buffer-row .ensures)
+    (c20 .before .before .before .before .before .before .enum-told .given .1) (f .1)
     (c10 .before .before .before .before .before .before .before .before .func-figures .ensures) (u ∙ s) (b .1)
     (omega (arith, c10 .before .before .before .before .before .before .before .if2 .left)) r d
 
@@ -72,12 +67,12 @@ run-task-spec =
     tie.close
     (tie.spec
     (λ c κs. search needs)
-    returns
+    (λ c. search needs)
     (λ c κs. search needs)
+    returns
     (λ c. search needs)
     (λ c κs. search needs)
     returns-2
-    (λ c. search needs)
     (λ c κs. search needs)
     func-figures-requires
     (λ c. search needs)
