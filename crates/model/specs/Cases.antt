@@ -324,8 +324,7 @@ pub dearestSaves :
 unfolding opened lines
 dearestSaves = (refl, refl)
 
--- a task without a stack: its report, its list of no line, runs of no event and of an event on either core and any cache and
--- memory, and rows 16 and 17
+-- document 02, request 14: a task without a stack. Its report, in blocks and at a price, rows 14, 15 and 23, and its list of no line
 pub withoutStack :
     (reportOf [] 0 1 space (replicate 30 7)
     ≡ record {
@@ -333,10 +332,23 @@ pub withoutStack :
       work = spaceAfter;
       output = lines ("(report" ∷ "  (total 0)" ∷ ")" ∷ []) ++ replicate 8 7;
     })
+    × (reportOf [] 10 3 space (replicate 22 7) .output ≡ lines ("(report" ∷ "  (total 0)" ∷ ")" ∷ []))
     × (reportOf [] 0 1 space (replicate 21 7) .result ≡ record { verdict = verdict.Refused (refuse OutputTooSmall 22); written = 0 })
+    × (reportOf [] 0 1 (9 ∷ []) (replicate 30 7)
+    ≡ record {
+      result = record { verdict = verdict.Refused (refuse WorkTooSmall 16384); written = 0 };
+      work = 9 ∷ [];
+      output = replicate 30 7;
+    })
     × (reportOf [] 256 1 space [] .result ≡ record { verdict = verdict.Refused (refuse PriceRange 0); written = 0 })
-    × (dearestOf [] 0 1 space [] .result ≡ record { verdict = Accepted; written = 0 })
-    × (runOf Eager [] 0 1 space [] [] (6 ∷ 6 ∷ []) (8 ∷ [])
+    × (dearestOf [] 0 1 space (7 ∷ [])
+    ≡ record { result = record { verdict = Accepted; written = 0 }; work = spaceAfter; output = 7 ∷ [] })
+unfolding opened lines
+withoutStack = (refl, refl, refl, refl, refl, refl)
+
+-- its runs on either core, with any cache and memory: no event; a first event of no kind, which is 22 and not 20; rows 16 and 17; and its plain stack
+pub withoutStackRuns :
+    (runOf Eager [] 0 1 space [] [] (6 ∷ 6 ∷ []) (8 ∷ [])
     ≡ record {
       result = record { ending = AllDone; done = 0; moved = 0; allowed = 0 };
       work = spaceAfter;
@@ -344,7 +356,7 @@ pub withoutStack :
       cache = 6 ∷ 6 ∷ [];
       memory = 8 ∷ [];
     })
-    × (runOf Lazy [] 0 1 space (1 ∷ 3 ∷ 0 ∷ 0 ∷ []) (5 ∷ 5 ∷ []) [] []
+    × (runOf Lazy [] 0 1 space (7 ∷ 3 ∷ 0 ∷ 0 ∷ []) (5 ∷ 5 ∷ []) [] []
     ≡ record {
       result = record { ending = Refused (refuse AfterFinish 0); done = 0; moved = 0; allowed = 0 };
       work = spaceAfter;
@@ -356,4 +368,4 @@ pub withoutStack :
     × (runOf Eager [] 0 1 space (1 ∷ 1 ∷ []) [] [] [] .result .ending ≡ Refused (refuse AnswersTooSmall 1))
     × (plain without (eventsOf (1 ∷ 1 ∷ [])) ≡ record { ending = Refused (refuse AfterFinish 0); done = 0; answers = [] })
 unfolding opened lines
-withoutStack = (refl, refl, refl, refl, refl, refl, refl, refl, refl)
+withoutStackRuns = (refl, refl, refl, refl, refl)

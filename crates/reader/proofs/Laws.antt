@@ -4,10 +4,10 @@ use native.Mathlib.Omega.{arith}
 use native.Mathlib.Decide.{decLt}
 use native.Mathlib.Numerals.{add-one}
 use mathlib.Core.Path.{_≡_, refl, _∙_}
-use mathlib.Core.Bool.{Bool, true, false, _&&_}
-use mathlib.Core.List.{List, [], _∷_, _++_}
+use mathlib.Core.Bool.{true, false, _&&_}
+use mathlib.Core.List.{List, [], _∷_}
 use lib.ListN.{length, take, drop, drop-of-length-le, length-drop}
-use lib.Dec.{leb, eqb}
+use lib.Dec.{leb}
 use lib.Seq.{drop-drop}
 use borrow.Rule.Slice.PartAt.{part-to-end}
 use borrow.Author.Tests.{lt-ltb, le-ltb, le-leb, lt-leb}
@@ -20,11 +20,11 @@ use Rattle.model.specs.declared.Verdict.{Verdict}
 use Rattle.model.specs.declared.Verdict.the-variants as verdict
 use Rattle.model.specs.Limits.{mostStack, mostFuncs, mostPoints, mostInAll, mostBytes}
 use Rattle.model.specs.Rows.{refuse}
-use Rattle.model.specs.Basic.{if_then_else_}
 use Rattle.model.specs.Text.{linesFrom, linesOf}
 use Rattle.model.specs.Task.{Func as Function}
 use Rattle.model.specs.Task.{Task, Progress, start, between, inside, Judged, refused, task, stop, goes}
 use Rattle.model.specs.Task.{withPoint, withFunc, offsetFits, readLine, readEnd, readFrom, readText}
+use Rattle.theory.proofs.Reading.{lines-some}
 use Rattle.tables.specs.declared.Header.{Header}
 use Rattle.tables.specs.Layout.{tablesLength}
 use Rattle.tables.specs.Tables.{putPoint, putFunc, pointsOf, funcsOf, taskOf, none}
@@ -46,18 +46,6 @@ use Rattle.reader.specs.declared.Read.the-variants as read
 use Rattle.reader.specs.Reading.{Begins, rest, afterStack, partOf, betweenOf, insideOf, afterFunc, pointAs, funcReadAs, readAs}
 
 -- a text that is not at its end has a line
-if-some : (t : Bool) (x y : List Line) → 0 < length x → 0 < length y → 0 < length (if t then x else y)
-if-some true x y h i = h
-if-some false x y h i = i
-
-lines-some : (l s : List ℕ) → 0 < length l + length s → 0 < length (linesFrom l s)
-unfolding linesFrom
-lines-some [] [] h = absurd (omega arith)
-lines-some (a ∷ l) [] h = omega arith
-lines-some [] (b ∷ s) h = if-some (eqb b 10) _ _ (omega arith) (lines-some (b ∷ []) s (omega arith))
-lines-some (a ∷ l) (b ∷ s) h =
-    if-some (eqb b 10) _ _ (omega arith) (lines-some (a ∷ l ++ (b ∷ [])) s (omega arith))
-
 some-line : (text : List ℕ) (a : ℕ) → a < length text → 0 < length (linesOf (drop a text))
 some-line text a h = lines-some [] (drop a text) (rw (length-drop a text) (omega arith))
 
@@ -179,10 +167,10 @@ module _ (w : List ℕ) (h : Header) (k n : ℕ) where
   func-goes i j = rw (le-ltb (h .stack) k i, count-is w h, lt-leb mostFuncs (h .funcs) j)
 
 -- no line at all
-pub text-none : (text w : List ℕ) → length text ≡ 0 → readText text ≡ task (taskOf w (record { stack = 0; funcs = 0; points = 0 }))
+pub text-none : (text w : List ℕ) (s n : ℕ) → length text ≡ 0 → s ≡ 0 → n ≡ 0 → readText text ≡ task (record { stack = s; funcs = funcsOf w n })
 unfolding readFrom readEnd linesFrom funcsOf
-text-none [] w h = refl
-text-none (b ∷ text) w h = absurd (omega arith)
+text-none [] w s n e i j = rw (i, j) refl
+text-none (b ∷ text) w s n e i j = absurd (omega arith)
 
 -- the stack line
 pub stack-none : (text : List ℕ) (r : Num) → stackAs r (take (length text - 0) (drop 0 text)) → r ≡ Absent → 0 < length text

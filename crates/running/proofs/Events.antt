@@ -34,7 +34,6 @@ use Rattle.theory.proofs.Once.{services-once}
 use Rattle.theory.proofs.Without.{longest-none, finished-run}
 use Rattle.tables.specs.declared.Header.{Header}
 use Rattle.tables.specs.Tables.{taskOf}
-use Rattle.tables.proofs.Laws.{count-is}
 use Rattle.prices.specs.declared.Price.{Price}
 use Rattle.prices.specs.Prices.{priceOf}
 use Rattle.figures.specs.declared.FuncFigures.{FuncFigures}
@@ -138,7 +137,7 @@ module _ (x : Eviction) (price : Price) {t : Task} {n : ℕ} (c : count t ≡ n)
   unfit {q = q} w o i =
       record {
         left = λ work. rw (rows-found (length events) (length answers) (length cache) (length memory) n t c (some q) (verdict-some _ (sym e ∙ o)))
-             (ap (λ (z : RunResult). afterRun z work answers cache memory) i);
+            (ap (λ (z : RunResult). afterRun z work answers cache memory) i);
         after = refl;
       }
 

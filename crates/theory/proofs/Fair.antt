@@ -16,7 +16,7 @@ use Rattle.model.specs.Task.{Task, count, func, point}
 use Rattle.model.specs.Core.{Core, Clean, effective, save, reserve, withCache, resume, filledWith}
 use Rattle.model.specs.Sheet.{Sheet}
 use Rattle.model.specs.Refusal.{eventRows}
-use Rattle.model.specs.Plain.{Event, Act, takes, preempted, act, Frame, Plain, entered, running, stepped, afterEvent, loadedFrom, answerOf, orPlain}
+use Rattle.model.specs.Plain.{Event, Act, takes, preempted, act, Frame, Plain, running, stepped, afterEvent, loadedFrom, answerOf, orPlain}
 use Rattle.model.specs.Plain.{plainFrom, plain, mainFrames, firstFrames}
 use Rattle.model.specs.Run.{State, Turn, mainState, finishedState, freshState, stepTurn, preemptTurn, turn, Ran, orRan, ranFrom, ran, stepBound, eventBound, orBound, allowedFrom, allowed}
 use Rattle.model.specs.WellFormed.{WellFormed}

@@ -2,7 +2,6 @@
 use Prim.Native.Nat.{ℕ, suc, _+_, _≤_, _<_}
 use mathlib.Core.Bool.{Bool}
 use mathlib.Core.List.{List, [], _∷_, List·Memᴰ, List·Memᴰ·head, List·Memᴰ·tail}
-use mathlib.Core.Option.{some}
 use mathlib.Core.Path.{_≡_, refl, ap, _∙_}
 use native.Mathlib.Omega.{arith}
 use lib.Dec.{T, eqb}
@@ -16,7 +15,7 @@ use Rattle.model.specs.Walk.{leads, called, isCall}
 use Rattle.model.specs.Core.{Core}
 use Rattle.model.specs.Figures.{longest}
 use Rattle.model.specs.Sheet.{Sheet}
-use Rattle.model.specs.Plain.{Frame, entered, movedTo, running, stepped, mainFrames, firstFrames}
+use Rattle.model.specs.Plain.{Frame, movedTo, running, stepped, mainFrames, firstFrames}
 use Rattle.model.specs.Run.{Place, runningPlace, stepTurn}
 use Rattle.theory.proofs.Lists.{by-test}
 use Rattle.model.specs.WellFormed.{WellFormed}

@@ -4,7 +4,7 @@
 -- missing pay for what is moved more, or the delayed fills do, whichever is less. This holds of cores that write back every block: after a preemption
 -- the lazy pointer may lie above that of the run without it. The core with a lazy pointer moves no more (Cores).
 use Prim.Native.Nat.{ℕ, suc, _+_, _-_, _≤_, _<_, min, max}
-use mathlib.Core.List.{List, [], _∷_, _++_}
+use mathlib.Core.List.{List, [], _∷_}
 use mathlib.Core.Option.{Option, none, some}
 use mathlib.Core.Path.{_≡_, refl, ap, sym, subst, _∙_}
 use native.Mathlib.Nat.{le-trans}

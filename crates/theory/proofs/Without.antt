@@ -11,7 +11,7 @@ use Rattle.model.specs.declared.Eviction.{Eviction}
 use Rattle.model.specs.declared.Refusal.{Refusal}
 use Rattle.model.specs.Basic.{_orElse_}
 use Rattle.model.specs.Text.{bytes}
-use Rattle.model.specs.Task.{Task, count, without, Judged, refused, task}
+use Rattle.model.specs.Task.{Task, count, without, Judged, task}
 use Rattle.model.specs.Core.{Core, idle}
 use Rattle.model.specs.Figures.{longest, longestTo}
 use Rattle.model.specs.Sheet.{Sheet, movePrice, pricedSheet, reportText}
@@ -63,9 +63,12 @@ unfolding allowedFrom eventRows
 finished-allowed t s [] = refl
 finished-allowed t s (e ∷ es) = refl
 
--- on every core, with every sheet
-pub without-run : (s : Sheet) (c : Core) (es : List Event) → ran without s c es ≡ noneRan (firstRow es) c
-without-run s c es = finished-ran without s c es
+-- no event is done, nothing is moved and the core is as it was: with every sheet, on every core
+pub without-run : (s : Sheet) (c : Core) (es : List Event)
+    → (ran without s c es .done ≡ 0) × (ran without s c es .moved ≡ 0) × (ran without s c es .core ≡ c)
+unfolding ranFrom eventRows
+without-run s c [] = (refl, refl, refl)
+without-run s c (e ∷ es) = (refl, refl, refl)
 
 -- the service, of every task of no functions
 pub finished-run : (x : Eviction) (price : ℕ → ℕ) (t : Task) → count t ≡ 0 → (work : List ℕ) (es : List Event) (answers cache memory : List ℕ)

@@ -1,4 +1,5 @@
 -- Nothing, or the stack line and its test, then the functions.
+use mathlib.Core.Path.{refl}
 use native.Mathlib.Omega.{arith}
 use denote.Ref.{now}
 use borrow.Author.Needs.{needs}
@@ -13,13 +14,17 @@ use Rattle.reader.proofs.read_text.Tie as tie
 opens : (c : tie.After-s) → Next (now (c .before .before .before .before .before .before .before .args .text)) 0 (Stack (c .s .given .0 .0)) (c .s .given .0 .1 .0)
 opens c = next-line _ 0 _ _ (omega arith) (rw (c .s .given .1) at (c .before .before .read-stack .ensures))
 
+-- no byte
+returns : tie.Need-returns
+returns c =
+    let p = c .before .before .before .pre in
+    (text-none _ _ _ _ (omega arith) refl refl, kept-same _ _, record { room = p .0; stacked = Stacked.none; few = omega arith; all = omega arith })
+
 pub read-text-spec : {M : Type 1} → statement M
 read-text-spec =
     tie.close
     (tie.spec
-    (λ c.
-    let p = c .before .before .before .pre in
-    (text-none _ _ (omega arith), kept-same _ _, record { room = p .0; stacked = Stacked.none; few = omega arith; all = omega arith }))
+    returns
     (λ c. search needs)
     (λ c. search needs)
     (λ c. search needs)
