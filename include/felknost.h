@@ -22,7 +22,7 @@ extern "C" {
  * to 6, and on it the smallest code; the first line with one of 7 to 10, likewise; the first line with 11; with 12; with 13.
  *
  *   1  the text has more than 32,768 bytes
- *   2  a line of no form that is allowed there, a missing line, or no line feed at its end
+ *   2  a line of no form that is allowed there, a missing line, or no line feed at its end. In a text of no bytes no line is missing
  *   3  the cache size S is outside 1 to 64
  *   4  a frame K is above S
  *   5  an offset is not below its frame K
@@ -34,6 +34,9 @@ extern "C" {
  *  11  a point that no walk from point 0 reaches
  *  12  a function that is never called, function 0 excepted (the line that opens it)
  *  13  a load that some walk from point 0 reaches with no store of its offset
+ *
+ * A text of no bytes is accepted. It is a task without a stack: it has no function and no point, and never touches the stack cache. Every other text has a
+ * stack line and a function, or is refused: one line feed with 2 at line 1, a stack line alone with 2 at line 2.
  *
  * text may be NULL where length is 0.
  */
@@ -51,12 +54,17 @@ uint32_t felknost_check(const uint8_t *text, size_t length);
  * at most cost, and bounds what a preemption at this point costs if it is the only one of a run. It is for slots that allow just one preemption. At any other
  * start or each the line has no such field, and nothing is claimed of once.
  *
+ * The sheet of a task without a stack has the lines "(report", "  (total 0)" and ")", with their line feeds 22 bytes. It is the same at every start and each
+ * in their ranges.
+ *
  * result gets three numbers: CODE, PLACE and how many bytes were written. CODE and PLACE are 0 where the text is accepted; else they are as above, and
  * three rows are new:
  *
  *  14  the output is too small; PLACE is the number of bytes wanted. It is tried after all others
  *  15  the working space is too small; PLACE is FELKNOST_WORK. It is tried before all others
  *  23  start is above 255, or each is 0 or above 255; PLACE is 0. It is tried after 15 and before all others
+ *
+ * All three are tried for a text of no bytes too: with fewer than 22 bytes of output it is refused with 14 and PLACE 22.
  *
  * Where the report is refused, nothing is written to output. Bytes of output behind the report are left as they were. The first FELKNOST_WORK numbers
  * of work are 0 afterwards, and those behind them are left as they were; with 15 work is not touched. What the buffers held before does not
@@ -66,7 +74,7 @@ uint32_t felknost_check(const uint8_t *text, size_t length);
  */
 #define FELKNOST_WORK 16384
 
-/* Bytes of output that are enough for every task and every start and each: no report has more than 63,967. */
+/* Bytes of output that are enough for every task and every start and each: no report has more than 63,967. None has fewer than 22. */
 #define FELKNOST_OUTPUT 65536
 
 uint32_t felknost_report(const uint8_t *text, size_t text_length, uint32_t start, uint32_t each, uint8_t *output, size_t output_length,
@@ -78,11 +86,14 @@ uint32_t felknost_report(const uint8_t *text, size_t text_length, uint32_t start
  * gives for it. Higher costs come first. Equal costs go by falling save, then by rising function, and in one function by rising point. There are no
  * other lines.
  *
+ * A task without a stack has no point, so its list has no line. It is accepted with 0 bytes written, and output is left as it was. 0 bytes of output are
+ * enough for it.
+ *
  * All else is as for felknost_report: what is lent and what it holds afterwards, start and each, result, the refusals and their order, NULL, overlap and
  * the return value. With 14 PLACE is the number of bytes of the list.
  */
 
-/* Bytes of output that are enough for every list: none has more than 220. */
+/* Bytes of output that are enough for every list: none has more than 220. Only that of a task without a stack has none. */
 #define FELKNOST_DEAREST_OUTPUT 256
 
 uint32_t felknost_dearest_points(const uint8_t *text, size_t text_length, uint32_t start, uint32_t each, uint8_t *output, size_t output_length,
@@ -102,15 +113,19 @@ uint32_t felknost_dearest_points(const uint8_t *text, size_t text_length, uint32
  *  23  start is above 255, or each is 0 or above 255; PLACE is 0. It is tried after 15 and before all others
  *  16  events has an odd number of numbers or more than 131,072; PLACE is 0
  *  17  answers has fewer numbers than there are events, which is PLACE
- *  18  cache has not exactly as many numbers as the task has cache blocks, which is PLACE
- *  19  memory has fewer numbers than the task needs at most, which is PLACE
+ *  18  cache has not exactly as many numbers as the task has cache blocks, which is PLACE. It is not tried for a task without a stack
+ *  19  memory has fewer numbers than the task needs at most, which is PLACE. It is not tried for a task without a stack
  *  20  an event of another kind; PLACE is its number, counted from 0, here and below
  *  21  a step at an either with a value above 1
- *  22  an event after the task has finished
+ *  22  an event after the task has finished. A task without a stack has finished before the first event
  *
  * 16 to 19 are tried in this order after the rows of the text. All but 20 to 22 leave answers, cache and memory as they were. The events before one that
  * is refused by 20 to 22 are done, and answers has no number of it or of a later one; at one event 22 is tried first. work, NULL, overlap and the return
  * value are as for felknost_report, but result has five numbers.
+ *
+ * Of a task without a stack: cache and memory may have any length, 0 too. CODE and PLACE are 0 where there is no event; else the first event is refused with
+ * 22 and PLACE 0, whatever its kind and value. 15, 23, 16 and 17 are tried before that. In every case answers, cache and memory are left as they were, and the
+ * last three numbers of result are 0.
  */
 uint32_t felknost_run(const uint8_t *text, size_t text_length, uint32_t start, uint32_t each, const uint32_t *events, size_t events_length,
                       uint32_t *answers, size_t answers_length, uint32_t *cache, size_t cache_length, uint32_t *memory, size_t memory_length,
