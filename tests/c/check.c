@@ -67,7 +67,9 @@ struct sample {
 /* Every code but 1 and 6, whose texts are long. */
 static const struct sample samples[] = {
     {"accepted", 0, 0, SAMPLE},
-    {"empty", 2, 1, ""},
+    {"empty", 0, 0, ""},
+    {"a line feed alone", 2, 1, "\n"},
+    {"a stack line alone", 2, 2, "(stack 5)\n"},
     {"form", 2, 3, "(stack 5)\n(func 2\n (return)\n)\n"},
     {"no line feed", 2, 4, "(stack 5)\n(func 2\n  (return)\n)"},
     {"missing line", 2, 3, "(stack 5)\n(func 2\n"},
@@ -169,7 +171,7 @@ static void limits(void)
 static void null_text(void)
 {
     room_case = "NULL with 0";
-    count(felknost_check(NULL, 0) == 2 * 65536 + 1);
+    count(felknost_check(NULL, 0) == 0);
 }
 
 /* ---- threads */

@@ -78,7 +78,7 @@ static void at_every_length(const char *name, const char *text, size_t length, s
 
 static void refusals(void)
 {
-    expect("no text", "", 0, 400, FELKNOST_WORK, 2, 1, "", 0);
+    expect("a line feed alone", "\n", 1, 400, FELKNOST_WORK, 2, 1, "", 0);
     expect("a form", "(stack 5)\n(func 2\n (return)\n)\n", 30, 400, FELKNOST_WORK + 9, 2, 3, "", 0);
     expect("a stack", "(stack 65)\n", 11, 400, FELKNOST_WORK, 3, 1, "", 0);
     expect("a refused text and no output", "(stack 65)\n", 11, 0, FELKNOST_WORK, 3, 1, "", 0);
