@@ -96,7 +96,7 @@ static const struct text refused_texts[] = {
 };
 #define REFUSED_TEXTS (sizeof refused_texts / sizeof refused_texts[0])
 
-/* The last two have a stack, of which the first uses no block. */
+/* Two tasks of one return. They have a stack, though the first uses no block of it. */
 static const struct text no_frame = {"a frame of no block", "(stack 1)\n(func 0\n  (return)\n)\n", 31, 0, 0};
 static const struct text one_frame = {"a frame of one block", "(stack 1)\n(func 1\n  (return)\n)\n", 31, 0, 0};
 
@@ -183,8 +183,8 @@ static void reports(void)
     count("the bytes of the report", sizeof REPORT - 1 == REPORT_BYTES);
     for (i = 0; i < FITTING_PRICES; i++) {
         struct asked asked = {&nothing, fitting_prices[i], 0, FELKNOST_WORK, 3};
-        for (; asked.output < 22; asked.output++)
-            writes("14", &report, asked, 14, 22, "");
+        for (; asked.output < REPORT_BYTES; asked.output++)
+            writes("14", &report, asked, 14, REPORT_BYTES, "");
         for (; asked.output <= 30; asked.output++)
             writes("a report", &report, asked, 0, 0, REPORT);
         asked.output = FELKNOST_OUTPUT;
@@ -295,7 +295,7 @@ struct given {
     size_t events, answers, cache, memory, work, result;
 };
 
-/* Steps, and a list that has all kinds and one that is none. */
+/* Only steps; and an event of no known kind, a step and a preemption. */
 static const uint32_t steps[MOST_NUMBERS + 2] = {0};
 static const uint32_t mixed[] = {7, 0, 0, 3, 1, 5};
 
@@ -463,7 +463,7 @@ static void refused_by_runs(void)
     }
 }
 
-/* Of a task with a stack 18 and 19 are tried. It has not finished before its return. */
+/* 18 and 19 are tried for every task that has a stack, and such a task has not finished before its return. */
 static void tasks_with_a_stack(void)
 {
     static const uint64_t wanted[5] = {22, 1, 1, 0, 0};
