@@ -1,20 +1,21 @@
 -- Document 02, request 14: the empty text in every service, at every price and with all buffers. It is a task without a stack, and no other text is.
-use Prim.Native.Nat.{ℕ}
+use Prim.Native.Nat.{ℕ, _+_, _/_, _%_, _≤_}
 use mathlib.Core.Bool.{Bool}
 use mathlib.Core.List.{List, [], _∷_, _++_}
 use mathlib.Core.Option.{Option, none, some}
 use mathlib.Core.Path.{_≡_, refl, ap, _∙_}
+use native.Mathlib.Decide.{decLt}
 use native.Mathlib.Omega.{arith}
 use lib.Dec.{leb·zero}
-use lib.ListN.{length}
+use lib.ListN.{length, length-append}
 use Rattle.model.specs.declared.Eviction.{Eviction}
 use Rattle.model.specs.declared.Refusal.{Refusal}
-use Rattle.model.specs.Basic.{_orElse_}
+use Rattle.model.specs.Basic.{_orElse_, joined, upTo}
 use Rattle.model.specs.Text.{bytes}
 use Rattle.model.specs.Task.{Task, count, without, Judged, task}
 use Rattle.model.specs.Core.{Core, idle}
 use Rattle.model.specs.Figures.{longest, longestTo}
-use Rattle.model.specs.Sheet.{Sheet, movePrice, pricedSheet, reportText}
+use Rattle.model.specs.Sheet.{Sheet, movePrice, pricedSheet, decimal, row, Record, recordsOf, totalOf, totalRow, funcRows, reportWith, reportText}
 use Rattle.model.specs.Dearest.{dearestText}
 use Rattle.model.specs.Refusal.{pricedRows, runRows, eventRows, judged, judge, orTask, withRows}
 use Rattle.model.specs.Plain.{Event, eventsOf}
@@ -24,6 +25,7 @@ use Rattle.model.specs.Opened.{opened}
 use Rattle.theory.specs.Without.{firstRow, noneRan, nothingDone}
 use Rattle.theory.proofs.Accepted.{judged-as}
 use Rattle.theory.proofs.Reading.{read-some}
+use Rattle.theory.proofs.Decimal.{decimal-small, decimal-large}
 use Rattle.theory.proofs.Fair.{ran-none, allowed-none}
 
 -- ---- the text
@@ -44,6 +46,29 @@ only-empty (b ∷ text) t e z = absurd (omega (arith, read-some (b ∷ text) t (
 pub empty-report : (once : Bool) (price : ℕ → ℕ) → reportText once price without ≡ bytes "(report\n" ++ bytes "  (total 0)\n" ++ bytes ")\n"
 unfolding opened
 empty-report once price = refl
+
+-- no report has fewer bytes
+some-digit : (m : ℕ) → 1 ≤ length (decimal m)
+some-digit m =
+    elim (decLt m 10) [
+      | yes l ↦ rw (decimal-small m l) (omega arith)
+      | no l ↦ rw (decimal-large m (omega arith), length-append (decimal (m / 10)) ((48 + m % 10) ∷ [])) (omega arith)
+    ]
+
+total-least : (l : List Record) → 12 ≤ length (totalRow l)
+unfolding totalRow row joined
+total-least l = omega (arith, some-digit (totalOf l), length-append (decimal (totalOf l) ++ []) (bytes ")\n"), length-append (decimal (totalOf l)) [])
+
+pub report-least : (once : Bool) (t : Task) (s : Sheet) → 22 ≤ length (reportWith once t s)
+unfolding reportWith
+report-least once t s =
+    let foot = totalRow (recordsOf t s) in
+    omega (
+      arith,
+      total-least (recordsOf t s),
+      length-append (joined (funcRows once t s) (upTo (count t))) (foot ++ bytes ")\n"),
+      length-append foot (bytes ")\n"),
+    )
 
 -- it has no dearest point
 pub empty-dearest : (price : ℕ → ℕ) → dearestText price without ≡ []
