@@ -22,6 +22,7 @@
 --   Faithful                 demand 3, of every sheet that obeys the rules and of the sheet of every text that run accepts
 --   Cores                    the two cores leave the same after every event, and the lazy one moves no more; so do the two services
 --   Once                     in blocks a run moves at most its spills and fills and once of each point at which it is preempted; the case of exactly one
+--   Without                  the empty text in every service; no other text is a task of no functions
 pub mod Lists
 pub mod Firsts
 pub mod Search
