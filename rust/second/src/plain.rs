@@ -50,7 +50,11 @@ pub fn run(text: &[u8], events: &[u32]) -> Option<PlainResult> {
 /// The same, and shows each event that is done to `see`.
 pub fn run_seen(text: &[u8], events: &[u32], mut see: impl FnMut(Seen)) -> Option<PlainResult> {
     let funcs = read(text)?;
-    let mut stack = vec![fresh(&funcs, 0)?];
+    let mut stack = match text {
+        // No line, no function: the task has finished.
+        [] => Vec::new(),
+        _ => vec![fresh(&funcs, 0)?],
+    };
     let mut answers = Vec::new();
     let mut ending = Ok(());
     for (number, event) in events.chunks_exact(2).enumerate() {

@@ -152,7 +152,8 @@ fn run_on<'a, C: Core<'a>>(
     memory: &'a mut [u32],
     see: impl FnMut(&C),
 ) -> RunResult {
-    match lengths(task, figures, events, answers, cache, memory) {
+    let lent = listed(events, answers).and_then(|()| room(task, figures, cache, memory));
+    match lent {
         Ok(()) => Run::new(task, figures, cache, memory).all(price, events, answers, see),
         Err(refusal) => refused(refusal),
     }
@@ -168,24 +169,26 @@ fn refused(refusal: Refusal) -> RunResult {
     }
 }
 
-/// Refuses by the rows 16 to 19.
-fn lengths(
-    task: &Task,
-    figures: &Figures,
-    events: &[u32],
-    answers: &[u32],
-    cache: &[u32],
-    memory: &[u32],
-) -> Verdict {
-    let longest = figures.funcs[0].longest;
+/// Refuses by the rows 16 and 17.
+fn listed(events: &[u32], answers: &[u32]) -> Verdict {
     if events.len() % 2 == 1 || events.len() > EVENTS_MAX {
         Err(Row::EventList.at(0))
     } else if answers.len() < events.len() / 2 {
         Err(Row::AnswersTooSmall.at(events.len() as u32 / 2))
-    } else if cache.len() != task.stack as usize {
+    } else {
+        Ok(())
+    }
+}
+
+/// Refuses by the rows 18 and 19. Where no function is entered, every cache and memory will do.
+fn room(task: &Task, figures: &Figures, cache: &[u32], memory: &[u32]) -> Verdict {
+    let Some(entered) = figures.funcs.first() else {
+        return Ok(());
+    };
+    if cache.len() != task.stack as usize {
         Err(Row::CacheSize.at(task.stack))
-    } else if memory.len() < longest as usize {
-        Err(Row::MemoryTooSmall.at(longest))
+    } else if memory.len() < entered.longest as usize {
+        Err(Row::MemoryTooSmall.at(entered.longest))
     } else {
         Ok(())
     }
@@ -208,6 +211,7 @@ struct Run<'a, C> {
 }
 
 impl<'a, C: Core<'a>> Run<'a, C> {
+    /// The state before the first event. A task that has no function to enter has finished.
     fn new(
         task: &'a Task,
         figures: &'a Figures,
@@ -215,13 +219,16 @@ impl<'a, C: Core<'a>> Run<'a, C> {
         memory: &'a mut [u32],
     ) -> Self {
         let mut core = C::idle(cache, memory);
-        // A frame fits the empty cache, so nothing is spilled here.
-        core.enter(task.funcs[0].frame as usize);
+        let entered = task.entry().map(|func| {
+            // A frame fits the empty cache, so nothing is spilled here.
+            core.enter(func.frame as usize);
+            Frame { func: 0, point: 0 }
+        });
         Run {
             task,
             figures,
             core,
-            frames: vec![Frame { func: 0, point: 0 }],
+            frames: entered.into_iter().collect(),
             allowed: 0,
         }
     }

@@ -52,8 +52,9 @@ impl Func {
     }
 }
 
-/// A task as read. The points of all functions are in one vector, in text order.
-#[derive(Clone, Debug)]
+/// A task as read. The points of all functions are in one vector, in text order. The default is the
+/// task without a stack: no cache block and no function.
+#[derive(Clone, Debug, Default)]
 pub struct Task {
     /// The number of cache blocks.
     pub stack: u32,
@@ -64,14 +65,23 @@ pub struct Task {
 }
 
 impl Task {
+    /// The function that a run enters. A task without a stack has none.
+    pub fn entry(&self) -> Option<&Func> {
+        self.funcs.first()
+    }
+
     /// The points of one function.
     pub fn points_of(&self, func: &Func) -> &[Point] {
         &self.points[func.first..func.first + func.count]
     }
 }
 
-/// Reads a text. The first line that meets one of the rows 2 to 6 decides, with its smallest code.
+/// Reads a text. One of no byte is the task without a stack. In others the first line that meets one
+/// of the rows 2 to 6 decides, with its smallest code.
 pub fn read(text: &[u8]) -> Result<Task, Refusal> {
+    if text.is_empty() {
+        return Ok(Task::default());
+    }
     let mut reader = Reader {
         rest: text,
         line: 1,
