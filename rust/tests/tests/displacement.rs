@@ -298,7 +298,7 @@ fn nothing_rises_in_the_vectors_and_the_examples() {
     // The examples stand beside the folder of the vectors.
     let folders = ["report", "run", "../examples"];
     let paths: Vec<PathBuf> = folders.into_iter().flat_map(tasks).collect();
-    assert_eq!(paths.len(), 75 + 80 + 6);
+    assert_eq!(paths.len(), 76 + 86 + 6);
     let mut changed = Changed::default();
     for (seed, path) in (0..).zip(&paths) {
         changed.count_all(&read(path), seed, &path.display());

@@ -60,12 +60,13 @@ pub fn once() -> String {
     read_text(&folder("report").join("once"))
 }
 
-/// What a file with a line for each case says of a task.
-fn of_case<'a>(file: &'a str, task: &Path) -> &'a str {
+/// The words behind the name of a task in a file with a line for each case.
+fn of_case<'a>(file: &'a str, task: &Path) -> impl Iterator<Item = &'a str> {
     let name = task.file_stem().and_then(|name| name.to_str());
     let name = name.expect("a case has a name");
-    file.lines()
-        .find_map(|line| line.strip_prefix(name)?.strip_prefix(' '))
+    let mut lines = file.lines().map(|line| line.split(' '));
+    lines
+        .find_map(|mut words| (words.next() == Some(name)).then_some(words))
         .unwrap_or_else(|| panic!("no line of {name}"))
 }
 
@@ -74,8 +75,8 @@ fn of_case<'a>(file: &'a str, task: &Path) -> &'a str {
 pub fn expected(task: &Path) -> Vec<u8> {
     let report = String::from_utf8(in_force(task, "report")).expect("the file is text");
     let (once, totals) = (once(), totals());
-    let mut once = of_case(&once, task).split(' ');
-    let total = of_case(&totals, task);
+    let mut once = of_case(&once, task);
+    let total = of_case(&totals, task).next().expect("a total");
     let line = |line: &str| match line.strip_suffix(')') {
         Some("") => format!("  (total {total})\n)\n"),
         Some(point) if point.starts_with("  (at ") => {
