@@ -4,10 +4,11 @@ use felknost::raw;
 use generate::Price;
 use second::lazy::{LazyCore, View};
 use second::run::{run_lazy_seen, Service};
-use second::{code_and_place, RunResult};
+use second::{code_and_place, RunResult, WORK_MIN};
 
 use crate::guarded::{noise, Guarded};
 use crate::services::{assert_answered, assert_checked, assert_cleared};
+use crate::texts::steps;
 
 /// What a run is lent.
 #[derive(Clone, Debug, PartialEq, Eq)]
@@ -178,5 +179,33 @@ impl Core {
         assert_eq!(cache.held("the cache"), wanted.lent.cache);
         assert_eq!(memory.held("the memory"), wanted.lent.memory);
         assert_cleared(&space);
+    }
+}
+
+/// Requires that a function of the archive leaves all as it was where the result is too short. The buffers fit [`TWO`](crate::TWO).
+pub fn assert_short_run_results(function: raw::Runner, text: &[u8]) {
+    for length in 0..5 {
+        let mut answers = Guarded::noisy(7);
+        let mut cache = Guarded::noisy(5);
+        let mut memory = Guarded::noisy(6);
+        let mut work = Guarded::noisy(WORK_MIN);
+        let mut result = Guarded::noisy(length);
+        let answer = function(
+            text,
+            0,
+            1,
+            &steps(7, 3),
+            answers.lent(),
+            cache.lent(),
+            memory.lent(),
+            work.lent(),
+            result.lent(),
+        );
+        assert_eq!(answer, 0);
+        assert_eq!(answers.held("the answers"), noise::<u32>(7));
+        assert_eq!(cache.held("the cache"), noise::<u32>(5));
+        assert_eq!(memory.held("the memory"), noise::<u32>(6));
+        assert_eq!(work.held("the working space"), noise::<u32>(WORK_MIN));
+        assert_eq!(result.held("the result"), noise::<u64>(length));
     }
 }

@@ -12,7 +12,7 @@ mod texts;
 mod written;
 
 pub use bounds::Allowed;
-pub use cores::{all_done, run, run_at, run_both_at, BothRan, Lent, Ran};
+pub use cores::{all_done, assert_short_run_results, run, run_at, run_both_at, BothRan, Lent, Ran};
 pub use guarded::{is_noise_from, noise, Guarded, Noise};
 pub use named::Named;
 pub use rules::{figures_of, report_by, run_by};

@@ -112,12 +112,11 @@ pub fn dearest_points_at(text: &[u8], price: Price, output: usize, work: usize) 
 }
 
 /// Requires that a function of the archive leaves all as it was where the result is too short.
-pub fn assert_short_results(function: raw::Writer) {
+pub fn assert_short_results(function: raw::Writer, text: &[u8]) {
     for length in 0..3 {
         let mut output = Guarded::noisy(300);
         let mut work = Guarded::noisy(WORK_MIN);
         let mut result = Guarded::noisy(length);
-        let text = TWO.as_bytes();
         let answer = function(text, 0, 1, output.lent(), work.lent(), result.lent());
         assert_eq!(answer, 0);
         assert_eq!(output.held("the output"), noise::<u8>(300));
@@ -150,8 +149,8 @@ pub fn assert_binding(function: Binding, length: u32, wanted: impl Fn(&[u8], Pri
         let no_price = function(text, start, each, &mut output, &mut work);
         assert_eq!(no_price, refused(Row::PriceRange, 0));
     }
-    let no_text = function(b"", 0, 1, &mut [], &mut work);
-    assert_eq!(no_text, refused(Row::Form, 1));
+    let no_task = function(b"\n", 0, 1, &mut [], &mut work);
+    assert_eq!(no_task, refused(Row::Form, 1));
 }
 
 /// An accepted text, a price that fits, and the bytes that a service has to write of them.

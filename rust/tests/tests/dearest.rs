@@ -608,11 +608,11 @@ fn a_list_of_200_bytes() {
 mod in_archive {
     use super::*;
     use felknost::raw;
-    use tests::{assert_binding, assert_short_results};
+    use tests::{assert_binding, assert_short_results, TWO};
 
     #[test]
     fn a_result_that_is_too_short_leaves_all_as_it_was() {
-        assert_short_results(raw::dearest_points);
+        assert_short_results(raw::dearest_points, TWO.as_bytes());
     }
 
     #[test]

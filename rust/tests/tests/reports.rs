@@ -136,11 +136,11 @@ fn blocks_are_kept_and_moves_are_priced() {
 mod in_archive {
     use super::*;
     use felknost::raw;
-    use tests::{assert_binding, assert_short_results};
+    use tests::{assert_binding, assert_short_results, TWO};
 
     #[test]
     fn a_result_that_is_too_short_leaves_all_as_it_was() {
-        assert_short_results(raw::report);
+        assert_short_results(raw::report, TWO.as_bytes());
     }
 
     #[test]

@@ -293,38 +293,13 @@ fn tenths(result: RunResult) -> Option<usize> {
 mod in_archive {
     use super::*;
     use felknost::{raw, Refusal, Row};
-    use tests::{noise, steps, Guarded, TWO};
+    use tests::{assert_short_run_results, steps, TWO};
 
     #[test]
     fn a_result_that_is_too_short_leaves_all_as_it_was() {
         for function in [raw::run, raw::run_lazy] {
-            (0..5).for_each(|length| assert_short_result(function, length));
+            assert_short_run_results(function, TWO.as_bytes());
         }
-    }
-
-    fn assert_short_result(function: raw::Runner, length: usize) {
-        let mut answers = Guarded::noisy(7);
-        let mut cache = Guarded::noisy(5);
-        let mut memory = Guarded::noisy(6);
-        let mut work = Guarded::noisy(WORK_MIN);
-        let mut result = Guarded::noisy(length);
-        let answer = function(
-            TWO.as_bytes(),
-            0,
-            1,
-            &steps(7, 3),
-            answers.lent(),
-            cache.lent(),
-            memory.lent(),
-            work.lent(),
-            result.lent(),
-        );
-        assert_eq!(answer, 0);
-        assert_eq!(answers.held("the answers"), noise::<u32>(7));
-        assert_eq!(cache.held("the cache"), noise::<u32>(5));
-        assert_eq!(memory.held("the memory"), noise::<u32>(6));
-        assert_eq!(work.held("the working space"), noise::<u32>(WORK_MIN));
-        assert_eq!(result.held("the result"), noise::<u64>(length));
     }
 
     #[test]
