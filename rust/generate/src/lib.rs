@@ -111,7 +111,8 @@ pub fn near(seed: u64) -> Case {
     }
 }
 
-/// The text of a valid task with one to three pieces of damage. It may still be valid.
+/// The text of a valid task with one to three pieces of damage. It may still be valid. It is not empty: a valid text has four lines at least, and a piece of damage
+/// takes away one of them at most.
 pub fn damaged(seed: u64) -> Case {
     let mut rng = Rng::new(seed);
     let mut text = valid::task(&mut rng).text();

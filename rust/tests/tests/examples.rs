@@ -189,9 +189,11 @@ fn run_to_the_end() {
     assert_eq!(held.cache, [9, 3, 9, 9, 9]);
 }
 
+/// Request 14 amends document 01's case; a line feed alone is refused.
 #[test]
 fn empty_text() {
-    assert_eq!(verdict(""), (2, 1));
+    assert_eq!(verdict(""), (0, 0));
+    assert_eq!(verdict("\n"), (2, 1));
 }
 
 #[test]

@@ -38,7 +38,7 @@ fn working_space() {
     assert_eq!(reported.result.numbers(), [15, 16_384, 0]);
     assert_eq!(reported.output, noise(400));
     let lent = Lent::noisy(1, 2, 3);
-    let ran = run(b"", &[0], &lent, 16_383);
+    let ran = run(b"\n", &[0], &lent, 16_383);
     assert_eq!(ran.result.numbers(), [15, 16_384, 0, 0, 0]);
     assert_eq!(ran.lent, lent);
 }

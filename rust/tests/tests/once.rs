@@ -562,8 +562,8 @@ fn once_is_printed_in_blocks_alone() {
     }
     // The price is judged before the text.
     for (start, each) in UNFIT {
-        let reported = report_at(b"", Price { start, each }, felknost::OUTPUT, WORK_MIN);
-        assert_eq!(reported.refusal(&"no text"), (23, 0), "{start} {each}");
+        let reported = report_at(b"\n", Price { start, each }, felknost::OUTPUT, WORK_MIN);
+        assert_eq!(reported.refusal(&"no task"), (23, 0), "{start} {each}");
     }
 }
 

@@ -9,7 +9,6 @@ use tests::{dearest_points_at, report_at, run, run_at, steps, text, verdict, Len
 #[test]
 fn forms_of_lines() {
     let cases = [
-        ("", 1),
         ("\n", 1),
         ("(stack 5)", 1),
         ("(stack 5)\r\n", 1),

@@ -116,7 +116,8 @@ fn read(text: &[u8]) -> Result<Vec<Func>, Answer> {
         place += 1;
     }
     match sofar.word {
-        "end" => Ok(sofar.funcs),
+        // Behind a function, or where the text has no line.
+        "end" | "" => Ok(sofar.funcs),
         _ => Err((2, place)),
     }
 }
@@ -238,6 +239,12 @@ fn refused_vectors() {
     for (name, text, code, place) in vectors::refused() {
         assert_eq!(by_rows(&text), (code, place), "case {name}");
     }
+}
+
+#[test]
+fn empty_text() {
+    assert_eq!(by_rows(b""), (0, 0));
+    assert_eq!(verdict(b""), (0, 0));
 }
 
 /// The points of the small functions, with numbers at and past their limits.
