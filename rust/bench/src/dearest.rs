@@ -8,7 +8,7 @@ use crate::texts::cache_blocks;
 use crate::written::{Writer, ROUNDS};
 use crate::{EACH, START};
 
-/// What a run of no events is lent that is refused for its memory.
+/// What a run of no events is lent that is refused for its memory, if its task has a stack.
 pub struct Room {
     cache: Vec<u32>,
     work: Vec<u32>,
@@ -23,7 +23,8 @@ impl Room {
         }
     }
 
-    /// A run that has no memory judges the text, works out its figures and is refused by row 19. So this is what a report takes without its printing.
+    /// A run that has no memory judges the text, works out its figures and is refused by row 19; an empty text has no figures, and its run is accepted. So this is
+    /// what a report takes without its printing.
     pub fn run(&mut self, text: &[u8]) -> Result<(), Refusal> {
         let (cache, work) = (&mut self.cache, &mut self.work);
         felknost::run(text, START, EACH, &[], &mut [], cache, &mut [], work).ending

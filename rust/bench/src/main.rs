@@ -91,13 +91,17 @@ mod tests {
         }
     }
 
-    /// Row 19 refuses the run that is timed, unless the text is refused: no other row of a run comes before the figures.
+    /// Row 19 refuses the run that is timed, unless the text is refused, or is empty and asks for no memory: no other row of a run comes before the figures.
     #[test]
     fn runs_without_memory_are_refused_after_the_figures() {
         for (name, text) in report_texts() {
             let ran = Room::of(&text).run(&text).map_err(|refusal| refusal.row);
-            let wanted = felknost::check(&text).map_err(|refusal| refusal.row);
-            assert_eq!(ran, wanted.and(Err(Row::MemoryTooSmall)), "{name}");
+            let checked = felknost::check(&text).map_err(|refusal| refusal.row);
+            let wanted = match name {
+                "empty text" => Ok(()),
+                _ => checked.and(Err(Row::MemoryTooSmall)),
+            };
+            assert_eq!(ran, wanted, "{name}");
         }
     }
 
@@ -108,7 +112,6 @@ mod tests {
             let refusal = felknost::check(&text).err();
             let got = refusal.map(|refusal| (refusal.row.code(), refusal.place));
             let wanted = match name {
-                "empty text" => Some((2, 1)),
                 "refused in line 1" => Some((3, 1)),
                 "refused in line 3" => Some((5, 3)),
                 "32,768 bytes, refused at the point after 1,024" => Some((6, 1_035)),
