@@ -8,6 +8,18 @@
 //! assert_eq!(check(b"(stack 65)\n"), Err(refusal));
 //! assert_eq!(refusal.to_string(), "(refused 3 1)");
 //! ```
+//!
+//! A text of no byte is a task without a stack. Every service accepts it.
+//!
+//! ```
+//! use felknost::{check, report, Refusal, Row, WORK};
+//!
+//! assert_eq!(check(b""), Ok(()));
+//! let mut output = [0; 22];
+//! assert_eq!(report(b"", 0, 1, &mut output, &mut [0; WORK]), Ok(22));
+//! assert_eq!(&output, b"(report\n  (total 0)\n)\n");
+//! assert_eq!(check(b"\n"), Err(Refusal { row: Row::Form, place: 1 }));
+//! ```
 
 #![warn(missing_docs)]
 
@@ -35,7 +47,7 @@ pub const OUTPUT: usize = 65_536;
 /// Bytes of output that are enough for the dearest points of every task at every price: no list has more than 220.
 pub const DEAREST_OUTPUT: usize = 256;
 
-/// Checks a task text: accepted, or refused with a row and a line.
+/// Checks a task text: accepted, as one of no byte is, or refused with a row and a line.
 pub fn check(text: &[u8]) -> Result<(), Refusal> {
     // SAFETY: the function reads `length` bytes from the pointer and nothing else, and returns for every text.
     let answer = unsafe { felknost_check(text.as_ptr(), text.len()) };

@@ -8,7 +8,7 @@ use std::fmt;
 pub enum Row {
     /// The text has more than 32,768 bytes.
     TextTooLong = 1,
-    /// A line of no form that is allowed there, a missing line, or no line feed at its end.
+    /// A line of no form that is allowed there, a missing line, or no line feed at its end. A text of no byte misses no line.
     Form = 2,
     /// The cache size is outside 1 to 64.
     StackSize = 3,
@@ -40,15 +40,15 @@ pub enum Row {
     EventList = 16,
     /// Fewer answers than events; the place is the number of events.
     AnswersTooSmall = 17,
-    /// The cache does not have the length that the task states, which is the place.
+    /// The cache does not have the length that the task states, which is the place. A text of no byte states none.
     CacheSize = 18,
-    /// The memory is shorter than the deepest stack, which is the place.
+    /// The memory is shorter than the deepest stack, which is the place. A text of no byte has no stack.
     MemoryTooSmall = 19,
     /// An event of unknown kind; the place is the event.
     Kind = 20,
     /// A step at an either with a value that is not 0 or 1; the place is the event.
     Choice = 21,
-    /// An event after the finish; the place is the event.
+    /// An event after the finish; the place is the event. A text of no byte has finished before event 0.
     AfterFinish = 22,
     /// A start above 255, or a price of a block that is 0 or above 255; the place is 0.
     PriceRange = 23,

@@ -6,6 +6,8 @@ use crate::{raw, Refusal};
 /// all, and `each`, 1 to 255, for each block; 0 and 1 count blocks. With 0 and 1 the line of a point ends with once, the bound on what a
 /// single preemption there costs. The line before the last, `  (total T)`, has the sum of the costs of all points. `work` has at least
 /// [`WORK`](crate::WORK) numbers; the first of them are 0 afterwards.
+///
+/// The report of a text of no byte has three lines and 22 bytes: `(report`, `  (total 0)` and `)`.
 pub fn report(
     text: &[u8],
     start: u32,

@@ -18,6 +18,9 @@ pub struct RunResult {
 /// Runs an event list, pairs of kind and value, on the machine. `start` and `each` are the price of a move, as for [`report`](crate::report()).
 /// `answers` has a number for each event, `cache` as many as the task states, `memory` at least those of the deepest stack, and `work` at
 /// least [`WORK`](crate::WORK), the first of which are 0 afterwards.
+///
+/// The run of a text of no byte has finished before the first event, which is refused by row 22 whatever its kind. The rows 18 and 19 refuse no `cache` and no
+/// `memory` of it, and nothing in these and in `answers` changes.
 #[allow(clippy::too_many_arguments, reason = "the C function has them")]
 pub fn run(
     text: &[u8],
