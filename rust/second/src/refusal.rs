@@ -8,7 +8,8 @@ use std::fmt;
 pub enum Row {
     /// The text has more bytes than allowed.
     TextTooLong = 1,
-    /// A line has no form allowed at its position, or is missing, or has no line feed.
+    /// A line has no form allowed at its position, or is missing, or has no line feed. No line is
+    /// missing in a text of no byte.
     Form = 2,
     /// The number of cache blocks is outside its range.
     StackSize = 3,
