@@ -164,7 +164,7 @@ fn runs_on_every_cache_and_memory() {
     }
 }
 
-/// The first event is one behind the finish, before its kind or its value is looked at; so are the events behind it not looked at.
+/// The first event comes after the finish. Neither its kind nor its value counts, nor do the events behind it.
 #[test]
 fn every_kind_and_value() {
     for kind in KINDS {
@@ -192,7 +192,7 @@ fn longest_list() {
     assert_eq!(of(131_074, 0), (16, 0));
 }
 
-/// 15, 23, then 16, 17 and 22. The cache and the memory have lengths that a task with a stack may not have together.
+/// 15, 23, then 16, 17 and 22. No task with a stack takes a cache of 65 blocks.
 #[test]
 fn order_of_the_refusals() {
     before_the_text(|price, work, refusal| {
