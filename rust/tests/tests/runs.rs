@@ -291,7 +291,6 @@ fn tenths(result: RunResult) -> Option<usize> {
 
 /// What only the archive can show.
 mod in_archive {
-    use super::*;
     use felknost::{raw, Refusal, Row};
     use tests::{assert_short_run_results, steps, TWO};
 
