@@ -6,10 +6,9 @@ use mathlib.Core.Path.{_≡_, refl}
 use mathlib.Core.List.{List, [], _∷_, _++_}
 use lib.ListN.{replicate}
 use Rattle.model.specs.declared.Row.the-variants.{WorkTooSmall, PriceRange, TextTooLong, Form, StackSize, FrameSize, Offset, TooMany, Callee, Pairing}
-use Rattle.model.specs.declared.Row.the-variants.{Target, LastPoint, Unreachable, Uncalled, Uninitialised, EventList, AnswersTooSmall}
+use Rattle.model.specs.declared.Row.the-variants.{Target, LastPoint, Unreachable, Uncalled, Uninitialised, AnswersTooSmall}
 use Rattle.model.specs.declared.Row.the-variants.{OutputTooSmall, MemoryTooSmall, AfterFinish, Kind, Choice}
 use Rattle.model.specs.declared.Eviction.the-variants.{Eager, Lazy}
-use Rattle.model.specs.declared.Verdict.the-variants.{Accepted}
 use Rattle.model.specs.declared.Verdict.the-variants as verdict
 use Rattle.model.specs.declared.Ending.the-variants.{AllDone, Refused}
 use Rattle.model.specs.declared.RunResult.{RunResult}
@@ -324,30 +323,9 @@ pub dearestSaves :
 unfolding opened lines
 dearestSaves = (refl, refl)
 
--- document 02, request 14: a task without a stack. Its report, in blocks and at a price, rows 14, 15 and 23, and its list of no line
+-- document 02, request 14: runs of a task without a stack on either core, with any cache and memory, without an event and with a first one of no kind,
+-- which is 22 and not 20; and its plain stack. Its report, its list and its other rows are in the crate cases
 pub withoutStack :
-    (reportOf [] 0 1 space (replicate 30 7)
-    ≡ record {
-      result = record { verdict = Accepted; written = 22 };
-      work = spaceAfter;
-      output = lines ("(report" ∷ "  (total 0)" ∷ ")" ∷ []) ++ replicate 8 7;
-    })
-    × (reportOf [] 10 3 space (replicate 22 7) .output ≡ lines ("(report" ∷ "  (total 0)" ∷ ")" ∷ []))
-    × (reportOf [] 0 1 space (replicate 21 7) .result ≡ record { verdict = verdict.Refused (refuse OutputTooSmall 22); written = 0 })
-    × (reportOf [] 0 1 (9 ∷ []) (replicate 30 7)
-    ≡ record {
-      result = record { verdict = verdict.Refused (refuse WorkTooSmall 16384); written = 0 };
-      work = 9 ∷ [];
-      output = replicate 30 7;
-    })
-    × (reportOf [] 256 1 space [] .result ≡ record { verdict = verdict.Refused (refuse PriceRange 0); written = 0 })
-    × (dearestOf [] 0 1 space (7 ∷ [])
-    ≡ record { result = record { verdict = Accepted; written = 0 }; work = spaceAfter; output = 7 ∷ [] })
-unfolding opened lines
-withoutStack = (refl, refl, refl, refl, refl, refl)
-
--- its runs on either core, with any cache and memory: no event; a first event of no kind, which is 22 and not 20; rows 16 and 17; and its plain stack
-pub withoutStackRuns :
     (runOf Eager [] 0 1 space [] [] (6 ∷ 6 ∷ []) (8 ∷ [])
     ≡ record {
       result = record { ending = AllDone; done = 0; moved = 0; allowed = 0 };
@@ -364,8 +342,6 @@ pub withoutStackRuns :
       cache = [];
       memory = [];
     })
-    × (runOf Eager [] 0 1 space (1 ∷ []) [] [] [] .result .ending ≡ Refused (refuse EventList 0))
-    × (runOf Eager [] 0 1 space (1 ∷ 1 ∷ []) [] [] [] .result .ending ≡ Refused (refuse AnswersTooSmall 1))
     × (plain without (eventsOf (1 ∷ 1 ∷ [])) ≡ record { ending = Refused (refuse AfterFinish 0); done = 0; answers = [] })
 unfolding opened lines
-withoutStackRuns = (refl, refl, refl, refl, refl)
+withoutStack = (refl, refl, refl)
