@@ -79,9 +79,14 @@ macro_rules! writer {
                 room.result.as_mut_ptr(),
                 room.result.len(),
             );
-            room.result[2]
+            answer(room.result[0], room.result[2])
         }
     }};
+}
+
+/// What a call is known by: its code, and the bytes written or the blocks moved.
+fn answer(code: u64, number: u64) -> u64 {
+    code << 48 | number
 }
 
 /// A service that runs a list, in one copy.
@@ -130,7 +135,7 @@ macro_rules! runner {
                 room.result.as_mut_ptr(),
                 room.result.len(),
             );
-            room.result[3]
+            answer(room.result[0], room.result[3])
         }
     }};
 }
