@@ -38,7 +38,7 @@ abbrev pub the : Judged → Task
 the (task t) = t
 the (refused r) = without
 
--- refusals 2 to 13
+-- refusals 2 to 13, and the empty text, which none of them refuses
 pub refusals :
     (judged (lines ([])) ≡ task without)
     × (judged (lines ("" ∷ [])) ≡ refused (refuse Form 1))

@@ -13,7 +13,7 @@ use Rattle.model.specs.Text.{bytes}
 use Rattle.model.specs.Sheet.{decimal, row}
 use Rattle.model.specs.Services.{over}
 use Rattle.theory.proofs.Lists.{joined-append, joined-snoc, joined-next, length-joined, sum-room}
-use Rattle.theory.proofs.Decimal.{decimal-small, decimal-large}
+use Rattle.theory.proofs.Decimal.{decimal-small, decimal-large, length-small, length-large}
 use Rattle.print.specs.Print.{pasted, Wrote, spaced}
 
 -- a buffer that bytes are written into
@@ -92,22 +92,6 @@ unfolding pasted
 pasted-last at i d w out e h =
     let l : at + length (w ++ (d ∷ [])) ≡ suc i = omega (arith, length-append w (d ∷ [])) in
     rw (← e, l, drop-set i d out h, take-set-le at out i d (omega arith), append-snoc w d (drop (suc i) out))
-
--- the length of a number in decimal
-
-pub length-small : (m : ℕ) → m < 10 → length (decimal m) ≡ 1
-length-small m h = ap length (decimal-small m h)
-
-pub length-large : (m : ℕ) → 10 ≤ m → length (decimal m) ≡ length (decimal (m / 10)) + 1
-length-large m h = ap length (decimal-large m h) ∙ length-append (decimal (m / 10)) ((48 + m % 10) ∷ [])
-
--- a number has a digit
-pub decimal-some : (m : ℕ) → 1 ≤ length (decimal m)
-decimal-some m =
-    elim (decLt m 10) [
-      | yes h ↦ omega (arith, length-small m h)
-      | no h ↦ omega (arith, length-large m (omega arith))
-    ]
 
 -- a number below 10 ^ (k + 1) has at most k + 1 digits
 pub digits-most : (k m : ℕ) → m < 10 ^ suc k → length (decimal m) ≤ suc k

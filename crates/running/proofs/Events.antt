@@ -1,7 +1,6 @@
 -- The rows of run by their tests, and what run returns and leaves.
 use Prim.Native.Nat.{ℕ, _/_, _%_, _≤_, _<_}
 use mathlib.Core.Bool.{_&&_, _||_}
-use mathlib.Core.Logic.{⊎-elim}
 use mathlib.Core.List.{List, [], _∷_}
 use mathlib.Core.Option.{Option, none, some}
 use mathlib.Core.Path.{_≡_, refl, ap, sym, subst, _∙_}
@@ -14,7 +13,6 @@ use Rattle.model.specs.declared.Row.the-variants.{EventList, AnswersTooSmall, C
 use Rattle.model.specs.declared.Refusal.{Refusal}
 use Rattle.model.specs.declared.Verdict.{Verdict}
 use Rattle.model.specs.declared.Verdict.the-variants.{Accepted, Refused}
-use Rattle.model.specs.declared.Ending.the-variants.{AllDone}
 use Rattle.model.specs.declared.RunResult.{RunResult}
 use Rattle.model.specs.Limits.{mostEventNumbers}
 use Rattle.model.specs.Basic.{unless, _orElse_}
@@ -25,8 +23,8 @@ use Rattle.model.specs.Sheet.{movePrice}
 use Rattle.model.specs.Refusal.{withRows, pricedRows, runRows}
 use Rattle.model.specs.Plain.{eventsOf}
 use Rattle.model.specs.Services.{cleared, AfterRun, runAs, runJudged, runWith, runOf, Demand3, LeavesClean, PaysOnce}
-use Rattle.theory.specs.Without.{firstRow, nothingDone}
-use Rattle.theory.proofs.Lists.{and-holds, or-holds}
+use Rattle.theory.specs.Without.{firstRow, nothingDone, untouched}
+use Rattle.theory.proofs.Lists.{and-holds, or-equal}
 use Rattle.theory.proofs.Firsts.{row-none, unless-none}
 use Rattle.theory.proofs.Search.{verdict-none, verdict-some}
 use Rattle.theory.proofs.Faithful.{demand-3, leaves-clean}
@@ -39,7 +37,7 @@ use Rattle.prices.specs.Prices.{priceOf}
 use Rattle.figures.specs.declared.FuncFigures.{FuncFigures}
 use Rattle.figures.specs.Figured.{funcFigures}
 use Rattle.bounds.specs.Bounds.{Bounded}
-use Rattle.run.specs.Events.{Fitting, endedWith, Serves}
+use Rattle.run.specs.Events.{Fitting, Serves}
 use Rattle.judge.specs.declared.Judgement.{Judgement}
 use Rattle.judge.specs.Judgement.{judgedIn}
 use Rattle.serving.specs.Served.{Lent}
@@ -88,12 +86,12 @@ passes e a c n s o =
       paired = eqb→eq (e % 2) 0 (l .0);
       few = leb→le e mostEventNumbers (l .1);
       answered = leb→le (e / 2) a (j .0);
-      blocks = λ h. ⊎-elim (λ z. absurd (omega (arith, eqb→eq n 0 z))) (eqb→eq c s) (or-holds (eqb n 0) (eqb c s) .0 k);
+      blocks = or-equal n c s k;
     }
 
 -- ---- a run that has finished before the first event
 
-pub none-to-do : (e : ℕ) {r : RunResult} → e ≡ 0 → r ≡ endedWith AllDone 0 0 0 → r ≡ finishedBefore e
+pub none-to-do : (e : ℕ) {r : RunResult} → e ≡ 0 → r ≡ nothingDone none → r ≡ finishedBefore e
 none-to-do e z i = rw (eq-eqb e 0 z) i
 
 pub first-refused : (e : ℕ) {r : RunResult} → (e ≡ 0 → ⊥) → r ≡ noneDone (refuse AfterFinish 0) → r ≡ finishedBefore e
@@ -101,7 +99,7 @@ first-refused e z i = rw (ne-eqb e 0 z) i
 
 -- as the model has it
 finished-after : (events work answers cache memory : List ℕ) → length events % 2 ≡ 0
-    → afterRun (finishedBefore (length events)) work answers cache memory ≡ nothingDone (firstRow (eventsOf events)) work answers cache memory
+    → afterRun (finishedBefore (length events)) work answers cache memory ≡ untouched (firstRow (eventsOf events)) work answers cache memory
 unfolding eventsOf
 finished-after [] work answers cache memory p = refl
 finished-after (b ∷ []) work answers cache memory p = absurd (omega arith)

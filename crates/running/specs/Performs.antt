@@ -3,21 +3,21 @@ use Prim.Native.Nat.{ℕ, _/_, _%_}
 use mathlib.Core.Bool.{_&&_, _||_}
 use mathlib.Core.Path.{_≡_}
 use mathlib.Core.List.{List}
-use mathlib.Core.Option.{Option}
+use mathlib.Core.Option.{Option, some}
 use lib.Dec.{eqb, leb}
 use lib.ListN.{length}
 use Rattle.model.specs.declared.Eviction.{Eviction}
 use Rattle.model.specs.declared.Refusal.{Refusal}
 use Rattle.model.specs.declared.Row.the-variants.{EventList, AnswersTooSmall, CacheSize, AfterFinish}
-use Rattle.model.specs.declared.Ending.the-variants as ending
 use Rattle.model.specs.declared.RunResult.{RunResult}
 use Rattle.model.specs.Limits.{mostEventNumbers}
-use Rattle.model.specs.Basic.{if_then_else_, unless, _orElse_}
+use Rattle.model.specs.Basic.{unless, _orElse_}
 use Rattle.model.specs.Rows.{refuse}
 use Rattle.model.specs.Task.{Judged}
 use Rattle.model.specs.Refusal.{withRows, runRows}
 use Rattle.model.specs.Plain.{eventsOf}
 use Rattle.model.specs.Services.{cleared, AfterRun, runAs}
+use Rattle.theory.specs.Without.{nothingDone}
 use Rattle.prices.specs.declared.Price.{Price}
 use Rattle.prices.specs.Prices.{priceOf}
 
@@ -30,12 +30,11 @@ bufferRows events answers cache funcs stack =
 
 -- a refusal before the first event
 abbrev pub noneDone : Refusal → RunResult
-noneDone r = record { ending = ending.Refused r; done = 0; moved = 0; allowed = 0 }
+noneDone r = nothingDone (some r)
 
 -- a task that has finished before the first event, over an event list of so many numbers
 abbrev pub finishedBefore : ℕ → RunResult
-finishedBefore numbers =
-    if eqb numbers 0 then record { ending = ending.AllDone; done = 0; moved = 0; allowed = 0 } else noneDone (refuse AfterFinish 0)
+finishedBefore numbers = nothingDone (unless (eqb numbers 0) (refuse AfterFinish 0))
 
 -- what a run has returned and left, as one
 abbrev pub afterRun : RunResult → (work answers cache memory : List ℕ) → AfterRun

@@ -27,7 +27,7 @@ use Rattle.theory.proofs.Blocks.{spilled-out}
 use Rattle.theory.proofs.Clean.{effective-between, clean-idle}
 use Rattle.theory.proofs.Frames.{places, running-same, In, Below, Standing, Window}
 use Rattle.theory.proofs.Window.{room-below, room-start, window-idle}
-use Rattle.theory.proofs.Fair.{Running, fair-event, runs-start, state-is, by-start}
+use Rattle.theory.proofs.Fair.{Running, fair-event, runs-start, state-is, finished-ran, by-start}
 use Rattle.theory.proofs.Lawful.{sound}
 use Rattle.theory.proofs.Prices.{price-moves}
 use Rattle.theory.proofs.Faithful.{run-accepted}
@@ -148,9 +148,9 @@ module _ (t : Task) (s : Sheet) (w : WellFormed t) (r : Sound t s) where
   -- a task that has finished moves nothing on either
   less-finished : (c : Core) (es : List Event)
       → LessRun (ranFrom t s 0 (finishedState c) es) (ranFrom t s 0 (finishedState (eagerly c)) es)
-  unfolding ranFrom eventRows
-  less-finished c [] = record { ending = refl; done = refl; answers = refl; core = refl; moved = omega arith }
-  less-finished c (e ∷ es) = record { ending = refl; done = refl; answers = refl; core = refl; moved = omega arith }
+  less-finished c es =
+      rw (finished-ran t s c es, finished-ran t s (eagerly c) es)
+      (record { ending = refl; done = refl; answers = refl; core = refl; moved = omega arith })
 
   -- from a fresh start on any core with no frames: written back eagerly it leaves the same, and moves no less
   pub less-moved : (c : Core) (es : List Event) → (0 < count t → Window t s [] c) → Clean c → LessRun (ran t s c es) (ran t s (eagerly c) es)

@@ -1,9 +1,10 @@
--- A number in decimal: the digits computed are enough for every number, and they are read back as that number.
+-- A number in decimal: the digits computed are enough for every number, there is at least one, and they are read back as that number.
 use Prim.Native.Nat.{ℕ, zero, suc, _+_, _-_, _*_, _/_, _%_, _≤_, _<_}
-use mathlib.Core.Path.{_≡_, refl, ap}
+use mathlib.Core.Path.{_≡_, refl, ap, _∙_}
 use mathlib.Core.List.{List, [], _∷_, _++_}
 use native.Mathlib.Omega.{arith}
 use native.Mathlib.Decide.{decLt}
+use lib.ListN.{length, length-append}
 use borrow.Author.Tests.{lt-ltb, le-ltb}
 use Rattle.model.specs.Text.{value}
 use Rattle.model.specs.Sheet.{decimalTo, decimal}
@@ -50,3 +51,18 @@ value-to (suc n) m h =
 
 pub decimal-value : (m : ℕ) → value 0 (decimal m) ≡ m
 decimal-value m = value-to (suc m) m (omega arith)
+
+-- the length of a number in decimal
+pub length-small : (m : ℕ) → m < 10 → length (decimal m) ≡ 1
+length-small m h = ap length (decimal-small m h)
+
+pub length-large : (m : ℕ) → 10 ≤ m → length (decimal m) ≡ length (decimal (m / 10)) + 1
+length-large m h = ap length (decimal-large m h) ∙ length-append (decimal (m / 10)) ((48 + m % 10) ∷ [])
+
+-- a number has a digit
+pub decimal-some : (m : ℕ) → 1 ≤ length (decimal m)
+decimal-some m =
+    elim (decLt m 10) [
+      | yes h ↦ omega (arith, length-small m h)
+      | no h ↦ omega (arith, length-large m (omega arith))
+    ]

@@ -21,6 +21,7 @@ use Rattle.model.specs.Plain.{plainFrom, plain, mainFrames, firstFrames}
 use Rattle.model.specs.Run.{State, Turn, mainState, finishedState, freshState, stepTurn, preemptTurn, turn, Ran, orRan, ranFrom, ran, stepBound, eventBound, orBound, allowedFrom, allowed}
 use Rattle.model.specs.WellFormed.{WellFormed}
 use Rattle.theory.specs.Sound.{Ground, Sound}
+use Rattle.theory.specs.Without.{firstRow, noneRan, nonePlain}
 use Rattle.theory.proofs.Frames.{places, running-same, frames-step, In, Below, Standing, first-main, first-none, standing-start, standing-step, Window, Needed}
 use Rattle.theory.proofs.Clean.{effective-between, clean-reserve, clean-resume, clean-step}
 use Rattle.theory.proofs.Window.{room-start, window-start, window-step, window-save, window-between, window-resume}
@@ -179,12 +180,30 @@ module _ (t : Task) (s : Sheet) (w : WellFormed t) (r : Sound t s) where
   fair-main h c es u k =
       rw (potential-start t s w r h c u) at (fair-from 0 es (mainFrames t) (reserve (func t 0 .frame) c .core) (runs-start h c u k))
 
--- a task that has finished is refused its next event, and nothing is touched
-fair-finished : (t : Task) (s : Sheet) (i : ℕ) (c : Core) → Clean c → (es : List Event)
-    → FairRun (ranFrom t s i (finishedState c) es) (plainFrom t i [] es) (allowedFrom t s i [] es) 0
-unfolding ranFrom plainFrom allowedFrom eventRows
-fair-finished t s i c k [] = record { ending = refl; done = refl; answers = refl; bounded = omega arith; clean = k }
-fair-finished t s i c k (e ∷ es) = record { ending = refl; done = refl; answers = refl; bounded = omega arith; clean = k }
+-- ---- a task that has finished
+
+-- its first event is refused: no event is done, nothing is moved, and nothing is allowed
+pub finished-plain : (t : Task) (es : List Event) → plainFrom t 0 [] es ≡ nonePlain (firstRow es)
+unfolding plainFrom eventRows
+finished-plain t [] = refl
+finished-plain t (e ∷ es) = refl
+
+module _ (t : Task) (s : Sheet) where
+  pub finished-ran : (c : Core) (es : List Event) → ranFrom t s 0 (finishedState c) es ≡ noneRan (firstRow es) c
+  unfolding ranFrom eventRows
+  finished-ran c [] = refl
+  finished-ran c (e ∷ es) = refl
+
+  pub finished-allowed : (es : List Event) → allowedFrom t s 0 [] es ≡ 0
+  unfolding allowedFrom eventRows
+  finished-allowed [] = refl
+  finished-allowed (e ∷ es) = refl
+
+  fair-finished : (c : Core) → Clean c → (es : List Event)
+      → FairRun (ranFrom t s 0 (finishedState c) es) (plainFrom t 0 [] es) (allowedFrom t s 0 [] es) 0
+  fair-finished c k es =
+      rw (finished-ran c es, finished-plain t es, finished-allowed es)
+      (record { ending = refl; done = refl; answers = refl; bounded = omega arith; clean = k })
 
 -- ---- a fresh start
 
@@ -216,5 +235,5 @@ allowed-none t s es e = ap (λ (fs : List Frame). allowedFrom t s 0 fs es) (firs
 pub fair-run : (t : Task) (s : Sheet) → WellFormed t → Sound t s → (c : Core) (es : List Event) → (0 < count t → Window t s [] c) → Clean c
     → FairRun (ran t s c es) (plain t es) (allowed t s es) 0
 fair-run t s w r c es u k =
-    by-start t (λ x fs. FairRun (ranFrom t s 0 (x c) es) (plainFrom t 0 fs es) (allowedFrom t s 0 fs es) 0) (fair-finished t s 0 c k es)
+    by-start t (λ x fs. FairRun (ranFrom t s 0 (x c) es) (plainFrom t 0 fs es) (allowedFrom t s 0 fs es) 0) (fair-finished t s c k es)
     (λ h. fair-main t s w r h c es (u h) k)

@@ -3,11 +3,10 @@
 use Prim.Native.Nat.{ℕ, _/_, _%_, _≤_, _<_}
 use mathlib.Core.Bool.{_&&_, _||_}
 use mathlib.Core.List.{List, []}
-use mathlib.Core.Logic.{⊎-elim}
 use mathlib.Core.Option.{Option, none}
 use mathlib.Core.Path.{_≡_, refl, ap}
 use native.Mathlib.Omega.{arith}
-use lib.Dec.{eqb, leb, eqb→eq, leb→le}
+use lib.Dec.{eqb, leb, leb→le}
 use lib.ListN.{length}
 use Rattle.model.specs.declared.Eviction.{Eviction}
 use Rattle.model.specs.declared.Refusal.{Refusal}
@@ -25,7 +24,7 @@ use Rattle.model.specs.Plain.{Event, eventsOf}
 use Rattle.model.specs.Run.{Faithful}
 use Rattle.model.specs.Services.{cleared, over, runJudged, runAs, runWith, runOf, Demand3, LeavesClean}
 use Rattle.theory.specs.Sound.{Price, Sound}
-use Rattle.theory.proofs.Lists.{or-holds}
+use Rattle.theory.proofs.Lists.{or-equal}
 use Rattle.theory.proofs.Firsts.{row-none, unless-none}
 use Rattle.theory.proofs.Accepted.{accepted}
 use Rattle.theory.proofs.Frames.{Window}
@@ -51,12 +50,8 @@ run-room events answers cache memory t e =
     let i = row-none (eqb (events % 2) 0 && leb events mostEventNumbers) (refuse EventList 0) _ .0 e in
     let j = row-none (leb (events / 2) answers) (refuse AnswersTooSmall (events / 2)) _ .0 (i .1) in
     let k = row-none fits (refuse CacheSize (t .stack)) (unless (leb (longest t 0) memory) (refuse MemoryTooSmall (longest t 0))) .0 (j .1) in
-    let l = unless-none (leb (longest t 0) memory) (refuse MemoryTooSmall (longest t 0)) .0 (k .1) in (
-      λ h.
-          ⊎-elim (λ z. absurd (omega (arith, eqb→eq (count t) 0 z))) (eqb→eq cache (t .stack))
-          (or-holds (stackless t) (eqb cache (t .stack)) .0 (k .0)),
-      leb→le (longest t 0) memory l,
-    )
+    let l = unless-none (leb (longest t 0) memory) (refuse MemoryTooSmall (longest t 0)) .0 (k .1) in
+    (or-equal (count t) cache (t .stack) (k .0), leb→le (longest t 0) memory l)
 
 -- what run gives by accepting a text with these buffers
 pub record RunAccepted (t : Task) (cache memory : List ℕ) : Type 0 where

@@ -10,7 +10,7 @@ use native.Mathlib.Decide.{decLe, decLt, ℕ-discrete}
 use native.Mathlib.Nat.{zero-add, add-zero}
 use native.Mathlib.Numerals.{add-one}
 use native.Mathlib.Omega.{arith}
-use lib.Dec.{T, T-not}
+use lib.Dec.{T, T-not, eqb, eqb→eq}
 use lib.ListN.{length, getD, length-append}
 use Rattle.model.specs.Basic.{if_then_else_, any, select, joined, sumOf, largest, smallest, countFrom, upTo, aboveAll, lowestFrom, lowest}
 use Rattle.model.specs.Walk.{Largest, Smallest}
@@ -47,6 +47,10 @@ by-min P a b x y =
 pub or-holds : (a b : Bool) → T (a || b) ↔ (T a ⊎ T b)
 or-holds true b = (λ h. inl tt, λ h. tt)
 or-holds false b = (inr, ⊎-elim absurd (λ h. h))
+
+-- two numbers that have to be equal only where a third is not 0
+pub or-equal : (n a b : ℕ) → T (eqb n 0 || eqb a b) → 0 < n → a ≡ b
+or-equal n a b h l = ⊎-elim (λ z. absurd (omega (arith, eqb→eq n 0 z))) (eqb→eq a b) (or-holds (eqb n 0) (eqb a b) .0 h)
 
 -- a test that asks for both of two
 pub and-holds : (a b : Bool) → T (a && b) ↔ (T a × T b)

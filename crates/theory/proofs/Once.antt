@@ -35,7 +35,7 @@ use Rattle.theory.proofs.Frames.{places, running-same, frames-step, In,
 use Rattle.theory.proofs.Window.{window-idle}
 use Rattle.theory.proofs.Occupancy.{Occupied}
 use Rattle.theory.proofs.Potential.{potential, paid, potential-start, save-covers, reload-covers, left-delayed}
-use Rattle.theory.proofs.Fair.{Running, fair-step, fair-preempt, runs-start, by-start, state-is}
+use Rattle.theory.proofs.Fair.{Running, fair-step, fair-preempt, runs-start, finished-ran, by-start, state-is}
 use Rattle.theory.proofs.Lawful.{sound}
 use Rattle.theory.proofs.Before.{never-rises}
 use Rattle.theory.proofs.Prices.{counted-price, moves-blocks}
@@ -295,9 +295,7 @@ module _ (t : Task) (s : Sheet) (w : WellFormed t) (r : Sound t s) (counted : s 
   -- a task that has finished moves nothing
   once-finished : (c : Core) (es : List Event)
       → ranFrom t s 0 (finishedState c) es .moved ≤ allowedFrom t (chargingOnce s) 0 [] es
-  unfolding ranFrom allowedFrom eventRows
-  once-finished c [] = omega arith
-  once-finished c (e ∷ es) = omega arith
+  once-finished c es = rw (finished-ran t s c es) (omega arith)
 
   -- from a fresh start on a core that writes back all
   eager-once : (c : Core) (es : List Event) → (0 < count t → Window t s [] c) → Clean c → c .eviction ≡ Eager

@@ -160,16 +160,16 @@ end-keeps n (between t) k =
 end-keeps n (inside t x) k = tt
 
 -- what every line keeps holds where the text ends. P: of the progress; Q: of the task
-module _ (P : Progress → Type 0) (Q : Task → Type 0) (line : (n : ℕ) (s : Progress) (l : Line) → P s → Goes P (readLine n s l))
-    (end : (n : ℕ) (s : Progress) → P s → Tasked Q (readEnd n s)) where
+module _ (P : Progress → Type 0) (Q : Task → Type 0) (at-line : (n : ℕ) (s : Progress) (l : Line) → P s → Goes P (readLine n s l))
+    (at-end : (n : ℕ) (s : Progress) → P s → Tasked Q (readEnd n s)) where
   onward-keeps : (r : Step) (go : Progress → Judged) → Goes P r → ((s : Progress) → P s → Tasked Q (go s)) → Tasked Q (onward r go)
   onward-keeps (stop r) go k h = tt
   onward-keeps (goes s) go k h = h s k
 
   lines-keep : (n : ℕ) (s : Progress) (ls : List Line) → P s → Tasked Q (readFrom n s ls)
   unfolding readFrom
-  lines-keep n s [] k = end n s k
-  lines-keep n s (l ∷ ls) k = onward-keeps (readLine n s l) (λ s′. readFrom (suc n) s′ ls) (line n s l k) (λ s′ k′. lines-keep (suc n) s′ ls k′)
+  lines-keep n s [] k = at-end n s k
+  lines-keep n s (l ∷ ls) k = onward-keeps (readLine n s l) (λ s′. readFrom (suc n) s′ ls) (at-line n s l k) (λ s′ k′. lines-keep (suc n) s′ ls k′)
 
 -- a text that is read as a task gives one within the limits
 pub read-shaped : (text : List ℕ) (t : Task) → readText text ≡ task t → Shaped t

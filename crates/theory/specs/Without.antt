@@ -1,18 +1,33 @@
--- A run that has finished before its first event: what it returns and leaves (document 02, request 14).
+-- What a service returns and leaves of the empty text (document 02, request 14).
 use Prim.Native.Nat.{ℕ}
-use mathlib.Core.List.{List, [], _∷_}
+use mathlib.Core.List.{List, [], _∷_, _++_}
 use mathlib.Core.Option.{Option, none, some}
+use lib.ListN.{length}
 use Rattle.model.specs.declared.Refusal.{Refusal}
 use Rattle.model.specs.declared.Row.the-variants.{AfterFinish}
+use Rattle.model.specs.declared.Verdict.the-variants as verdict
 use Rattle.model.specs.declared.Ending.{Ending}
 use Rattle.model.specs.declared.Ending.the-variants as ending
+use Rattle.model.specs.declared.RunResult.{RunResult}
+use Rattle.model.specs.Text.{bytes}
 use Rattle.model.specs.Rows.{refuse}
 use Rattle.model.specs.Core.{Core}
-use Rattle.model.specs.Plain.{Event}
+use Rattle.model.specs.Plain.{Event, Plain}
 use Rattle.model.specs.Run.{Ran}
-use Rattle.model.specs.Services.{AfterRun}
+use Rattle.model.specs.Services.{over, AfterWrite, AfterRun}
 
--- its first event, if there is one, is refused
+-- the report of the empty text
+abbrev pub emptyReport : List ℕ
+emptyReport = bytes "(report\n" ++ bytes "  (total 0)\n" ++ bytes ")\n"
+
+-- a service that writes: refused by this row, or these bytes are written
+abbrev pub writtenOr : Option Refusal → (bytes work output : List ℕ) → AfterWrite
+writtenOr none bytes work output =
+    record { result = record { verdict = verdict.Accepted; written = length bytes }; work = work; output = over bytes output }
+writtenOr (some r) bytes work output =
+    record { result = record { verdict = verdict.Refused r; written = 0 }; work = work; output = output }
+
+-- the first event, if there is one, of a task that has finished is refused
 abbrev pub firstRow : List Event → Option Refusal
 firstRow [] = none
 firstRow (e ∷ es) = some (refuse AfterFinish 0)
@@ -22,17 +37,17 @@ abbrev pub endingBy : Option Refusal → Ending
 endingBy none = ending.AllDone
 endingBy (some r) = ending.Refused r
 
--- no event is done, nothing is moved or answered, and the core is as it was
+-- no event is done, nothing is moved or answered, and the core is as it was; so it is of the plain stack
 abbrev pub noneRan : Option Refusal → Core → Ran
 noneRan row c = record { ending = endingBy row; done = 0; moved = 0; answers = []; core = c }
 
--- so it is of the service, and answers, cache and memory are as they were lent
-abbrev pub nothingDone : Option Refusal → (work answers cache memory : List ℕ) → AfterRun
-nothingDone row work answers cache memory =
-    record {
-      result = record { ending = endingBy row; done = 0; moved = 0; allowed = 0 };
-      work = work;
-      answers = answers;
-      cache = cache;
-      memory = memory;
-    }
+abbrev pub nonePlain : Option Refusal → Plain
+nonePlain row = record { ending = endingBy row; done = 0; answers = [] }
+
+-- so it is of the service, which leaves answers, cache and memory as they were lent
+abbrev pub nothingDone : Option Refusal → RunResult
+nothingDone row = record { ending = endingBy row; done = 0; moved = 0; allowed = 0 }
+
+abbrev pub untouched : Option Refusal → (work answers cache memory : List ℕ) → AfterRun
+untouched row work answers cache memory =
+    record { result = nothingDone row; work = work; answers = answers; cache = cache; memory = memory }

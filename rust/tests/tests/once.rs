@@ -196,48 +196,45 @@ fn every_list_of_small_tasks() {
     });
 }
 
-/// Runs every event list of up to so many events with one preemption. The last event may be a refused one.
-fn run_every_list_with_one(runs: &mut Runs, small: &Small, events: usize) {
-    let task = TaskSheet::of(&small.text);
-    small.every_list_with(1, events, |events| {
-        if preemptions(events) == 1 {
-            let lent = lent_for(events, &small.lent(events));
-            runs.run(small, &task, events, &lent);
-        }
-    });
+/// Runs every event list of up to so many events with one preemption, of each task. The last event may be a refused one.
+fn every_list_with_one(tasks: impl Iterator<Item = Small>, events: usize, least: Counted) {
+    let mut runs = Runs::default();
+    for small in tasks {
+        let task = TaskSheet::of(&small.text);
+        small.every_list_with(1, events, |events| {
+            if preemptions(events) == 1 {
+                let lent = lent_for(events, &small.lent(events));
+                runs.run(&small, &task, events, &lent);
+            }
+        });
+    }
+    println!("every list of up to {events} events with one preemption: {runs:?}");
+    runs.one.assert_least(least);
 }
 
 #[test]
 fn every_list_with_one_preemption() {
-    let mut runs = Runs::default();
-    for seed in 0..SMALL_ONE {
-        let small = generate::small(seed + 3_000_000, SMALL_ONE_POINTS);
-        run_every_list_with_one(&mut runs, &small, SMALL_ONE_EVENTS);
-    }
-    println!("every list of small tasks with one preemption: {runs:?}");
-    runs.one.assert_least(Counted {
+    let tasks = (0..SMALL_ONE).map(|seed| generate::small(seed + 3_000_000, SMALL_ONE_POINTS));
+    let least = Counted {
         runs: 30_000,
         less: 1_500,
         reached: 2_000,
         ..Counted::default()
-    });
+    };
+    every_list_with_one(tasks, SMALL_ONE_EVENTS, least);
 }
 
 #[test]
 fn every_list_of_small_wrappers_with_one_preemption() {
-    let mut runs = Runs::default();
-    for seed in 0..SMALL_WRAPPERS {
-        let small = generate::small_wrapper(seed + 2_000_000);
-        run_every_list_with_one(&mut runs, &small, SMALL_WRAPPER_EVENTS);
-    }
-    println!("every list of small wrappers with one preemption: {runs:?}");
-    runs.one.assert_least(Counted {
+    let tasks = (0..SMALL_WRAPPERS).map(|seed| generate::small_wrapper(seed + 2_000_000));
+    let least = Counted {
         runs: 10_000,
         less: 2_000,
         reached: 1_000,
         tight: 100,
         lazy_tight: 100,
-    });
+    };
+    every_list_with_one(tasks, SMALL_WRAPPER_EVENTS, least);
 }
 
 /// The text of a function in a row of three, which calls the next one if there is one. It stores to its first block before the call and loads it behind the

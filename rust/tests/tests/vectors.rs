@@ -10,7 +10,7 @@ use second::WORK_MIN;
 use tests::{
     func_lines, is_noise_from, once_of, prices, report, report_at, report_by, run, run_at,
     run_both_at, run_by, split_once, split_total, sum_of_costs, verdict, whole_report, Allowed,
-    Lent,
+    BothRan, Lent,
 };
 use vectors::{amended, expected, in_force, original, read, read_text, tasks};
 
@@ -154,6 +154,17 @@ impl RunVector {
             back: buffers(&back),
         }
     }
+
+    /// The run in blocks, on both cores.
+    fn run_both(&self) -> BothRan {
+        run_both_at(
+            &self.text,
+            Price::BLOCKS,
+            &self.events,
+            &self.lent,
+            WORK_MIN,
+        )
+    }
 }
 
 fn run_vectors() -> Vec<RunVector> {
@@ -176,13 +187,7 @@ fn vectors_run() {
 fn vectors_run_lazy() {
     let mut less = 0;
     for case in run_vectors() {
-        let ran = run_both_at(
-            &case.text,
-            Price::BLOCKS,
-            &case.events,
-            &case.lent,
-            WORK_MIN,
-        );
+        let ran = case.run_both();
         let numbers = ran.lazy.result.numbers();
         assert_eq!(numbers[..3], case.result[..3], "{}", case.name);
         assert!(numbers[3] <= case.result[3], "{}", case.name);
@@ -201,13 +206,7 @@ fn vectors_run_once() {
     assert_eq!(tasks.len(), 6);
     let mut less = 0;
     for case in tasks.iter().map(|path| RunVector::of(path)) {
-        let ran = run_both_at(
-            &case.text,
-            Price::BLOCKS,
-            &case.events,
-            &case.lent,
-            WORK_MIN,
-        );
+        let ran = case.run_both();
         assert_eq!(ran.eager.result.numbers()[..], case.result, "{}", case.name);
         assert_eq!(ran.eager.lent, case.back, "{}", case.name);
         let sheet = func_lines(&whole_report(&case.text, Price::BLOCKS));

@@ -4,7 +4,8 @@ use mathlib.Core.Path.{_≡_}
 use native.Mathlib.Omega.{arith}
 use lib.ListN.{length}
 use Rattle.model.specs.Sheet.{decimal}
-use Rattle.print.proofs.Laws.{length-small, length-large, decimal-some, decimal-most}
+use Rattle.theory.proofs.Decimal.{length-small, length-large, decimal-some}
+use Rattle.print.proofs.Laws.{decimal-most}
 use Rattle.print.proofs.number_length.Statement.{statement}
 use Rattle.print.proofs.number_length.Tie as tie
 

@@ -6,7 +6,8 @@ use borrow.Author.Needs.{needs}
 use lib.ListN.{length, length-set}
 use Rattle.model.specs.Sheet.{decimal}
 use Rattle.print.specs.Print.{pasted}
-use Rattle.print.proofs.Laws.{length-large, decimal-some, number-last, number-first}
+use Rattle.theory.proofs.Decimal.{length-large, decimal-some}
+use Rattle.print.proofs.Laws.{number-last, number-first}
 use Rattle.print.proofs.put_digits.Statement.{statement}
 use Rattle.print.proofs.put_digits.Tie as tie
 

@@ -3,7 +3,8 @@ use Prim.Native.Nat.{_/_}
 use native.Mathlib.Omega.{arith}
 use lib.ListN.{length-set}
 use borrow.Author.Needs.{needs}
-use Rattle.print.proofs.Laws.{length-large, decimal-some, wrote-one, wrote-two}
+use Rattle.theory.proofs.Decimal.{length-large, decimal-some}
+use Rattle.print.proofs.Laws.{wrote-one, wrote-two}
 use Rattle.print.proofs.put_number.Statement.{statement}
 use Rattle.print.proofs.put_number.Tie as tie
 
