@@ -2,10 +2,10 @@
 use Prim.Native.Nat.{ℕ, _-_}
 use mathlib.Core.List.{List}
 use Rattle.tables.specs.declared.Header.{Header}
-use Rattle.tables.specs.Tables.{taskOf}
 use Rattle.prices.specs.declared.Price.{Price}
-use Rattle.figures.specs.Columns.{columnsEnd, Points, Funcs, Changed}
-use Rattle.figures.specs.Figured.{Figured, sheetAt}
+use Rattle.columns.specs.Columns.{columnsEnd, Points, Funcs, Changed}
+use Rattle.readout.specs.Sheet.{sheetIn}
+use Rattle.readout.specs.Readable.{Readable}
 
 -- of each point, counted over all functions: the cost of a preemption and the fill of an ensure
 abbrev pub costBounds : ℕ
@@ -22,12 +22,12 @@ spillBounds = 10752
 abbrev pub boundsEnd : ℕ
 boundsEnd = 10816
 
--- the figures stand, and the columns behind them have what the sheet allows in the functions below n
+-- the columns of figures can be read, and those behind them have what the sheet in them allows in the functions below n
 pub record BoundedTo (price : Price) (w : List ℕ) (h : Header) (n : ℕ) : Type 0 where
-  pub figured : Figured price w h
-  pub cost : Points (λ f p. sheetAt price (taskOf w h) .at f p .cost) costBounds n w
-  pub fill : Points (λ f p. sheetAt price (taskOf w h) .at f p .fill) fillBounds n w
-  pub spill : Funcs (sheetAt price (taskOf w h) .spill) spillBounds 0 n w
+  pub readable : Readable price w h
+  pub cost : Points (λ f p. sheetIn price w h .at f p .cost) costBounds n w
+  pub fill : Points (λ f p. sheetIn price w h .at f p .fill) fillBounds n w
+  pub spill : Funcs (sheetIn price w h .spill) spillBounds 0 n w
 
 -- in every function: what a run reads
 abbrev pub Bounded : Price → List ℕ → Header → Type 0

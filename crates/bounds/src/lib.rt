@@ -3,12 +3,12 @@
 ghost use mathlib.Core.Path.{_≡_};
 ghost use Prim.Native.Nat.{_+_, _<_, _≤_};
 ghost use lib.ListN.{length};
-ghost use Rattle.tables.specs.Tables.{spanAt, taskOf};
-ghost use Rattle.tables.specs.Valid.{Kept};
+ghost use Rattle.tables.specs.Tables.{spanAt};
 ghost use Rattle.problems.specs.Problems.{Filled};
-ghost use Rattle.figures.specs.Figured.{Figured, sheetAt};
-ghost use Rattle.bounds.specs.Bounds.{boundsEnd, Bounded, BoundedTo, OnlyBounds};
-use figures::Columns;
+ghost use Rattle.readout.specs.Sheet.{sheetIn};
+ghost use Rattle.readout.specs.Readable.{Readable};
+ghost use Rattle.bounds.specs.Bounds.{Bounded, BoundedTo, OnlyBounds};
+use columns::Columns;
 use model::Limits;
 use prices::Price;
 use tables::Header;
@@ -37,14 +37,14 @@ fn point_bounds(
     costs: &mut [u32],
     fills: &mut [u32],
 )
-    requires { ⌜ Figured price (now work) h × (f < h .funcs) × (s ≡ spanAt (now work) f) × (s .size ≤ length (now costs)) × (s .size ≤ length (now fills)) ⌝ }
-    ensures { λ r. ⌜ Filled (λ p v. v ≡ sheetAt price (taskOf (now (work .entry)) h) .at f p .cost) (s .size) (now (costs .entry)) (now (costs .exit))
-        × Filled (λ p v. v ≡ sheetAt price (taskOf (now (work .entry)) h) .at f p .fill) (s .size) (now (fills .entry)) (now (fills .exit)) ⌝ }
+    requires { ⌜ Readable price (now work) h × (f < h .funcs) × (s ≡ spanAt (now work) f) × (s .size ≤ length (now costs)) × (s .size ≤ length (now fills)) ⌝ }
+    ensures { λ r. ⌜ Filled (λ p v. v ≡ sheetIn price (now (work .entry)) h .at f p .cost) (s .size) (now (costs .entry)) (now (costs .exit))
+        × Filled (λ p v. v ≡ sheetIn price (now (work .entry)) h .at f p .fill) (s .size) (now (fills .entry)) (now (fills .exit)) ⌝ }
 {
     let n = s.size;
     let mut p = 0;
     while p < n {
-        let r = figures::point_figures(work, h, price, f, s, p);
+        let r = readout::point_figures(work, h, price, f, s, p);
         costs[p] = r.cost;
         fills[p] = r.fill;
         p += 1;
@@ -64,7 +64,7 @@ fn bound_func(
     ensures { λ r. ⌜ BoundedTo price (now (work .exit)) h (f + 1) × OnlyBounds (now (work .entry)) (now (work .exit)) ⌝ }
 {
     let s = tables::span_at(work, f);
-    let r = figures::func_figures(work, h, price, f);
+    let r = readout::func_figures(work, h, price, f);
     point_bounds(work, h, price, f, s, costs, fills);
     let base = s.base;
     columns::put_column(work, Bounds::COST + base, costs, s.size);
@@ -80,9 +80,8 @@ fn bound_funcs(
     costs: &mut [u32; Limits::POINTS],
     fills: &mut [u32; Limits::POINTS],
 )
-    requires { ⌜ Figured price (now work) h ⌝ }
-    ensures { λ r. ⌜ Bounded price (now (work .exit)) h × (taskOf (now (work .exit)) h ≡ taskOf (now (work .entry)) h)
-        × Kept boundsEnd (now (work .entry)) (now (work .exit)) ⌝ }
+    requires { ⌜ Readable price (now work) h ⌝ }
+    ensures { λ r. ⌜ Bounded price (now (work .exit)) h × OnlyBounds (now (work .entry)) (now (work .exit)) ⌝ }
 {
     let n = h.funcs;
     let mut f = 0;
@@ -92,12 +91,10 @@ fn bound_funcs(
     }
 }
 
-// Works out what the sheet allows from the figures, and keeps it in the columns behind them. The task and everything past these columns are as they
-// were.
+// Works out what the sheet allows from the figures, and keeps it in the columns behind them. Nothing else changes, so neither the task nor the sheet.
 pub fn bound_task(work: &mut [u32], h: Header, price: Price)
-    requires { ⌜ Figured price (now work) h ⌝ }
-    ensures { λ r. ⌜ Bounded price (now (work .exit)) h × (taskOf (now (work .exit)) h ≡ taskOf (now (work .entry)) h)
-        × Kept boundsEnd (now (work .entry)) (now (work .exit)) ⌝ }
+    requires { ⌜ Readable price (now work) h ⌝ }
+    ensures { λ r. ⌜ Bounded price (now (work .exit)) h × OnlyBounds (now (work .entry)) (now (work .exit)) ⌝ }
 {
     let mut costs = [0u32; Limits::POINTS];
     let mut fills = [0u32; Limits::POINTS];

@@ -51,6 +51,13 @@ pub record Points (figure : ℕ → ℕ → ℕ) (a n : ℕ) (w : List ℕ) : Ty
 pub record Funcs (figure : ℕ → ℕ) (a m n : ℕ) (w : List ℕ) : Type 0 where
   pub each : (f : ℕ) → m ≤ f → f < n → item w (a + f) ≡ figure f
 
+-- the numbers of the column at a, for the points of the functions below n, are at most m; and those for the functions below n
+pub record PointsLow (m a n : ℕ) (w : List ℕ) : Type 0 where
+  pub each : (f p : ℕ) → f < n → p < sizeAt w f → item w (a + baseAt w f + p) ≤ m
+
+pub record FuncsLow (m a n : ℕ) (w : List ℕ) : Type 0 where
+  pub each : (f : ℕ) → f < n → item w (a + f) ≤ m
+
 -- w′ is w but for the n numbers from a on
 pub record Changed (a n : ℕ) (w w′ : List ℕ) : Type 0 where
   pub size : length w′ ≡ length w

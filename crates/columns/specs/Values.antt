@@ -17,9 +17,9 @@ use Rattle.columns.specs.declared.Value.{Value}
 use Rattle.columns.specs.declared.Value.the-variants.{Fill, Kept, Cut, High, Level, Chained}
 use Rattle.columns.specs.Columns.{highColumn, fillColumn, longestColumn, shortestColumn, levelColumn, Changed}
 
--- the most that a chain of calls can cost
+-- the most that a chain of calls can cost: callers have smaller numbers, so there are at most 63 of them
 abbrev pub mostChain : ℕ
-mostChain = mostPrice * mostFuncs
+mostChain = mostPrice * (mostFuncs - 1)
 
 -- the function that a point calls, and mostFuncs where it calls none
 abbrev pub numbered : Option ℕ → ℕ

@@ -16,9 +16,8 @@ use Rattle.model.specs.Limits.{mostFuncs, mostPoints, mostDearest}
 use Rattle.model.specs.Basic.{joined, smallerFirst, countFrom, upTo, sorted}
 use Rattle.model.specs.Text.{bytes}
 use Rattle.model.specs.Task.{Task, size, count, func}
-use Rattle.model.specs.Sheet.{Record, recordAt, recordsIn, recordsOf, row}
-use Rattle.model.specs.Dearest.{placedBefore, dearer, dearest, dearRow, dearestWith, dearestText}
-use Rattle.model.specs.WellFormed.{Shaped}
+use Rattle.model.specs.Sheet.{Sheet, Record, recordAt, recordsIn, recordsOf, row}
+use Rattle.model.specs.Dearest.{placedBefore, dearer, dearest, dearRow, dearestWith}
 use Rattle.theory.proofs.Lists.{same-test, mem-map, map-joined, joined-map, upTo-next, joined-next, length-upTo}
 use Rattle.theory.proofs.Between.{mem-getD}
 use Rattle.theory.proofs.Sorting.{first-holds, map-first}
@@ -27,15 +26,15 @@ use Rattle.tables.specs.declared.Header.{Header}
 use Rattle.tables.specs.Tables.{sizeAt, taskOf, sum}
 use Rattle.tables.proofs.Laws.{size-is, count-is, points-all}
 use Rattle.prices.specs.declared.Price.{Price}
-use Rattle.prices.specs.Prices.{priceOf, Small}
-use Rattle.figures.specs.Figured.{Figured, sheetAt}
-use Rattle.figures.proofs.Limits.{save-low, cost-low}
+use Rattle.readout.specs.Sheet.{sheetIn}
+use Rattle.readout.specs.Readable.{Readable}
+use Rattle.readout.proofs.Limits.{records-low}
 use Rattle.print.proofs.Laws.{none-length}
 use Rattle.print.proofs.Digits.{taken, digits-row}
 use Rattle.ranks.specs.Ranks.{higher, best}
 use Rattle.ranks.proofs.Laws.{best-append, best-zeros, length-best}
-use Rattle.dearest.specs.Ranking.{rankOf, rankAt, pointRanks, funcRanks, rankedFunc, rankedPoint, rankedCost, rankRow, lineAt}
-use Rattle.dearest.specs.Ranking.{saveEnd, costEnd, rankEnd, mostLine, Listing, listed}
+use Rattle.dearest.specs.Ranking.{rankOf, rankAt, pointRanks, funcRanks, ranksIn, rankedFunc, rankedPoint, rankedCost, rankRow, lineAt}
+use Rattle.dearest.specs.Ranking.{saveEnd, costEnd, rankEnd, mostLine, ListingIn, listed}
 
 -- ---- an order of digits
 
@@ -140,78 +139,84 @@ line-most r h =
 -- ---- the ranks of a task's points
 
 -- one point more, and one function more
-pub points-more : (price : Price) (t : Task) (f p : ℕ) → pointRanks price t f p ++ (rankAt price t f p ∷ []) ≡ pointRanks price t f (p + 1)
-points-more price t f p =
-    sym (ap (map (rankAt price t f)) (upTo-next p) ∙ map-append (rankAt price t f) (upTo p) (p ∷ []))
+pub points-more : (s : Sheet) (f p : ℕ) → pointRanks s f p ++ (rankAt s f p ∷ []) ≡ pointRanks s f (p + 1)
+points-more s f p = sym (ap (map (rankAt s f)) (upTo-next p) ∙ map-append (rankAt s f) (upTo p) (p ∷ []))
 
-pub funcs-more : (price : Price) (w : List ℕ) (h : Header) (f : ℕ) → f < h .funcs
-    → funcRanks price (taskOf w h) f ++ pointRanks price (taskOf w h) f (sizeAt w f) ≡ funcRanks price (taskOf w h) (f + 1)
-funcs-more price w h f l =
+pub funcs-more : (s : Sheet) (w : List ℕ) (h : Header) (f : ℕ) → f < h .funcs
+    → funcRanks (taskOf w h) s f ++ pointRanks s f (sizeAt w f) ≡ funcRanks (taskOf w h) s (f + 1)
+funcs-more s w h f l =
     let t = taskOf w h in
-    ap (λ (n : ℕ). funcRanks price t f ++ pointRanks price t f n) (sym (size-is w h f l))
-    ∙ sym (joined-next (λ f. pointRanks price t f (size (func t f))) f)
+    ap (λ (n : ℕ). funcRanks t s f ++ pointRanks s f n) (sym (size-is w h f l)) ∙ sym (joined-next (λ f. pointRanks s f (size (func t f))) f)
 
 -- taken in one after the other
 pub taken-more : (ranks r r′ : List ℕ) {l m q : List ℕ} → l ≡ best ranks r → m ≡ best l r′ → r ++ r′ ≡ q → m ≡ best ranks q
 taken-more ranks r r′ a b e = b ∙ ap (λ k. best k r′) a ∙ best-append ranks r r′ ∙ ap (best ranks) e
 
 -- they are those of the records of the report
-ranks-are : (price : Price) (t : Task) → map rankOf (recordsOf t (sheetAt price t)) ≡ funcRanks price t (count t)
+ranks-are : (t : Task) (s : Sheet) → map rankOf (recordsOf t s) ≡ funcRanks t s (count t)
 unfolding recordsOf recordsIn
-ranks-are price t =
-    map-joined rankOf (recordsIn t (sheetAt price t)) (upTo (count t))
-    ∙ ap (λ (g : ℕ → List ℕ). joined g (upTo (count t)))
-    (λ i f. map-map rankOf (recordAt (sheetAt price t) f) (upTo (size (func t f))) i)
+ranks-are t s =
+    map-joined rankOf (recordsIn t s) (upTo (count t))
+    ∙ ap (λ (g : ℕ → List ℕ). joined g (upTo (count t))) (λ i f. map-map rankOf (recordAt s f) (upTo (size (func t f))) i)
 
 -- as many as there are points
-ranks-count : (price : Price) (w : List ℕ) (h : Header) (n : ℕ) → n ≤ h .funcs → length (funcRanks price (taskOf w h) n) ≡ sum (sizeAt w) n
+ranks-count : (s : Sheet) (w : List ℕ) (h : Header) (n : ℕ) → n ≤ h .funcs → length (funcRanks (taskOf w h) s n) ≡ sum (sizeAt w) n
 unfolding sum
-ranks-count price w h zero l = none-length (λ f. pointRanks price (taskOf w h) f (size (func (taskOf w h) f)))
-ranks-count price w h (suc n) l =
+ranks-count s w h zero l = none-length (λ f. pointRanks s f (size (func (taskOf w h) f)))
+ranks-count s w h (suc n) l =
     let t = taskOf w h in
-    let r = pointRanks price t n (sizeAt w n) in
-    let e = ap length (ap (funcRanks price t) (sym (add-one n)) ∙ sym (funcs-more price w h n l)) in
+    let r = pointRanks s n (sizeAt w n) in
+    let e = ap length (ap (funcRanks t s) (sym (add-one n)) ∙ sym (funcs-more s w h n l)) in
     omega (
       arith,
       e,
-      length-append (funcRanks price t n) r,
-      length-map (upTo (sizeAt w n)) (rankAt price t n),
+      length-append (funcRanks t s n) r,
+      length-map (upTo (sizeAt w n)) (rankAt s n),
       length-upTo (sizeAt w n),
-      ranks-count price w h n (omega arith),
+      ranks-count s w h n (omega arith),
     )
 
 -- ---- the list
 
--- the record of a point of the task has room in a rank, and a cost of at most seven digits
-module _ {price : Price} {t : Task} (s : Shaped t) (small : Small price) where
-  record-fits : (x : Record) → List·Memᴰ x (recordsOf t (sheetAt price t)) → Fits x × (x .figures .cost < costEnd)
-  record-fits x m =
-      let r = record-is (sheetAt price t) t m in
-      let f = s .few in
-      let c = cost-low s price small (r .0) (r .1) (omega arith) in
-      let v = save-low s price small (r .0) (r .1) in
-      rw (r .4) (record { save = omega arith; fn = omega arith; at = omega (arith, s .small (r .0) (r .2)) }, omega arith)
+-- a record has room in a rank, and a cost of at most seven digits
+abbrev Ranked : Record → Type 0
+Ranked x = Fits x × (x .figures .cost < costEnd)
 
-  -- so do those that are listed
-  listed-fits : (x : Record) → List·Memᴰ x (dearest (recordsOf t (sheetAt price t))) → Fits x × (x .figures .cost < costEnd)
-  listed-fits x m = record-fits x (ten-dearest t (sheetAt price t) .part x m)
+-- so have the records of a sheet that is read
+records-ranked : {price : Price} {w : List ℕ} {h : Header} → Readable price w h → (x : Record) → List·Memᴰ x (recordsOf (taskOf w h) (sheetIn price w h)) → Ranked x
+records-ranked {price} {w} {h} k x m =
+    let t = k .settled .formed .shaped in
+    let r = record-is (sheetIn price w h) (taskOf w h) m in
+    let l = records-low k x m in (
+      record {
+        save = omega (arith, l .save);
+        fn = rw (r .4) (omega (arith, r .2, t .few));
+        at = rw (r .4) (omega (arith, r .3, t .small (r .0) (r .2)));
+      },
+      omega (arith, l .cost),
+    )
+
+module _ (t : Task) (s : Sheet) (ranked : (x : Record) → List·Memᴰ x (recordsOf t s) → Ranked x) where
+  -- and those that are listed
+  listed-ranked : (x : Record) → List·Memᴰ x (dearest (recordsOf t s)) → Ranked x
+  listed-ranked x m = ranked x (ten-dearest t s .part x m)
 
   -- the ranks of the listed points are the highest ones
-  highest-listed : take mostDearest (sorted higher (funcRanks price t (count t))) ≡ map rankOf (dearest (recordsOf t (sheetAt price t)))
+  highest-listed : take mostDearest (sorted higher (funcRanks t s (count t))) ≡ map rankOf (dearest (recordsOf t s))
   unfolding dearest
   highest-listed =
-      ap (λ r. take mostDearest (sorted higher r)) (sym (ranks-are price t))
-      ∙ sym (map-first rankOf dearer higher Fits rank-order mostDearest (recordsOf t (sheetAt price t)) (λ x m. record-fits x m .0))
+      ap (λ r. take mostDearest (sorted higher r)) (sym (ranks-are t s))
+      ∙ sym (map-first rankOf dearer higher Fits rank-order mostDearest (recordsOf t s) (λ x m. ranked x m .0))
 
   -- and their lines are the list
-  listed-lines : joined rankRow (map rankOf (dearest (recordsOf t (sheetAt price t)))) ≡ dearestText (priceOf price) t
+  listed-lines : joined rankRow (map rankOf (dearest (recordsOf t s))) ≡ dearestWith t s
   unfolding dearestWith
-  listed-lines = joined-map rankRow rankOf dearRow (dearest (recordsOf t (sheetAt price t))) (λ x m. rank-row x (listed-fits x m .0))
+  listed-lines = joined-map rankRow rankOf dearRow (dearest (recordsOf t s)) (λ x m. rank-row x (listed-ranked x m .0))
 
-  listed-low : (r : ℕ) → List·Memᴰ r (map rankOf (dearest (recordsOf t (sheetAt price t)))) → r < rankEnd
+  listed-low : (r : ℕ) → List·Memᴰ r (map rankOf (dearest (recordsOf t s))) → r < rankEnd
   listed-low r m =
-      let q = mem-map rankOf (dearest (recordsOf t (sheetAt price t))) m in
-      let k = listed-fits (q .0) (q .1) in
+      let q = mem-map rankOf (dearest (recordsOf t s)) m in
+      let k = listed-ranked (q .0) (q .1) in
       rw (q .2) (rank-low (q .0) (k .0) (k .1))
 
 -- the first n of a list by their numbers
@@ -226,27 +231,28 @@ first-numbers l (suc n) h =
     ∙ sym (take-suc l n 0 h)
 
 -- from no rank, the points of all functions have been taken in
-pub listing : {price : Price} {w : List ℕ} {h : Header} (ranks : List ℕ) (n : ℕ) → Figured price w h
-    → ranks ≡ best (replicate mostDearest 0) (funcRanks price (taskOf w h) (h .funcs)) → n ≡ listed h → Listing price (taskOf w h) n ranks
+pub listing : {price : Price} {w : List ℕ} {h : Header} (ranks : List ℕ) (n : ℕ) → Readable price w h
+    → ranks ≡ best (replicate mostDearest 0) (ranksIn price w h) → n ≡ listed h → ListingIn price w h n ranks
 listing {price} {w} {h} ranks n k e m =
     let t = taskOf w h in
-    let s = k .settled .formed .shaped in
-    let r = funcRanks price t (h .funcs) in
-    let size = ranks-count price w h (h .funcs) (omega arith) ∙ points-all (k .settled .holds .stacked) in
+    let s = sheetIn price w h in
+    let ranked = records-ranked k in
+    let r = ranksIn price w h in
+    let size = ranks-count s w h (h .funcs) (omega arith) ∙ points-all (k .settled .holds .stacked) in
     let long : length ranks ≡ mostDearest = ap length e ∙ length-best (replicate mostDearest 0) r refl in
     let c : n ≡ min mostDearest (length r) = omega (arith, m, size) in
-    let top : take n ranks ≡ map rankOf (dearest (recordsOf t (sheetAt price t))) =
-    (λ i. take (c i) (e i)) ∙ best-zeros r ∙ ap (λ (q : ℕ). take mostDearest (sorted higher (funcRanks price t q))) (sym (count-is w h))
-    ∙ highest-listed s (k .small) in
+    let top : take n ranks ≡ map rankOf (dearest (recordsOf t s)) =
+    (λ i. take (c i) (e i)) ∙ best-zeros r ∙ ap (λ (q : ℕ). take mostDearest (sorted higher (funcRanks t s q))) (sym (count-is w h))
+    ∙ highest-listed t s ranked in
     record {
       printable = record {
         few = omega arith;
         low = λ i l.
             let g = mem-getD (take n ranks) i 0 (omega (arith, length-take n ranks)) in
-            rw (← getD-take n ranks i 0 l) (listed-low s (k .small) (getD (take n ranks) i 0) (subst (λ q. List·Memᴰ (getD (take n ranks) i 0) q) top g));
+            rw (← getD-take n ranks i 0 l) (listed-low t s ranked (getD (take n ranks) i 0) (subst (λ q. List·Memᴰ (getD (take n ranks) i 0) q) top g));
       };
       text =
           sym (joined-map rankRow (λ i. getD ranks i 0) (lineAt ranks) (upTo n) (λ i l. refl))
           ∙ ap (joined rankRow) (first-numbers ranks n (omega arith) ∙ top)
-          ∙ listed-lines s (k .small);
+          ∙ listed-lines t s ranked;
     }

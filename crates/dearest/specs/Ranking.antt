@@ -7,13 +7,14 @@ use Rattle.model.specs.Limits.{mostFuncs, mostPoints, mostDearest}
 use Rattle.model.specs.Basic.{joined, upTo}
 use Rattle.model.specs.Text.{bytes}
 use Rattle.model.specs.Task.{Task, size, func}
-use Rattle.model.specs.Sheet.{Record, recordAt, row}
-use Rattle.model.specs.Dearest.{dearestText}
+use Rattle.model.specs.Sheet.{Sheet, Record, recordAt, row}
+use Rattle.model.specs.Dearest.{dearestWith}
 use Rattle.tables.specs.declared.Header.{Header}
+use Rattle.tables.specs.Tables.{taskOf}
 use Rattle.prices.specs.declared.Price.{Price}
-use Rattle.prices.specs.Prices.{priceOf}
-use Rattle.figures.specs.declared.PointFigures.{PointFigures}
-use Rattle.figures.specs.Figured.{figuredOf, sheetAt}
+use Rattle.readout.specs.declared.PointFigures.{PointFigures}
+use Rattle.readout.specs.Sheet.{sheetIn}
+use Rattle.readout.specs.Readable.{figuredOf}
 
 -- what is saved costs less than this: it is the price of one move, at most 16,575
 abbrev pub saveEnd : ℕ
@@ -28,15 +29,19 @@ rankOf x =
 abbrev pub rankWith : PointFigures → ℕ → ℕ → ℕ
 rankWith x f p = rankOf (record { fn = f; at = p; figures = figuredOf x })
 
--- of point p of function f of a task; of the first n points of function f; of all points of the first n functions
-abbrev pub rankAt : Price → Task → ℕ → ℕ → ℕ
-rankAt price t f p = rankOf (recordAt (sheetAt price t) f p)
+-- on a sheet, of point p of function f; of the first n points of function f; of all points of the first n functions of a task
+abbrev pub rankAt : Sheet → ℕ → ℕ → ℕ
+rankAt s f p = rankOf (recordAt s f p)
 
-abbrev pub pointRanks : Price → Task → ℕ → ℕ → List ℕ
-pointRanks price t f n = map (rankAt price t f) (upTo n)
+abbrev pub pointRanks : Sheet → ℕ → ℕ → List ℕ
+pointRanks s f n = map (rankAt s f) (upTo n)
 
-abbrev pub funcRanks : Price → Task → ℕ → List ℕ
-funcRanks price t n = joined (λ f. pointRanks price t f (size (func t f))) (upTo n)
+abbrev pub funcRanks : Task → Sheet → ℕ → List ℕ
+funcRanks t s n = joined (λ f. pointRanks s f (size (func t f))) (upTo n)
+
+-- of all points of the task and the sheet in the working space w
+abbrev pub ranksIn : Price → List ℕ → Header → List ℕ
+ranksIn price w h = funcRanks (taskOf w h) (sheetIn price w h) (h .funcs)
 
 -- what a rank says of its record
 abbrev pub rankedFunc : ℕ → ℕ
@@ -76,10 +81,17 @@ pub record Printable (n : ℕ) (ranks : List ℕ) : Type 0 where
   pub few : n ≤ mostDearest
   pub low : (i : ℕ) → i < n → getD ranks i 0 < rankEnd
 
--- the lines of the first n of these ranks are the list of the dearest points of a task
-pub record Listing (price : Price) (t : Task) (n : ℕ) (ranks : List ℕ) : Type 0 where
+-- the lines of the first n of these ranks are the list of the dearest points of a task on this sheet
+pub record Listing (t : Task) (s : Sheet) (n : ℕ) (ranks : List ℕ) : Type 0 where
   pub printable : Printable n ranks
-  pub text : listText ranks n ≡ dearestText (priceOf price) t
+  pub text : listText ranks n ≡ dearestWith t s
+
+-- that of the task and the sheet in the working space w
+abbrev pub listIn : Price → List ℕ → Header → List ℕ
+listIn price w h = dearestWith (taskOf w h) (sheetIn price w h)
+
+abbrev pub ListingIn : Price → List ℕ → Header → ℕ → List ℕ → Type 0
+ListingIn price w h n ranks = Listing (taskOf w h) (sheetIn price w h) n ranks
 
 -- how many points are listed of a task with this header
 abbrev pub listed : Header → ℕ

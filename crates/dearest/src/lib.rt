@@ -1,4 +1,4 @@
-// The ten dearest points of a task whose figures stand in the columns: found in one pass over the points, and printed, a line each. A point has a rank,
+// The ten dearest points of a task by the sheet in the columns: found in one pass over the points, and printed, a line each. A point has a rank,
 // one number that is higher where the point comes earlier in the list, so the pass compares numbers.
 ghost use mathlib.Core.Path.{_≡_};
 ghost use Prim.Native.Nat.{_+_, _<_, _≤_};
@@ -7,15 +7,15 @@ ghost use Rattle.model.specs.Limits.{mostFuncs, mostPoints, mostDearest};
 ghost use Rattle.model.specs.Text.{bytes};
 ghost use Rattle.model.specs.Sheet.{row};
 ghost use Rattle.model.specs.Services.{over};
-ghost use Rattle.tables.specs.Tables.{taskOf};
-ghost use Rattle.figures.specs.Figured.{Figured, InFunc};
+ghost use Rattle.readout.specs.Sheet.{sheetIn};
+ghost use Rattle.readout.specs.Readable.{Readable, InFunc};
 ghost use Rattle.ranks.specs.Ranks.{Falling, best};
 ghost use Rattle.print.specs.Print.{Wrote};
-ghost use Rattle.dearest.specs.Ranking.{saveEnd, rankWith, rankAt, pointRanks, funcRanks, rankRow, listText, rankEnd, mostLine, mostList};
-ghost use Rattle.dearest.specs.Ranking.{Printable, Listing, listed as listed·spec};
-use figures::PointFigures;
+ghost use Rattle.dearest.specs.Ranking.{saveEnd, rankWith, rankAt, pointRanks, ranksIn, rankRow, listText, rankEnd, mostLine, mostList};
+ghost use Rattle.dearest.specs.Ranking.{Printable, ListingIn, listed as listed·spec};
 use model::Limits;
 use prices::Price;
+use readout::PointFigures;
 use tables::Header;
 use tables::Span;
 
@@ -43,9 +43,9 @@ fn rank_with(x: PointFigures, f: usize, p: usize) -> u64
 // The rank of point p of function f, which is s.
 fn rank_at(work: &[u32], h: Header, price: Price, f: usize, s: Span, p: usize) -> u64
     requires { ⌜ InFunc price (now work) h f s × (p < s .size) ⌝ }
-    ensures { λ r. ⌜ r ≡ rankAt price (taskOf (now (work .entry)) h) f p ⌝ }
+    ensures { λ r. ⌜ r ≡ rankAt (sheetIn price (now (work .entry)) h) f p ⌝ }
 {
-    let x = figures::point_figures(work, h, price, f, s, p);
+    let x = readout::point_figures(work, h, price, f, s, p);
     rank_with(x, f, p)
 }
 
@@ -59,7 +59,7 @@ fn rank_points(
     s: Span,
 )
     requires { ⌜ InFunc price (now work) h f s × Falling (now ranks) × (length (now ranks) ≡ mostDearest) ⌝ }
-    ensures { λ r. ⌜ now (ranks .exit) ≡ best (now (ranks .entry)) (pointRanks price (taskOf (now (work .entry)) h) f (s .size)) ⌝ }
+    ensures { λ r. ⌜ now (ranks .exit) ≡ best (now (ranks .entry)) (pointRanks (sheetIn price (now (work .entry)) h) f (s .size)) ⌝ }
 {
     let size = s.size;
     let mut p: usize = 0;
@@ -72,8 +72,8 @@ fn rank_points(
 
 // Takes the points of all functions in.
 fn rank_funcs(ranks: &mut [u64; Limits::DEAREST], work: &[u32], h: Header, price: Price)
-    requires { ⌜ Figured price (now work) h × Falling (now ranks) × (length (now ranks) ≡ mostDearest) ⌝ }
-    ensures { λ r. ⌜ now (ranks .exit) ≡ best (now (ranks .entry)) (funcRanks price (taskOf (now (work .entry)) h) (h .funcs)) ⌝ }
+    requires { ⌜ Readable price (now work) h × Falling (now ranks) × (length (now ranks) ≡ mostDearest) ⌝ }
+    ensures { λ r. ⌜ now (ranks .exit) ≡ best (now (ranks .entry)) (ranksIn price (now (work .entry)) h) ⌝ }
 {
     let funcs = h.funcs;
     let mut f: usize = 0;
@@ -96,8 +96,8 @@ fn listed(h: Header) -> usize
 
 // Ranks the dearest points of the task that the tables hold, from the dearest on, and returns how many they are.
 pub fn rank_task(ranks: &mut [u64; Limits::DEAREST], work: &[u32], h: Header, price: Price) -> usize
-    requires { ⌜ Figured price (now work) h × (now ranks ≡ replicate mostDearest 0) ⌝ }
-    ensures { λ n. ⌜ Listing price (taskOf (now (work .entry)) h) n (now (ranks .exit)) ⌝ }
+    requires { ⌜ Readable price (now work) h × (now ranks ≡ replicate mostDearest 0) ⌝ }
+    ensures { λ n. ⌜ ListingIn price (now (work .entry)) h n (now (ranks .exit)) ⌝ }
 {
     rank_funcs(ranks, work, h, price);
     listed(h)

@@ -2,6 +2,5 @@ pub mod Callers
 pub mod Limits
 pub mod Gathers
 pub mod Points
+pub mod Filed
 pub mod Stages
-pub mod Read
-pub mod Same

@@ -27,6 +27,7 @@ use Rattle.figures.specs.Figured.{Figured}
 use Rattle.figures.specs.Steps.{figureOf, placeOf, columnOf, pointColumns, Figures, Gathered, chainFigure, ChainedTo, FiguredTo, Worked, Done}
 use Rattle.figures.specs.Steps.{OnlyPoints, Working, WorkingOn}
 use Rattle.figures.proofs.Limits.{chain-low}
+use Rattle.figures.proofs.Filed.{filed}
 use Rattle.columns.proofs.Within.{within-ready, within-task}
 use Rattle.figures.proofs.Gathers.{gathered-none, gathered-kept, gathered-more, chain-of, entry-of}
 use Rattle.figures.proofs.Points.{chained-is}
@@ -259,20 +260,8 @@ pub all-figured : (price : Price) {w w′ : List ℕ} {h : Header} → Ready w h
 all-figured price r c d =
     let x = d .worked in
     let s = x .stands in (
-      record {
-        settled = x .ready .settled;
-        room = x .ready .room;
-        small = d .small;
-        longest = s .away .longest;
-        shortest = s .away .shortest;
-        entry = record { each = λ g m n. entry-of (x .ready) (s .entry) g n (omega arith) (omega arith) };
-        chain = record { each = λ g m n. chain-of (x .ready) price (d .chained) g n (omega arith) (omega arith) };
-        high = s .below High;
-        dead = s .below Dead;
-        need = s .below Need;
-        next = s .below Next;
-        fill = s .below Fill;
-      },
+      filed price (x .ready) (d .small) (s .away) (record { each = λ g m n. entry-of (x .ready) (s .entry) g n (omega arith) (omega arith) })
+          (record { each = λ g m n. chain-of (x .ready) price (d .chained) g n (omega arith) (omega arith) }) (s .below),
       within-task c r,
       changed-past c,
     )

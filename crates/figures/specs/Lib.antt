@@ -1,4 +1,3 @@
--- Where the figures stand, what it means that they do, and what each function on the way is given and does.
-pub mod Columns
+-- What it means that the figures stand in the columns, and what each function on the way is given and does.
 pub mod Figured
 pub mod Steps

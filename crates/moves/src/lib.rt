@@ -4,12 +4,11 @@ ghost use Prim.Native.Nat.{ℕ, _+_, _≤_};
 ghost use lib.ListN.{length};
 ghost use Rattle.model.specs.declared.Point.the-variants.{Call, Ensure};
 ghost use Rattle.model.specs.Limits.{mostStack};
-ghost use Rattle.tables.specs.Tables.{taskOf};
 ghost use Rattle.machine.specs.Moves.{coreOf, OnCache, Good};
-ghost use Rattle.steps.specs.Steps.{Stays, Steps, Added, mostTotal};
-ghost use Rattle.moves.specs.Moves.{IsPreemption, Inside, Enters};
+ghost use Rattle.steps.specs.Steps.{Stays, Added, mostTotal};
+ghost use Rattle.moves.specs.Moves.{StepsIn, IsPreemption, Inside, Enters};
 use bounds::Bounds;
-use figures::Columns;
+use columns::Columns;
 use prices::Price;
 use steps::State;
 use steps::Turned;
@@ -35,7 +34,7 @@ pub fn call_step(
     g: u32,
 ) -> Turned
     requires { ⌜ Enters price (now work) h x (now cache) (now memory) g ⌝ }
-    ensures { λ r. ⌜ ((v : ℕ) → Steps price (taskOf (now (work .entry)) h) x (Call g) v (now (work .entry)) (now (cache .entry)) (now (memory .entry))
+    ensures { λ r. ⌜ ((v : ℕ) → StepsIn price (now (work .entry)) h x (Call g) v (now (cache .entry)) (now (memory .entry))
         r (now (work .exit)) (now (cache .entry)) (now (memory .exit))) × Stays (now (work .entry)) (now (work .exit)) ⌝ }
 {
     let f = steps::wide(g);
@@ -69,7 +68,7 @@ pub fn ensure_step(
 ) -> Turned
     requires { ⌜ Inside price (now work) h x s × OnCache (x .machine) (now cache) × Good (coreOf (x .machine) (now cache) (now memory))
         × (x .machine .st + k ≤ length (now memory)) × (k ≤ mostStack) ⌝ }
-    ensures { λ r. ⌜ ((v : ℕ) → Steps price (taskOf (now (work .entry)) h) x (Ensure k) v (now (work .entry)) (now (cache .entry)) (now (memory .entry))
+    ensures { λ r. ⌜ ((v : ℕ) → StepsIn price (now (work .entry)) h x (Ensure k) v (now (cache .entry)) (now (memory .entry))
         r (now (work .entry)) (now (cache .exit)) (now (memory .entry))) ⌝ }
 {
     let bound = columns::figure_at(work, Bounds::FILL, s, x.p);
@@ -100,7 +99,7 @@ pub fn preempt(
     v: u32,
 ) -> Turned
     requires { ⌜ Inside price (now work) h x s × OnCache (x .machine) (now cache) × Good (coreOf (x .machine) (now cache) (now memory)) ⌝ }
-    ensures { λ r. ⌜ IsPreemption price (taskOf (now (work .entry)) h) x v (now (work .entry)) (now (cache .entry)) (now (memory .entry))
+    ensures { λ r. ⌜ IsPreemption price (now (work .entry)) h x v (now (cache .entry)) (now (memory .entry))
         r (now (cache .exit)) (now (memory .exit)) ⌝ }
 {
     let dead = columns::figure_at(work, Columns::DEAD, s, x.p);

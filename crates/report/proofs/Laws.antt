@@ -8,8 +8,8 @@ use mathlib.Core.List.{List, [], _∷_, _++_, append-assoc}
 use lib.ListN.{length, length-append}
 use Rattle.model.specs.Basic.{joined, sumOf, countFrom, upTo}
 use Rattle.model.specs.Text.{bytes}
-use Rattle.model.specs.Task.{Task, count}
-use Rattle.model.specs.Sheet.{PointSheet, countsBlocks, row, recordAt, recordsIn, recordsOf, totalOf, totalRow, funcRow, pointRow, funcRows, reportWith, reportText}
+use Rattle.model.specs.Task.{count}
+use Rattle.model.specs.Sheet.{PointSheet, countsBlocks, row, recordAt, recordsIn, recordsOf, totalOf, totalRow, funcRow, pointRow, funcRows, reportWith}
 use Rattle.model.specs.Services.{over}
 use Rattle.theory.proofs.Lists.{joined-map, joined-next, sum-joined, sum-next, sum-room}
 use Rattle.theory.proofs.Total.{total-in}
@@ -18,13 +18,13 @@ use Rattle.tables.specs.declared.Span.{Span}
 use Rattle.tables.specs.Tables.{sizeAt, taskOf}
 use Rattle.tables.proofs.Laws.{size-is, count-is}
 use Rattle.prices.specs.declared.Price.{Price}
-use Rattle.prices.specs.Prices.{priceOf}
 use Rattle.print.specs.Print.{Wrote}
 use Rattle.print.proofs.Laws.{pasted-start, wrote-on, wrote-nothing, next-room}
-use Rattle.figures.specs.declared.FuncFigures.{FuncFigures}
-use Rattle.figures.specs.Figured.{InFunc, sheetAt, funcFigures}
+use Rattle.readout.specs.declared.FuncFigures.{FuncFigures}
+use Rattle.readout.specs.Sheet.{sheetIn}
+use Rattle.readout.specs.Readable.{InFunc, funcFigures}
 use Rattle.report.specs.declared.Lines.{Lines}
-use Rattle.report.specs.Report.{Part, both, firstParts, showsOnce, pointNumbers, pointLine, pointsPart, headPart, funcPart, funcsPart, footText, endsText}
+use Rattle.report.specs.Report.{Part, both, firstParts, showsOnce, pointNumbers, pointLine, pointsPart, headPart, funcPart, funcsPart, footText, reportIn, endsText}
 use Rattle.report.specs.Report.{Room, Counts, Adds}
 
 -- ---- parts that are counted or written one after the other
@@ -118,60 +118,60 @@ start-counts start each h = go (eqb start 0) refl
 pub each-counts : (start each : ℕ) → start ≡ 0 → eqb each 1 ≡ countsBlocks start each
 each-counts start each e = rw e refl
 
-pub func-row : (price : Price) (t : Task) (f : ℕ) (r : FuncFigures) → r ≡ funcFigures price t f
-    → row (bytes "  (func") (f ∷ r .frame ∷ r .shortest ∷ r .longest ∷ r .spill ∷ r .chain ∷ []) ≡ headPart price t f .text
+pub func-row : (price : Price) (w : List ℕ) (h : Header) (f : ℕ) (r : FuncFigures) → r ≡ funcFigures price w h f
+    → row (bytes "  (func") (f ∷ r .frame ∷ r .shortest ∷ r .longest ∷ r .spill ∷ r .chain ∷ []) ≡ headPart price w h f .text
 unfolding funcRow funcFigures
-func-row price t f r e = ap (λ (x : FuncFigures). row (bytes "  (func") (f ∷ x .frame ∷ x .shortest ∷ x .longest ∷ x .spill ∷ x .chain ∷ [])) e
+func-row price w h f r e = ap (λ (x : FuncFigures). row (bytes "  (func") (f ∷ x .frame ∷ x .shortest ∷ x .longest ∷ x .spill ∷ x .chain ∷ [])) e
 
 -- the lines of a function: the one that opens it, and those of its points
 module _ (price : Price) (w : List ℕ) (h : Header) (f : ℕ) (l : f < h .funcs) where
-  func-lines : funcPart price (taskOf w h) f .text ≡ headPart price (taskOf w h) f .text ++ pointsPart price (taskOf w h) f (sizeAt w f) .text
+  func-lines : funcPart price w h f .text ≡ headPart price w h f .text ++ pointsPart price w h f (sizeAt w f) .text
   unfolding funcRows recordsIn
   func-lines =
       let t = taskOf w h in
       ap
-      (λ (r : List ℕ). headPart price t f .text ++ r)
-      (joined-map (pointRow (showsOnce price)) (recordAt (sheetAt price t) f) _ _ (λ p m. refl) ∙ ap (λ (n : ℕ). pointsPart price t f n .text) (size-is w h f l))
+      (λ (r : List ℕ). headPart price w h f .text ++ r)
+      (joined-map (pointRow (showsOnce price)) (recordAt (sheetIn price w h) f) _ _ (λ p m. refl) ∙ ap (λ (n : ℕ). pointsPart price w h f n .text) (size-is w h f l))
 
-  func-cost : funcPart price (taskOf w h) f .cost ≡ 0 + pointsPart price (taskOf w h) f (sizeAt w f) .cost
+  func-cost : funcPart price w h f .cost ≡ 0 + pointsPart price w h f (sizeAt w f) .cost
   func-cost =
       let t = taskOf w h in
-      omega (arith, total-in t (sheetAt price t) f, ap (λ (n : ℕ). pointsPart price t f n .cost) (size-is w h f l))
+      omega (arith, total-in t (sheetIn price w h) f, ap (λ (n : ℕ). pointsPart price w h f n .cost) (size-is w h f l))
 
-  pub func-parts : funcPart price (taskOf w h) f ≡ both (headPart price (taskOf w h) f) (pointsPart price (taskOf w h) f (sizeAt w f))
+  pub func-parts : funcPart price w h f ≡ both (headPart price w h f) (pointsPart price w h f (sizeAt w f))
   func-parts = λ i. record { text = func-lines i; cost = func-cost i }
 
 -- the same of a function that has been read
 pub opened-func : {price : Price} {w : List ℕ} {h : Header} {f : ℕ} {s : Span} → InFunc price w h f s
-    → funcPart price (taskOf w h) f ≡ both (headPart price (taskOf w h) f) (pointsPart price (taskOf w h) f (s .size))
+    → funcPart price w h f ≡ both (headPart price w h f) (pointsPart price w h f (s .size))
 opened-func {price} {w} {h} {f} k =
-    func-parts price w h f (k .low) ∙ sym (ap (λ (s : Span). both (headPart price (taskOf w h) f) (pointsPart price (taskOf w h) f (s .size))) (k .span))
+    func-parts price w h f (k .low) ∙ sym (ap (λ (s : Span). both (headPart price w h f) (pointsPart price w h f (s .size))) (k .span))
 
 -- the costs of all functions are the total
 module _ (price : Price) (w : List ℕ) (h : Header) where
-  pub total-all : funcsPart price (taskOf w h) (h .funcs) .cost ≡ totalOf (recordsOf (taskOf w h) (sheetAt price (taskOf w h)))
+  pub total-all : funcsPart price w h (h .funcs) .cost ≡ totalOf (recordsOf (taskOf w h) (sheetIn price w h))
   unfolding totalOf recordsOf
   total-all =
       let t = taskOf w h in
-      ap (λ (n : ℕ). funcsPart price t n .cost) (sym (count-is w h)) ∙ sym (sum-joined (λ x. x .figures .cost) (recordsIn t (sheetAt price t)) (upTo (count t)))
+      ap (λ (n : ℕ). funcsPart price w h n .cost) (sym (count-is w h)) ∙ sym (sum-joined (λ x. x .figures .cost) (recordsIn t (sheetIn price w h)) (upTo (count t)))
 
   -- the report: its first line, those of the functions, the foot line, and its last
-  report-lines : reportText (showsOnce price) (priceOf price) (taskOf w h)
-      ≡ bytes "(report\n" ++ funcsPart price (taskOf w h) (h .funcs) .text ++ footText price (taskOf w h) ++ bytes ")\n"
+  report-lines : reportIn price w h
+      ≡ bytes "(report\n" ++ funcsPart price w h (h .funcs) .text ++ footText price w h ++ bytes ")\n"
   unfolding reportWith
   report-lines =
       let t = taskOf w h in
-      let foot = footText price t in
-      let funcs = funcsPart price t (h .funcs) .text in
-      ap (λ (n : ℕ). bytes "(report\n" ++ (funcsPart price t n .text ++ (foot ++ bytes ")\n"))) (count-is w h)
+      let foot = footText price w h in
+      let funcs = funcsPart price w h (h .funcs) .text in
+      ap (λ (n : ℕ). bytes "(report\n" ++ (funcsPart price w h n .text ++ (foot ++ bytes ")\n"))) (count-is w h)
       ∙ sym (append-assoc (bytes "(report\n") funcs (foot ++ bytes ")\n"))
       ∙ sym (append-assoc (bytes "(report\n" ++ funcs) foot (bytes ")\n"))
 
-  pub report-size : length (reportText (showsOnce price) (priceOf price) (taskOf w h))
-      ≡ endsText + length (funcsPart price (taskOf w h) (h .funcs) .text) + length (footText price (taskOf w h))
+  pub report-size : length (reportIn price w h)
+      ≡ endsText + length (funcsPart price w h (h .funcs) .text) + length (footText price w h)
   report-size =
-      let l = funcsPart price (taskOf w h) (h .funcs) .text in
-      let foot = footText price (taskOf w h) in
+      let l = funcsPart price w h (h .funcs) .text in
+      let foot = footText price w h in
       omega (
         arith,
         ap length report-lines,
@@ -181,15 +181,15 @@ module _ (price : Price) (w : List ℕ) (h : Header) where
       )
 
   -- the foot line, by the sum of the costs of all functions
-  pub foot-row : (n : ℕ) → n ≡ 0 + funcsPart price (taskOf w h) (h .funcs) .cost → row (bytes "  (total") (n ∷ []) ≡ footText price (taskOf w h)
+  pub foot-row : (n : ℕ) → n ≡ 0 + funcsPart price w h (h .funcs) .cost → row (bytes "  (total") (n ∷ []) ≡ footText price w h
   unfolding totalRow
   foot-row n e = ap (λ (m : ℕ). row (bytes "  (total") (m ∷ [])) (omega (arith, e, total-all))
 
   -- the report, written line after line
   pub report-wrote : {e r y z : ℕ} {out o o′ o″ o‴ : List ℕ} → Wrote 0 (bytes "(report\n") out e o
-      → Wrote e (funcsPart price (taskOf w h) (h .funcs) .text) o r o′ → Wrote r (footText price (taskOf w h)) o′ y o″ → Wrote y (bytes ")\n") o″ z o‴
-      → (z ≡ length (reportText (showsOnce price) (priceOf price) (taskOf w h))) × (o‴ ≡ over (reportText (showsOnce price) (priceOf price) (taskOf w h)) out)
+      → Wrote e (funcsPart price w h (h .funcs) .text) o r o′ → Wrote r (footText price w h) o′ y o″ → Wrote y (bytes ")\n") o″ z o‴
+      → (z ≡ length (reportIn price w h)) × (o‴ ≡ over (reportIn price w h) out)
   report-wrote {z = z} {out = out} {o‴ = o‴} a b c d =
-      let l = reportText (showsOnce price) (priceOf price) (taskOf w h) in
+      let l = reportIn price w h in
       let x : Wrote 0 l out z o‴ = rw report-lines (wrote-on zero-le (wrote-on zero-le (wrote-on zero-le a b) c) d) in
       (omega (arith, x .end), x .buffer ∙ pasted-start l out)

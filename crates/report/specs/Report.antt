@@ -6,13 +6,13 @@ use mathlib.Core.List.{List, _∷_, _++_}
 use lib.ListN.{length}
 use Rattle.model.specs.Limits.{mostFuncs, mostInAll}
 use Rattle.model.specs.Basic.{joined, sumOf, upTo}
-use Rattle.model.specs.Task.{Task}
 use Rattle.model.specs.Text.{bytes}
-use Rattle.model.specs.Sheet.{PointSheet, countsBlocks, onceField, recordAt, recordsIn, recordsOf, totalOf, row, funcRow, pointRow, totalRow, funcRows}
+use Rattle.model.specs.Sheet.{PointSheet, countsBlocks, onceField, recordAt, recordsIn, recordsOf, totalOf, row, funcRow, pointRow, totalRow, funcRows, reportWith}
 use Rattle.tables.specs.declared.Header.{Header}
 use Rattle.prices.specs.declared.Price.{Price}
 use Rattle.prices.specs.Prices.{mostPrice}
-use Rattle.figures.specs.Figured.{sheetAt}
+use Rattle.tables.specs.Tables.{taskOf}
+use Rattle.readout.specs.Sheet.{sheetIn}
 use Rattle.print.specs.Print.{Wrote}
 use Rattle.report.specs.declared.Lines.{Lines}
 
@@ -36,7 +36,7 @@ pub record Sums (x : PointSheet) : Type 0 where
 abbrev pub pointLine : Price → ℕ → PointSheet → List ℕ
 pointLine price p x = row (bytes "  (at") (pointNumbers (showsOnce price) p x)
 
--- ---- the parts of a report
+-- ---- the parts of the report, of the task and the sheet in the working space w
 
 -- lines of the report, and the sum of the costs that they show
 pub record Part : Type 0 where
@@ -51,25 +51,29 @@ abbrev pub firstParts : (ℕ → Part) → ℕ → Part
 firstParts part n = record { text = joined (λ i. part i .text) (upTo n); cost = sumOf (λ i. part i .cost) (upTo n) }
 
 -- the line of point p of function f, and those of its first n points
-abbrev pub pointPart : Price → Task → ℕ → ℕ → Part
-pointPart price t f p = record { text = pointRow (showsOnce price) (recordAt (sheetAt price t) f p); cost = sheetAt price t .at f p .cost }
+abbrev pub pointPart : Price → List ℕ → Header → ℕ → ℕ → Part
+pointPart price w h f p = record { text = pointRow (showsOnce price) (recordAt (sheetIn price w h) f p); cost = sheetIn price w h .at f p .cost }
 
-abbrev pub pointsPart : Price → Task → ℕ → ℕ → Part
-pointsPart price t f n = firstParts (pointPart price t f) n
+abbrev pub pointsPart : Price → List ℕ → Header → ℕ → ℕ → Part
+pointsPart price w h f n = firstParts (pointPart price w h f) n
 
 -- the line that opens function f, all its lines, and those of the first n functions
-abbrev pub headPart : Price → Task → ℕ → Part
-headPart price t f = record { text = funcRow t (sheetAt price t) f; cost = 0 }
+abbrev pub headPart : Price → List ℕ → Header → ℕ → Part
+headPart price w h f = record { text = funcRow (taskOf w h) (sheetIn price w h) f; cost = 0 }
 
-abbrev pub funcPart : Price → Task → ℕ → Part
-funcPart price t f = record { text = funcRows (showsOnce price) t (sheetAt price t) f; cost = totalOf (recordsIn t (sheetAt price t) f) }
+abbrev pub funcPart : Price → List ℕ → Header → ℕ → Part
+funcPart price w h f = record { text = funcRows (showsOnce price) (taskOf w h) (sheetIn price w h) f; cost = totalOf (recordsIn (taskOf w h) (sheetIn price w h) f) }
 
-abbrev pub funcsPart : Price → Task → ℕ → Part
-funcsPart price t n = firstParts (funcPart price t) n
+abbrev pub funcsPart : Price → List ℕ → Header → ℕ → Part
+funcsPart price w h n = firstParts (funcPart price w h) n
 
 -- the foot line
-abbrev pub footText : Price → Task → List ℕ
-footText price t = totalRow (recordsOf t (sheetAt price t))
+abbrev pub footText : Price → List ℕ → Header → List ℕ
+footText price w h = totalRow (recordsOf (taskOf w h) (sheetIn price w h))
+
+-- the whole report
+abbrev pub reportIn : Price → List ℕ → Header → List ℕ
+reportIn price w h = reportWith (showsOnce price) (taskOf w h) (sheetIn price w h)
 
 -- ---- lines that are counted or written after those so far
 

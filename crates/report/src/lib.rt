@@ -1,4 +1,4 @@
-// The report of a task whose figures stand in the columns: how long it is, and its bytes in a lent buffer. The costs are summed while their lines are
+// The report of a task by the sheet in the columns: how long it is, and its bytes in a lent buffer. The costs are summed while their lines are
 // counted or written, because the foot line shows the sum.
 ghost use mathlib.Core.Path.{_≡_};
 ghost use Prim.Native.Nat.{_+_, _<_, _≤_};
@@ -6,16 +6,14 @@ ghost use lib.ListN.{length};
 ghost use Rattle.model.specs.Limits.{mostFuncs, mostPoints, mostInAll};
 ghost use Rattle.model.specs.Text.{bytes};
 ghost use mathlib.Core.Bool.{true, false};
-ghost use Rattle.model.specs.Sheet.{row, onceOf, reportText};
+ghost use Rattle.model.specs.Sheet.{row, onceOf};
 ghost use Rattle.model.specs.Services.{over};
-ghost use Rattle.tables.specs.Tables.{taskOf};
-ghost use Rattle.prices.specs.Prices.{priceOf};
-ghost use Rattle.figures.specs.Figured.{Figured, InFunc, figuredOf};
+ghost use Rattle.readout.specs.Readable.{Readable, InFunc, figuredOf};
 ghost use Rattle.print.specs.Print.{Wrote};
-ghost use Rattle.report.specs.Report.{showsOnce, pointNumbers, pointLine, Sums, pointPart, pointsPart, headPart, funcPart, funcsPart};
+ghost use Rattle.report.specs.Report.{showsOnce, pointNumbers, pointLine, Sums, pointPart, pointsPart, headPart, funcPart, funcsPart, reportIn};
 ghost use Rattle.report.specs.Report.{mostTotal, mostLength, mostReport, Room, Counts, Adds};
-use figures::PointFigures;
 use prices::Price;
+use readout::PointFigures;
 use tables::Header;
 use tables::Span;
 
@@ -143,10 +141,10 @@ fn count_point(
     s: Span,
     p: usize,
 ) -> Lines
-    requires { ⌜ InFunc price (now work) h f s × (p < s .size) × Room lines (pointPart price (taskOf (now work) h) f p) mostReport ⌝ }
-    ensures { λ r. ⌜ Counts lines (pointPart price (taskOf (now (work .entry)) h) f p) r ⌝ }
+    requires { ⌜ InFunc price (now work) h f s × (p < s .size) × Room lines (pointPart price (now work) h f p) mostReport ⌝ }
+    ensures { λ r. ⌜ Counts lines (pointPart price (now (work .entry)) h f p) r ⌝ }
 {
-    let x = figures::point_figures(work, h, price, f, s, p);
+    let x = readout::point_figures(work, h, price, f, s, p);
     let length = line_length(price, p, x);
     and_line(lines, lines.end + length, x.cost)
 }
@@ -162,10 +160,10 @@ fn put_point(
     s: Span,
     p: usize,
 ) -> Lines
-    requires { ⌜ InFunc price (now work) h f s × (p < s .size) × Room lines (pointPart price (taskOf (now work) h) f p) (length (now out)) ⌝ }
-    ensures { λ r. ⌜ Adds lines (pointPart price (taskOf (now (work .entry)) h) f p) (now (out .entry)) r (now (out .exit)) ⌝ }
+    requires { ⌜ InFunc price (now work) h f s × (p < s .size) × Room lines (pointPart price (now work) h f p) (length (now out)) ⌝ }
+    ensures { λ r. ⌜ Adds lines (pointPart price (now (work .entry)) h f p) (now (out .entry)) r (now (out .exit)) ⌝ }
 {
-    let x = figures::point_figures(work, h, price, f, s, p);
+    let x = readout::point_figures(work, h, price, f, s, p);
     let end = put_line(out, lines.end, price, p, x);
     and_line(lines, end, x.cost)
 }
@@ -174,8 +172,8 @@ fn put_point(
 
 // Counts the lines of the points of function f, which is s.
 fn count_points(lines: Lines, work: &[u32], h: Header, price: Price, f: usize, s: Span) -> Lines
-    requires { ⌜ InFunc price (now work) h f s × Room lines (pointsPart price (taskOf (now work) h) f (s .size)) mostReport ⌝ }
-    ensures { λ r. ⌜ Counts lines (pointsPart price (taskOf (now (work .entry)) h) f (s .size)) r ⌝ }
+    requires { ⌜ InFunc price (now work) h f s × Room lines (pointsPart price (now work) h f (s .size)) mostReport ⌝ }
+    ensures { λ r. ⌜ Counts lines (pointsPart price (now (work .entry)) h f (s .size)) r ⌝ }
 {
     let size = s.size;
     let mut so_far = lines;
@@ -197,8 +195,8 @@ fn put_points(
     f: usize,
     s: Span,
 ) -> Lines
-    requires { ⌜ InFunc price (now work) h f s × Room lines (pointsPart price (taskOf (now work) h) f (s .size)) (length (now out)) ⌝ }
-    ensures { λ r. ⌜ Adds lines (pointsPart price (taskOf (now (work .entry)) h) f (s .size)) (now (out .entry)) r (now (out .exit)) ⌝ }
+    requires { ⌜ InFunc price (now work) h f s × Room lines (pointsPart price (now work) h f (s .size)) (length (now out)) ⌝ }
+    ensures { λ r. ⌜ Adds lines (pointsPart price (now (work .entry)) h f (s .size)) (now (out .entry)) r (now (out .exit)) ⌝ }
 {
     let size = s.size;
     let mut so_far = lines;
@@ -212,17 +210,17 @@ fn put_points(
 
 // The numbers of the line that opens function f.
 fn func_numbers(work: &[u32], h: Header, price: Price, f: usize) -> [u32; 6]
-    requires { ⌜ Figured price (now work) h × (f < h .funcs) ⌝ }
-    ensures { λ r. ⌜ (row (bytes "  (func") r ≡ headPart price (taskOf (now (work .entry)) h) f .text) × (length r ≡ 6) ⌝ }
+    requires { ⌜ Readable price (now work) h × (f < h .funcs) ⌝ }
+    ensures { λ r. ⌜ (row (bytes "  (func") r ≡ headPart price (now (work .entry)) h f .text) × (length r ≡ 6) ⌝ }
 {
-    let x = figures::func_figures(work, h, price, f);
+    let x = readout::func_figures(work, h, price, f);
     [f as u32, x.frame, x.shortest, x.longest, x.spill, x.chain]
 }
 
 // Counts the lines of function f. The one that opens it shows no cost.
 fn count_func(lines: Lines, work: &[u32], h: Header, price: Price, f: usize) -> Lines
-    requires { ⌜ Figured price (now work) h × (f < h .funcs) × Room lines (funcPart price (taskOf (now work) h) f) mostReport ⌝ }
-    ensures { λ r. ⌜ Counts lines (funcPart price (taskOf (now (work .entry)) h) f) r ⌝ }
+    requires { ⌜ Readable price (now work) h × (f < h .funcs) × Room lines (funcPart price (now work) h f) mostReport ⌝ }
+    ensures { λ r. ⌜ Counts lines (funcPart price (now (work .entry)) h f) r ⌝ }
 {
     let s = tables::span_at(work, f);
     let length = print::row_length(b"  (func", &func_numbers(work, h, price, f));
@@ -232,8 +230,8 @@ fn count_func(lines: Lines, work: &[u32], h: Header, price: Price, f: usize) -> 
 
 // Writes them.
 fn put_func(out: &mut [u8], lines: Lines, work: &[u32], h: Header, price: Price, f: usize) -> Lines
-    requires { ⌜ Figured price (now work) h × (f < h .funcs) × Room lines (funcPart price (taskOf (now work) h) f) (length (now out)) ⌝ }
-    ensures { λ r. ⌜ Adds lines (funcPart price (taskOf (now (work .entry)) h) f) (now (out .entry)) r (now (out .exit)) ⌝ }
+    requires { ⌜ Readable price (now work) h × (f < h .funcs) × Room lines (funcPart price (now work) h f) (length (now out)) ⌝ }
+    ensures { λ r. ⌜ Adds lines (funcPart price (now (work .entry)) h f) (now (out .entry)) r (now (out .exit)) ⌝ }
 {
     let s = tables::span_at(work, f);
     let end = print::put_row(out, lines.end, b"  (func", &func_numbers(work, h, price, f));
@@ -245,8 +243,8 @@ fn put_func(out: &mut [u8], lines: Lines, work: &[u32], h: Header, price: Price,
 
 // Counts the lines of all functions.
 fn count_funcs(lines: Lines, work: &[u32], h: Header, price: Price) -> Lines
-    requires { ⌜ Figured price (now work) h × Room lines (funcsPart price (taskOf (now work) h) (h .funcs)) mostReport ⌝ }
-    ensures { λ r. ⌜ Counts lines (funcsPart price (taskOf (now (work .entry)) h) (h .funcs)) r ⌝ }
+    requires { ⌜ Readable price (now work) h × Room lines (funcsPart price (now work) h (h .funcs)) mostReport ⌝ }
+    ensures { λ r. ⌜ Counts lines (funcsPart price (now (work .entry)) h (h .funcs)) r ⌝ }
 {
     let funcs = h.funcs;
     let mut so_far = lines;
@@ -260,8 +258,8 @@ fn count_funcs(lines: Lines, work: &[u32], h: Header, price: Price) -> Lines
 
 // Writes them.
 fn put_funcs(out: &mut [u8], lines: Lines, work: &[u32], h: Header, price: Price) -> Lines
-    requires { ⌜ Figured price (now work) h × Room lines (funcsPart price (taskOf (now work) h) (h .funcs)) (length (now out)) ⌝ }
-    ensures { λ r. ⌜ Adds lines (funcsPart price (taskOf (now (work .entry)) h) (h .funcs)) (now (out .entry)) r (now (out .exit)) ⌝ }
+    requires { ⌜ Readable price (now work) h × Room lines (funcsPart price (now work) h (h .funcs)) (length (now out)) ⌝ }
+    ensures { λ r. ⌜ Adds lines (funcsPart price (now (work .entry)) h (h .funcs)) (now (out .entry)) r (now (out .exit)) ⌝ }
 {
     let funcs = h.funcs;
     let mut so_far = lines;
@@ -283,8 +281,8 @@ pub fn most_length(h: Header) -> usize
 
 // How many bytes the report has.
 pub fn report_length(work: &[u32], h: Header, price: Price) -> usize
-    requires { ⌜ Figured price (now work) h ⌝ }
-    ensures { λ r. ⌜ (r ≡ length (reportText (showsOnce price) (priceOf price) (taskOf (now (work .entry)) h))) × (r ≤ mostReport) ⌝ }
+    requires { ⌜ Readable price (now work) h ⌝ }
+    ensures { λ r. ⌜ (r ≡ length (reportIn price (now (work .entry)) h)) × (r ≤ mostReport) ⌝ }
 {
     let opened = Lines {
         end: b"(report\n".len(),
@@ -297,9 +295,9 @@ pub fn report_length(work: &[u32], h: Header, price: Price) -> usize
 
 // Writes the report over the first bytes of the output, and returns how many they are.
 pub fn put_report(output: &mut [u8], work: &[u32], h: Header, price: Price) -> usize
-    requires { ⌜ Figured price (now work) h × (length (reportText (showsOnce price) (priceOf price) (taskOf (now work) h)) ≤ length (now output)) ⌝ }
-    ensures { λ r. ⌜ (r ≡ length (reportText (showsOnce price) (priceOf price) (taskOf (now (work .entry)) h)))
-        × (now (output .exit) ≡ over (reportText (showsOnce price) (priceOf price) (taskOf (now (work .entry)) h)) (now (output .entry))) ⌝ }
+    requires { ⌜ Readable price (now work) h × (length (reportIn price (now work) h) ≤ length (now output)) ⌝ }
+    ensures { λ r. ⌜ (r ≡ length (reportIn price (now (work .entry)) h))
+        × (now (output .exit) ≡ over (reportIn price (now (work .entry)) h) (now (output .entry))) ⌝ }
 {
     let first = print::put(output, 0, b"(report\n");
     let opened = Lines {

@@ -47,21 +47,21 @@ pub record Ended (whole : Ran) (all : ℕ) (buffer : List ℕ) (z : Ending) (i m
   pub written : answers ≡ over (whole .answers) buffer
   pub core : c ≡ whole .core
 
-module _ (t : Task) (s : Sheet) where
+module _ (t : Task) (sheet : Sheet) where
   -- after i events the run stands at x, and the plain stack has the frames fs; es: the events left. buffer: the answers as they were lent
   pub record Going (whole : Ran) (all : ℕ) (buffer : List ℕ) (i : ℕ) (x : State) (fs : List Frame) (es : List Event) (m a : ℕ) (answers : List ℕ) : Type 0 where
-    pub ending : whole .ending ≡ ranFrom t s i x es .ending
-    pub core : whole .core ≡ ranFrom t s i x es .core
-    pub done : whole .done ≡ i + ranFrom t s i x es .done
-    pub moved : whole .moved ≡ m + ranFrom t s i x es .moved
-    pub allowed : all ≡ a + allowedFrom t s i fs es
-    pub said : whole .answers ≡ take i answers ++ ranFrom t s i x es .answers
+    pub ending : whole .ending ≡ ranFrom t sheet i x es .ending
+    pub core : whole .core ≡ ranFrom t sheet i x es .core
+    pub done : whole .done ≡ i + ranFrom t sheet i x es .done
+    pub moved : whole .moved ≡ m + ranFrom t sheet i x es .moved
+    pub allowed : all ≡ a + allowedFrom t sheet i fs es
+    pub said : whole .answers ≡ take i answers ++ ranFrom t sheet i x es .answers
     pub behind : drop i answers ≡ drop i buffer
     pub size : length answers ≡ length buffer
 
   -- nothing is done yet
   pub going-start : (buffer : List ℕ) (x : State) (fs : List Frame) (es : List Event)
-      → Going (ranFrom t s 0 x es) (allowedFrom t s 0 fs es) buffer 0 x fs es 0 0 buffer
+      → Going (ranFrom t sheet 0 x es) (allowedFrom t sheet 0 fs es) buffer 0 x fs es 0 0 buffer
   going-start buffer x fs es = record {
     ending = refl;
     core = refl;
@@ -75,7 +75,7 @@ module _ (t : Task) (s : Sheet) where
 
   module _ (whole : Ran) (all : ℕ) (buffer : List ℕ) (i : ℕ) (x : State) (fs : List Frame) (m a : ℕ) (answers : List ℕ) where
     -- nothing is left to do
-    over-here : i ≤ length buffer → (es : List Event) (z : Ending) → ranFrom t s i x es ≡ endedAt z (x .core) → allowedFrom t s i fs es ≡ 0
+    over-here : i ≤ length buffer → (es : List Event) (z : Ending) → ranFrom t sheet i x es ≡ endedAt z (x .core) → allowedFrom t sheet i fs es ≡ 0
         → Going whole all buffer i x fs es m a answers → Ended whole all buffer z i m a answers (x .core)
     unfolding over
     over-here h es z e b g =
@@ -103,25 +103,25 @@ module _ (t : Task) (s : Sheet) where
 
       module _ (n : eventRows i (e .kind) (e .value) (runningPlace t (x .frames)) ≡ none) (h : i < length buffer)
           (g : Going whole all buffer i x fs (e ∷ es) m a answers) where
-        ran-on : ranFrom t s i x (e ∷ es) ≡ record {
-          ending = ranFrom t s (i + 1) (turn t s x (act e) .state) es .ending;
-          done = suc (ranFrom t s (i + 1) (turn t s x (act e) .state) es .done);
-          moved = s .price (turn t s x (act e) .out) + s .price (turn t s x (act e) .back)
-              + ranFrom t s (i + 1) (turn t s x (act e) .state) es .moved;
-          answers = turn t s x (act e) .answer ∷ ranFrom t s (i + 1) (turn t s x (act e) .state) es .answers;
-          core = ranFrom t s (i + 1) (turn t s x (act e) .state) es .core;
+        ran-on : ranFrom t sheet i x (e ∷ es) ≡ record {
+          ending = ranFrom t sheet (i + 1) (turn t sheet x (act e) .state) es .ending;
+          done = suc (ranFrom t sheet (i + 1) (turn t sheet x (act e) .state) es .done);
+          moved = sheet .price (turn t sheet x (act e) .out) + sheet .price (turn t sheet x (act e) .back)
+              + ranFrom t sheet (i + 1) (turn t sheet x (act e) .state) es .moved;
+          answers = turn t sheet x (act e) .answer ∷ ranFrom t sheet (i + 1) (turn t sheet x (act e) .state) es .answers;
+          core = ranFrom t sheet (i + 1) (turn t sheet x (act e) .state) es .core;
         }
         unfolding ranFrom
         ran-on = rw (add-one i, n)
 
-        allowed-on : allowedFrom t s i fs (e ∷ es) ≡ eventBound t s fs (act e) + allowedFrom t s (i + 1) (afterEvent t fs (act e)) es
+        allowed-on : allowedFrom t sheet i fs (e ∷ es) ≡ eventBound t sheet fs (act e) + allowedFrom t sheet (i + 1) (afterEvent t fs (act e)) es
         unfolding allowedFrom
         allowed-on = rw (add-one i, ← same, n)
 
-        turn-on : Going whole all buffer (i + 1) (turn t s x (act e) .state) (afterEvent t fs (act e)) es
-            (m + (s .price (turn t s x (act e) .out) + s .price (turn t s x (act e) .back)))
-            (a + eventBound t s fs (act e))
-            (set answers i (turn t s x (act e) .answer))
+        turn-on : Going whole all buffer (i + 1) (turn t sheet x (act e) .state) (afterEvent t fs (act e)) es
+            (m + (sheet .price (turn t sheet x (act e) .out) + sheet .price (turn t sheet x (act e) .back)))
+            (a + eventBound t sheet fs (act e))
+            (set answers i (turn t sheet x (act e) .answer))
         turn-on = record {
           ending = g .ending ∙ ap (λ (r : Ran). r .ending) ran-on;
           core = g .core ∙ ap (λ (r : Ran). r .core) ran-on;
@@ -131,15 +131,15 @@ module _ (t : Task) (s : Sheet) where
           said =
               g .said
               ∙ ap (λ (r : Ran). take i answers ++ r .answers) ran-on
-              ∙ rw (add-one i, take-suc-set answers i (turn t s x (act e) .answer) (omega (arith, g .size))) (simp append-assoc);
-          behind = rw (drop-set-lt (i + 1) answers i (turn t s x (act e) .answer) (omega arith))
+              ∙ rw (add-one i, take-suc-set answers i (turn t sheet x (act e) .answer) (omega (arith, g .size))) (simp append-assoc);
+          behind = rw (drop-set-lt (i + 1) answers i (turn t sheet x (act e) .answer) (omega arith))
               (sym (drop-drop 1 i answers) ∙ ap (λ (l : List ℕ). drop 1 l) (g .behind) ∙ drop-drop 1 i buffer);
           size = simp length-set (g .size);
         }
 
         -- the next event is done
-        pub going-on : (u : Turn) (c b : ℕ) → u ≡ turn t s x (act e)
-            → c ≡ m + (s .price (turn t s x (act e) .out) + s .price (turn t s x (act e) .back)) → b ≡ a + eventBound t s fs (act e)
+        pub going-on : (u : Turn) (c b : ℕ) → u ≡ turn t sheet x (act e)
+            → c ≡ m + (sheet .price (turn t sheet x (act e) .out) + sheet .price (turn t sheet x (act e) .back)) → b ≡ a + eventBound t sheet fs (act e)
             → Going whole all buffer (i + 1) (u .state) (afterEvent t fs (act e)) es
             c
             b

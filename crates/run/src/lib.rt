@@ -1,8 +1,7 @@
 // A run over an event list: every event in its order, until one is refused or all are done. The answers, the cache, the memory and the counts are
 // those of the model's run.
 ghost use mathlib.Core.Path.{_≡_};
-ghost use Rattle.tables.specs.Tables.{taskOf};
-ghost use Rattle.run.specs.Events.{Fitting, endedWith, Serves};
+ghost use Rattle.run.specs.Events.{Fitting, endedWith, ServesIn};
 use model::Ending;
 use model::Eviction;
 use model::RunResult;
@@ -33,7 +32,7 @@ pub fn run_events(
     eviction: Eviction,
 ) -> RunResult
     requires { ⌜ Fitting price (now work) h (now events) (now answers) (now cache) (now memory) ⌝ }
-    ensures { λ r. ⌜ Serves eviction price (taskOf (now (work .entry)) h) (now (events .entry)) (now (answers .entry)) (now (cache .entry)) (now (memory .entry))
+    ensures { λ r. ⌜ ServesIn eviction price h (now (events .entry)) (now (answers .entry)) (now (cache .entry)) (now (memory .entry))
         (now (work .entry)) r (now (answers .exit)) (now (cache .exit)) (now (memory .exit)) (now (work .exit)) ⌝ }
 {
     let mut x = turns::start(work, h, eviction, memory.len());

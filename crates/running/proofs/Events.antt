@@ -18,15 +18,22 @@ use Rattle.model.specs.Limits.{mostEventNumbers}
 use Rattle.model.specs.Basic.{unless, _orElse_}
 use Rattle.model.specs.Rows.{refuse, rowVerdict}
 use Rattle.model.specs.Task.{Task, count, Judged, refused, task}
+use Rattle.model.specs.Core.{idle}
 use Rattle.model.specs.Figures.{longest}
-use Rattle.model.specs.Sheet.{movePrice}
+use Rattle.model.specs.Sheet.{Sheet, movePrice, pricedSheet}
 use Rattle.model.specs.Refusal.{withRows, pricedRows, runRows}
 use Rattle.model.specs.Plain.{eventsOf}
-use Rattle.model.specs.Services.{cleared, AfterRun, runAs, runJudged, runWith, runOf, Demand3, LeavesClean, PaysOnce}
+use Rattle.model.specs.Run.{Ran}
+use Rattle.model.specs.Services.{cleared, over, resultOf, AfterRun, runAs, runJudged, runWith, runOf, Demand3, LeavesClean, PaysOnce}
+use Rattle.model.specs.WellFormed.{WellFormed}
+use Rattle.theory.specs.Agree.{Agree}
 use Rattle.theory.specs.Without.{firstRow, nothingDone, untouched}
 use Rattle.theory.proofs.Lists.{and-holds, or-equal}
 use Rattle.theory.proofs.Firsts.{row-none, unless-none}
 use Rattle.theory.proofs.Search.{verdict-none, verdict-some}
+use Rattle.theory.proofs.Lawful.{sound}
+use Rattle.theory.proofs.Prices.{price-moves}
+use Rattle.theory.proofs.Agree.{run-agree, allowed-agree, sound-agree}
 use Rattle.theory.proofs.Faithful.{demand-3, leaves-clean}
 use Rattle.theory.proofs.Once.{services-once}
 use Rattle.theory.proofs.Without.{longest-none, finished-run}
@@ -34,10 +41,13 @@ use Rattle.tables.specs.declared.Header.{Header}
 use Rattle.tables.specs.Tables.{taskOf}
 use Rattle.prices.specs.declared.Price.{Price}
 use Rattle.prices.specs.Prices.{priceOf}
-use Rattle.figures.specs.declared.FuncFigures.{FuncFigures}
-use Rattle.figures.specs.Figured.{funcFigures}
-use Rattle.bounds.specs.Bounds.{Bounded}
-use Rattle.run.specs.Events.{Fitting, Serves}
+use Rattle.readout.specs.declared.FuncFigures.{FuncFigures}
+use Rattle.readout.specs.Sheet.{sheetIn}
+use Rattle.readout.specs.Readable.{funcFigures}
+use Rattle.figures.specs.Figured.{Figured}
+use Rattle.bounds.specs.Bounds.{Bounded, OnlyBounds}
+use Rattle.bounds.proofs.Laws.{only-task, only-sheet}
+use Rattle.run.specs.Events.{Fitting, Serves, ServesIn}
 use Rattle.judge.specs.declared.Judgement.{Judgement}
 use Rattle.judge.specs.Judgement.{judgedIn}
 use Rattle.serving.specs.Served.{Lent}
@@ -127,8 +137,14 @@ rows-found e a c m n t k o h =
     ∙ ap (λ (z : Option Refusal). z orElse unless (leb (longest t 0) m) (refuse MemoryTooSmall (longest t 0)))
     (ap (λ (z : ℕ). bufferRows e a c z (t .stack)) k ∙ h)
 
+-- D of function 0, in the task as it was lent
+pub first-room : (price : Price) (w : List ℕ) (h : Header) {t : Task} {k : FuncFigures} → k ≡ funcFigures price w h 0 → taskOf w h ≡ t
+    → k .longest ≡ longest t 0
+unfolding funcFigures
+first-room price w h g same = ap (λ (z : FuncFigures). z .longest) g ∙ ap (λ (z : Task). longest z 0) same
+
 -- the run of an accepted task of n functions, where v is the verdict of 16, 17 and 18
-module _ (x : Eviction) (price : Price) {t : Task} {n : ℕ} (c : count t ≡ n) (events answers cache memory : List ℕ) {v : Verdict}
+module _ (x : Eviction) (price : Price) (t : Task) {n : ℕ} (c : count t ≡ n) (events answers cache memory : List ℕ) {v : Verdict}
     (e : v ≡ rowVerdict (bufferRows (length events) (length answers) (length cache) n (t .stack))) where
   pub unfit : {q : Refusal} {r : RunResult} (w : List ℕ) → v ≡ Refused q → r ≡ noneDone q
       → Performs x price (task t) w events answers cache memory r w answers cache memory
@@ -153,18 +169,14 @@ module _ (x : Eviction) (price : Price) {t : Task} {n : ℕ} (c : count t ≡ n)
         after = refl;
       }
 
-  -- t′: the task as its figures were worked out; k: those of function 0
-  module _ (o : v ≡ Accepted) {t′ : Task} (same : t′ ≡ t) {k : FuncFigures} (g : k ≡ funcFigures price t′ 0) where
-    room-is : k .longest ≡ longest t 0
-    unfolding funcFigures
-    room-is = ap (λ (z : FuncFigures). z .longest) g ∙ ap (λ (z : Task). longest z 0) same
-
+  -- room: D of function 0, as it was read
+  module _ (o : v ≡ Accepted) {room : ℕ} (room-is : room ≡ longest t 0) where
     rows-are : runRows (length events) (length answers) (length cache) (length memory) t
         ≡ unless (leb (longest t 0) (length memory)) (refuse MemoryTooSmall (longest t 0))
     rows-are = rows-found (length events) (length answers) (length cache) (length memory) n t c none (verdict-none _ (sym e ∙ o))
 
     module _ {w w′ : List ℕ} {r : RunResult} (after : cleared w′ ≡ cleared w) where
-      pub too-little : length memory < k .longest → r ≡ noneDone (refuse MemoryTooSmall (k .longest))
+      pub too-little : length memory < room → r ≡ noneDone (refuse MemoryTooSmall room)
           → Performs x price (task t) w events answers cache memory r w′ answers cache memory
       too-little h i =
           let l : length memory < longest t 0 = omega (arith, room-is) in
@@ -175,36 +187,70 @@ module _ (x : Eviction) (price : Price) {t : Task} {n : ℕ} (c : count t ≡ n)
           }
 
       -- t″: the task as its events are run
-      pub all-run : {t″ : Task} {w″ answers′ cache′ memory′ : List ℕ} → t″ ≡ t′ → k .longest ≤ length memory
-          → Serves x price t″ events answers cache memory w′ r answers′ cache′ memory′ w″
+      pub all-run : {t″ : Task} {w″ answers′ cache′ memory′ : List ℕ} → t″ ≡ t → room ≤ length memory
+          → Serves x t″ (pricedSheet (priceOf price) t″) events answers cache memory w′ r answers′ cache′ memory′ w″
           → cleared w″ ≡ cleared w′ → Performs x price (task t) w events answers cache memory r w″ answers′ cache′ memory′
       all-run i h s d =
           let l : longest t 0 ≤ length memory = omega (arith, room-is) in
-          let z = rw (i ∙ same) at s in
+          let z = rw i at s in
           record {
             left = λ work. rw (rows-are, le-leb (longest t 0) (length memory) l)
                 (λ i. afterRun (z .returned i) work (z .answered i) (z .cached i) (z .stored i));
             after = d ∙ after;
           }
 
--- what the run of the events asks for; w: the working space when the room was asked for
-module _ {price : Price} (w : List ℕ) {w′ : List ℕ} {h : Header} (b : Bounded price w′ h) (same : taskOf w′ h ≡ taskOf w h) (some-func : 0 < h .funcs) where
-  pub fits : (events answers cache memory : List ℕ) {v : Verdict} {k : FuncFigures}
+-- ---- the events are run on the sheet in the columns, which is that of the task
+
+-- sheets that agree serve alike
+serves-agree : {x : Eviction} {t : Task} {s z : Sheet} {events answers cache memory w : List ℕ} {r : RunResult} {answers′ cache′ memory′ w′ : List ℕ}
+    → Agree t s z → WellFormed t → Serves x t s events answers cache memory w r answers′ cache′ memory′ w′
+    → Serves x t z events answers cache memory w r answers′ cache′ memory′ w′
+serves-agree {x} {events = events} {answers} {cache} {memory} a f d =
+    let e = run-agree a f (idle x cache memory) (eventsOf events) in
+    let l = allowed-agree a f (eventsOf events) in
+    record {
+      returned = d .returned ∙ (λ i. resultOf (e i) (l i));
+      answered = d .answered ∙ ap (λ (r : Ran). over (r .answers) answers) e;
+      cached = d .cached ∙ ap (λ (r : Ran). r .core .cache) e;
+      stored = d .stored ∙ ap (λ (r : Ran). r .core .memory) e;
+      kept = d .kept;
+    }
+
+-- w: the working space when the room was asked for, w′ with the bounds
+module _ {price : Price} (w : List ℕ) {w′ : List ℕ} {h : Header} (f : Figured price w h) (b : Bounded price w′ h) (o : OnlyBounds w w′) where
+  same-task : taskOf w′ h ≡ taskOf w h
+  same-task = only-task (f .readable) o
+
+  agrees : Agree (taskOf w′ h) (sheetIn price w′ h) (pricedSheet (priceOf price) (taskOf w′ h))
+  agrees =
+      subst (λ (t : Task). Agree t (sheetIn price w′ h) (pricedSheet (priceOf price) t)) (sym same-task)
+      (subst (λ (s : Sheet). Agree (taskOf w h) s (pricedSheet (priceOf price) (taskOf w h))) (sym (only-sheet (f .readable) o)) (f .agree))
+
+  -- what the run of the events asks for
+  pub fits : 0 < h .funcs → (events answers cache memory : List ℕ) {v : Verdict} {k : FuncFigures}
       → v ≡ rowVerdict (bufferRows (length events) (length answers) (length cache) (h .funcs) (h .stack)) → v ≡ Accepted
-      → k ≡ funcFigures price (taskOf w h) 0
+      → k ≡ funcFigures price w h 0
       → k .longest ≤ length memory → Fitting price w′ h events answers cache memory
   unfolding funcFigures
-  fits events answers cache memory e n g l =
+  fits some-func events answers cache memory e n g l =
       let p = passes (length events) (length answers) (length cache) (h .funcs) (h .stack) (verdict-none _ (sym e ∙ n)) in
+      let m = b .readable .settled .formed in
       record {
         bounded = b;
+        sound = sound-agree agrees m (sound (taskOf w′ h) m (priceOf price) (price-moves (price .start) (price .each)));
         some = some-func;
         paired = p .paired;
         few = p .few;
         answered = p .answered;
         blocks = p .blocks some-func;
-        room = omega (arith, ap (λ (z : FuncFigures). z .longest) g, ap (λ (z : Task). longest z 0) same);
+        room = omega (arith, ap (λ (z : FuncFigures). z .longest) g, ap (λ (z : Task). longest z 0) same-task);
       }
+
+  -- and what it gives
+  pub serves-own : {x : Eviction} {events answers cache memory : List ℕ} {r : RunResult} {answers′ cache′ memory′ w″ : List ℕ}
+      → ServesIn x price h events answers cache memory w′ r answers′ cache′ memory′ w″
+      → Serves x (taskOf w′ h) (pricedSheet (priceOf price) (taskOf w′ h)) events answers cache memory w′ r answers′ cache′ memory′ w″
+  serves-own d = serves-agree agrees (b .readable .settled .formed) d
 
 -- ---- what was judged
 

@@ -99,7 +99,7 @@ fn run_task(
         return finished(events.len());
     }
     figures::figure_task(work, h, price);
-    let first = figures::func_figures(work, h, price, 0);
+    let first = readout::func_figures(work, h, price, 0);
     let room = first.longest;
     if memory.len() < room as usize {
         return refused(Refusal {

@@ -89,21 +89,16 @@ module _ (room n : ℕ) {v : Verdict} where
   pub row-room : v ≡ rowVerdict (lengthRow room n) → v ≡ Accepted → n ≤ room
   row-room e a = leb→le n room (unless-none (leb n room) (refuse OutputTooSmall n) .0 (verdict-none (lengthRow room n) (sym e ∙ a)))
 
-  -- the bytes are those of a task
-  pub row-of : (print : Task → List ℕ) (t : Task) → n ≡ length (print t) → v ≡ rowVerdict (lengthRow room n) → v ≡ rowVerdict (outputRows print room t)
-  unfolding outputRows
-  row-of print t e i = i ∙ ap (λ (n : ℕ). rowVerdict (lengthRow room n)) e
+  -- by another name of the length
+  pub row-of : {m : ℕ} → n ≡ m → v ≡ rowVerdict (lengthRow room n) → v ≡ rowVerdict (lengthRow room m)
+  row-of e i = i ∙ ap (λ (n : ℕ). rowVerdict (lengthRow room n)) e
 
-pub output-room : (print : Task → List ℕ) (room : ℕ) (t : Task) {v : Verdict} → v ≡ rowVerdict (outputRows print room t) → v ≡ Accepted
-    → length (print t) ≤ room
-unfolding outputRows
-output-room print room t = row-room room (length (print t))
-
--- 14 as it was tried, or the bytes; t′: the task as it was printed
-module _ (print : Task → List ℕ) (output : List ℕ) {t t′ : Task} (same : t′ ≡ t)
-    {v : Verdict} (row : v ≡ rowVerdict (outputRows print (length output) t′)) where
+-- 14 as it was tried, or the bytes l, which are those of a task
+module _ (print : Task → List ℕ) (output : List ℕ) {t : Task} {l : List ℕ} (same : l ≡ print t)
+    {v : Verdict} (row : v ≡ rowVerdict (lengthRow (length output) (length l))) where
   row-is : rowVerdict (outputRows print (length output) t) ≡ v
-  row-is = sym (row ∙ ap (λ (t : Task). rowVerdict (outputRows print (length output) t)) same)
+  unfolding outputRows
+  row-is = sym (row ∙ ap (λ (k : List ℕ). rowVerdict (lengthRow (length output) (length k))) same)
 
   module _ {w w′ : List ℕ} (after : cleared w′ ≡ cleared w) where
     pub too-short : {q : Refusal} → v ≡ Refused q → Writes print (task t) w output (nothingWritten q) w′ output
@@ -111,14 +106,14 @@ module _ (print : Task → List ℕ) (output : List ℕ) {t t′ : Task} (same :
         let o = verdict-some (outputRows print (length output) t) (row-is ∙ e) in
         record { returned = λ work. rw o; written = λ work. rw o; after = after }
 
-    pub long-enough : {output′ : List ℕ} {n : ℕ} → v ≡ Accepted → n ≡ length (print t′) → output′ ≡ over (print t′) output
+    pub long-enough : {output′ : List ℕ} {n : ℕ} → v ≡ Accepted → n ≡ length l → output′ ≡ over l output
         → Writes print (task t) w output (record { verdict = Accepted; written = n }) w′ output′
-    long-enough {output′} {n} e l o =
+    long-enough {output′} {n} e i o =
         let z = verdict-none (outputRows print (length output) t) (row-is ∙ e) in
-        let f : n ≡ length (print t) = l ∙ ap (λ (t : Task). length (print t)) same in
+        let f : n ≡ length (print t) = i ∙ ap length same in
         record {
           returned = λ work. rw z (λ i. record { verdict = Accepted; written = f i });
-          written = λ work. rw z (o ∙ ap (λ (t : Task). over (print t) output) same);
+          written = λ work. rw z (o ∙ ap (λ (k : List ℕ). over k output) same);
           after = after;
         }
 

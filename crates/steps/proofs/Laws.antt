@@ -1,23 +1,21 @@
 -- The frames of a state after a step, and the turn of the model that a step is.
 use Prim.Native.Nat.{ℕ, zero, suc, _+_, _-_, _*_, _≤_, _<_}
 use mathlib.Core.List.{List, [], _∷_}
-use mathlib.Core.Path.{_≡_, refl, ap, _∙_}
+use mathlib.Core.Path.{_≡_, refl, ap, sym, _∙_}
 use native.Mathlib.Omega.{arith}
 use lib.ListN.{length, set, length-set}
 use lib.Seq.{drop-set-lt}
 use Rattle.model.specs.Limits.{mostFuncs}
 use Rattle.model.specs.Core.{Core}
+use Rattle.model.specs.Run as run
 use Rattle.model.specs.Run.{Place, onwards}
-use Rattle.theory.proofs.Prices.{price-moves}
 use Rattle.tables.specs.Tables.{item}
 use Rattle.tables.proofs.Laws.{here, elsewhere}
-use Rattle.prices.specs.declared.Price.{Price}
-use Rattle.prices.specs.Prices.{priceOf}
 use Rattle.machine.specs.Moves.{coreOf, OnCache}
 use Rattle.steps.specs.declared.State.{State}
 use Rattle.steps.specs.declared.Turned.{Turned}
 use Rattle.steps.specs.Frames.{framesAt, framesEnd, putCaller, placesIn, framesFrom, framesOf, turnOf, plainTurn}
-use Rattle.steps.specs.Steps.{Stays, Added, IsTurn}
+use Rattle.steps.specs.Steps.{Stays, IsTurn, IsPlain}
 
 -- the running frame and its callers, where there is one
 pub frames-some : (w : List ℕ) (d f p : ℕ) → 0 < d → framesFrom w d f p ≡ record { fn = f; at = p } ∷ placesIn w (d - 1)
@@ -42,22 +40,26 @@ turn-on r w cache memory f p a o b fs c h i j d k l =
     (frames-some w (r .state .depth) (r .state .f) (r .state .p) h)
     ∙ (λ t. onwards (i t) (j t) (d t) (k t) (l t) o b)
 
--- no move has no price
-nothing-moved : (price : Price) (m n : ℕ) → n ≡ m → Added m (priceOf price 0 + priceOf price 0) n
-nothing-moved price m n f = let e = price-moves (price .start) (price .each) .none in omega (arith, e)
+-- a turn that moves nothing is one at every price that has none for no move
+pub plain-turn : (price : ℕ → ℕ) → price 0 ≡ 0 → {m a : ℕ} {r : Turned} {w cache memory : List ℕ} {u : run.Turn} → IsPlain m a r w cache memory u
+    → IsTurn price m a r w cache memory u 0
+plain-turn price n {r = r} {w} {cache} {memory} {u} d =
+    let o : u .out ≡ 0 = sym (ap (λ (z : run.Turn). z .out) (d .turn)) in
+    let b : u .back ≡ 0 = sym (ap (λ (z : run.Turn). z .back) (d .turn)) in
+    record {
+      turn = (λ i. turnOf w r (o i) (b i) cache memory) ∙ d .turn;
+      on = d .on;
+      moved = omega (arith, n, d .moved, ap price o, ap price b);
+      bound = omega (arith, d .allowed);
+    }
 
 -- a step that moves nothing
-pub plain-does : (price : Price) (x : State) (r : Turned) (p a p′ a′ : ℕ) (w cache memory : List ℕ) (c : Core) → 0 < x .depth → OnCache (x .machine) cache
+pub plain-does : (x : State) (r : Turned) (p a p′ a′ : ℕ) (w cache memory : List ℕ) (c : Core) → 0 < x .depth → OnCache (x .machine) cache
     → r ≡ plainTurn x p a → p ≡ p′ → a ≡ a′
-    → coreOf (x .machine) cache memory ≡ c → IsTurn price (x .moved) (x .allowed) r w cache memory (onwards (x .f) p′ (placesIn w (x .depth - 1)) c a′ 0 0) 0
-plain-does price x r p a p′ a′ w cache memory c h o e i j k =
+    → coreOf (x .machine) cache memory ≡ c → IsPlain (x .moved) (x .allowed) r w cache memory (onwards (x .f) p′ (placesIn w (x .depth - 1)) c a′ 0 0)
+plain-does x r p a p′ a′ w cache memory c h o e i j k =
     rw e
-    (record {
-      turn = turn-on (plainTurn x p a) w cache memory _ _ _ _ _ _ _ h refl i refl k j;
-      on = o;
-      moved = nothing-moved price (x .moved) (x .moved) refl;
-      bound = omega arith;
-    })
+    (record { turn = turn-on (plainTurn x p a) w cache memory _ _ _ _ _ _ _ h refl i refl k j; on = o; moved = refl; allowed = refl })
 
 -- ---- the callers
 
@@ -114,14 +116,14 @@ caller-runs w (suc n) f p h a b =
     λ j. record { fn = g j; at = i j } ∷ placesIn w n
 
 -- a step that leaves the running frame
-pub leave-does : (price : Price) (x y : State) (w cache memory : List ℕ) (n : ℕ) (c : Core) → framesOf w y ≡ placesIn w n
+pub leave-does : (x y : State) (w cache memory : List ℕ) (n : ℕ) (c : Core) → framesOf w y ≡ placesIn w n
     → coreOf (y .machine) cache memory ≡ c → OnCache (y .machine) cache → y .moved ≡ x .moved → y .allowed ≡ x .allowed
-    → IsTurn price (x .moved) (x .allowed) (record { state = y; answer = 0 }) w cache memory
-    (record { state = record { frames = placesIn w n; core = c }; answer = 0; out = 0; back = 0 }) 0
-leave-does price x y w cache memory n c e k o m a =
+    → IsPlain (x .moved) (x .allowed) (record { state = y; answer = 0 }) w cache memory
+    (record { state = record { frames = placesIn w n; core = c }; answer = 0; out = 0; back = 0 })
+leave-does x y w cache memory n c e k o m a =
     record {
       turn = λ i. record { state = record { frames = e i; core = k i }; answer = 0; out = 0; back = 0 };
       on = o;
-      moved = nothing-moved price (x .moved) (y .moved) m;
-      bound = omega arith;
+      moved = m;
+      allowed = a;
     }

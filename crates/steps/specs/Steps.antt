@@ -5,14 +5,12 @@ use mathlib.Core.Path.{_≡_}
 use lib.ListN.{length}
 use Rattle.model.specs.declared.Point.{Point}
 use Rattle.model.specs.Limits.{mostFuncs, mostPoints}
+use Rattle.model.specs.Sheet.{Sheet}
 use Rattle.model.specs.Task.{Task}
 use Rattle.model.specs.Run as run
 use Rattle.model.specs.Run.{stepTurn, stepBound}
 use Rattle.tables.specs.Tables.{item}
 use Rattle.tables.specs.Valid.{Kept}
-use Rattle.prices.specs.declared.Price.{Price}
-use Rattle.prices.specs.Prices.{priceOf}
-use Rattle.figures.specs.Figured.{sheetAt}
 use Rattle.machine.specs.Moves.{coreOf, mostAddress, OnCache}
 use Rattle.steps.specs.declared.State.{State}
 use Rattle.steps.specs.declared.Turned.{Turned}
@@ -33,18 +31,30 @@ Added total part sum = (sum ≡ total + part) × (sum ≤ total + mostPart)
 
 -- a turn, before which m was moved and a allowed, is this one of the model, and its machine stands on the cache. To m comes what both its moves cost, and
 -- to a what the sheet allows it, b
-pub record IsTurn (price : Price) (m a : ℕ) (r : Turned) (w cache memory : List ℕ) (u : run.Turn) (b : ℕ) : Type 0 where
+pub record IsTurn (price : ℕ → ℕ) (m a : ℕ) (r : Turned) (w cache memory : List ℕ) (u : run.Turn) (b : ℕ) : Type 0 where
   pub turn : turnOf w r (u .out) (u .back) cache memory ≡ u
   pub on : OnCache (r .state .machine) cache
-  pub moved : Added m (priceOf price (u .out) + priceOf price (u .back)) (r .state .moved)
+  pub moved : Added m (price (u .out) + price (u .back)) (r .state .moved)
   pub bound : Added a b (r .state .allowed)
 
--- a step with value v at point y of the running frame of x, in a task t at this price
-abbrev pub Steps : Price → Task → State → Point → ℕ → (w cache memory : List ℕ) → Turned → (w′ cache′ memory′ : List ℕ) → Type 0
-Steps price t x y v w cache memory r w′ cache′ memory′ =
-    IsTurn price (x .moved) (x .allowed) r w′ cache′ memory′
+-- a step with value v at point y of the running frame of x, in a task t, on this sheet
+abbrev pub Steps : Sheet → Task → State → Point → ℕ → (w cache memory : List ℕ) → Turned → (w′ cache′ memory′ : List ℕ) → Type 0
+Steps sheet t x y v w cache memory r w′ cache′ memory′ =
+    IsTurn (sheet .price) (x .moved) (x .allowed) r w′ cache′ memory′
     (stepTurn t (x .f) (x .p) (placesIn w (x .depth - 1)) (coreOf (x .machine) cache memory) y v)
-    (stepBound (sheetAt price t) (x .f) (x .p) y)
+    (stepBound sheet (x .f) (x .p) y)
+
+-- a turn that moves nothing, before which m was moved and a allowed: both stay, at every price and on every sheet
+pub record IsPlain (m a : ℕ) (r : Turned) (w cache memory : List ℕ) (u : run.Turn) : Type 0 where
+  pub turn : turnOf w r 0 0 cache memory ≡ u
+  pub on : OnCache (r .state .machine) cache
+  pub moved : r .state .moved ≡ m
+  pub allowed : r .state .allowed ≡ a
+
+-- a step that does so, with value v at point y of the running frame of x
+abbrev pub PlainStep : Task → State → Point → ℕ → (w cache memory : List ℕ) → Turned → (w′ cache′ memory′ : List ℕ) → Type 0
+PlainStep t x y v w cache memory r w′ cache′ memory′ =
+    IsPlain (x .moved) (x .allowed) r w′ cache′ memory′ (stepTurn t (x .f) (x .p) (placesIn w (x .depth - 1)) (coreOf (x .machine) cache memory) y v)
 
 -- a total that has room for one part more in 64 bits
 abbrev pub mostTotal : ℕ

@@ -7,10 +7,9 @@ ghost use lib.ListN.{length};
 ghost use Rattle.model.specs.declared.Point.the-variants.{Load, Store, Goto, Either, Return};
 ghost use Rattle.model.specs.Limits.{mostFuncs, mostPoints};
 ghost use Rattle.model.specs.Task.{Task, func};
-ghost use Rattle.prices.specs.declared.Price.{Price as Price·spec};
 ghost use Rattle.machine.specs.Moves.{OnCache};
 ghost use Rattle.steps.specs.Frames.{framesEnd, placesIn, putCaller, framesOf, plainTurn};
-ghost use Rattle.steps.specs.Steps.{Steps, Reaches, Leaves};
+ghost use Rattle.steps.specs.Steps.{PlainStep, Reaches, Leaves};
 use bounds::Bounds;
 use machine::Machine;
 
@@ -105,7 +104,7 @@ fn onwards(x: State, p: usize, answer: u32) -> Turned
 
 pub fn load_step(x: State, cache: &[u32], o: u32) -> Turned
     requires { ⌜ Reaches x (now cache) o ⌝ }
-    ensures { λ r. ⌜ ((price : Price·spec) (t : Task) (v : ℕ) (w memory : List ℕ) → Steps price t x (Load o) v w (now (cache .entry)) memory r w
+    ensures { λ r. ⌜ ((t : Task) (v : ℕ) (w memory : List ℕ) → PlainStep t x (Load o) v w (now (cache .entry)) memory r w
         (now (cache .entry)) memory) ⌝ }
 {
     let machine = x.machine;
@@ -115,7 +114,7 @@ pub fn load_step(x: State, cache: &[u32], o: u32) -> Turned
 
 pub fn store_step(x: State, cache: &mut [u32], o: u32, v: u32) -> Turned
     requires { ⌜ Reaches x (now cache) o ⌝ }
-    ensures { λ r. ⌜ ((price : Price·spec) (t : Task) (w memory : List ℕ) → Steps price t x (Store o) v w (now (cache .entry)) memory r w
+    ensures { λ r. ⌜ ((t : Task) (w memory : List ℕ) → PlainStep t x (Store o) v w (now (cache .entry)) memory r w
         (now (cache .exit)) memory) ⌝ }
 {
     let machine = x.machine;
@@ -133,16 +132,16 @@ pub fn store_step(x: State, cache: &mut [u32], o: u32, v: u32) -> Turned
 
 pub fn goto_step(x: State, q: u32) -> Turned
     requires { ⌜ 0 < x .depth ⌝ }
-    ensures { λ r. ⌜ ((price : Price·spec) (t : Task) (v : ℕ) (w cache memory : List ℕ) → OnCache (x .machine) cache →
-        Steps price t x (Goto q) v w cache memory r w cache memory) ⌝ }
+    ensures { λ r. ⌜ ((t : Task) (v : ℕ) (w cache memory : List ℕ) → OnCache (x .machine) cache →
+        PlainStep t x (Goto q) v w cache memory r w cache memory) ⌝ }
 {
     onwards(x, wide(q), 0)
 }
 
 pub fn either_step(x: State, q: u32, r: u32, v: u32) -> Turned
     requires { ⌜ 0 < x .depth ⌝ }
-    ensures { λ u. ⌜ ((price : Price·spec) (t : Task) (w cache memory : List ℕ) → OnCache (x .machine) cache →
-        Steps price t x (Either q r) v w cache memory u w cache memory) ⌝ }
+    ensures { λ u. ⌜ ((t : Task) (w cache memory : List ℕ) → OnCache (x .machine) cache →
+        PlainStep t x (Either q r) v w cache memory u w cache memory) ⌝ }
 {
     if v == 0 {
         return onwards(x, wide(q), 0);
@@ -153,8 +152,8 @@ pub fn either_step(x: State, q: u32, r: u32, v: u32) -> Turned
 // The frame of the running function is left, and its caller runs.
 pub fn return_step(work: &[u32], x: State, cache: &[u32], frame: u32) -> Turned
     requires { ⌜ Leaves (now work) x (now cache) frame ⌝ }
-    ensures { λ r. ⌜ ((price : Price·spec) (t : Task) (v : ℕ) (memory : List ℕ) → func t (x .f) .frame ≡ frame →
-        Steps price t x Return v (now (work .entry)) (now (cache .entry)) memory r (now (work .entry)) (now (cache .entry)) memory) ⌝ }
+    ensures { λ r. ⌜ ((t : Task) (v : ℕ) (memory : List ℕ) → func t (x .f) .frame ≡ frame →
+        PlainStep t x Return v (now (work .entry)) (now (cache .entry)) memory r (now (work .entry)) (now (cache .entry)) memory) ⌝ }
 {
     let machine = x.machine;
     let freed = machine.free(cache, frame);

@@ -19,6 +19,7 @@
 --   Prices                   the price of a move with a start is a price; with start 0 and each 1 report and run are those of document 01
 --   Sorting, Dearest         laws of the sorted list; the list of the dearest points is the first ten of the report's records in a strict order
 --   Total                    the total of a report is the sum of the costs of all points
+--   Agree                    sheets that agree at the points of a task have the same report, list, runs and bounds, and obey the same rules
 --   Faithful                 demand 3, of every sheet that obeys the rules and of the sheet of every text that run accepts
 --   Cores                    the two cores leave the same after every event, and the lazy one moves no more; so do the two services
 --   Once                     in blocks a run moves at most its spills and fills and once of each point at which it is preempted; the case of exactly one
@@ -56,6 +57,7 @@ pub mod Sorting
 pub mod Dearest
 pub mod Costs
 pub mod Total
+pub mod Agree
 pub mod Faithful
 pub mod Cores
 pub mod Once

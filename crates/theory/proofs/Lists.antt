@@ -315,6 +315,16 @@ length-countFrom i (suc n) = ap suc (length-countFrom (suc i) n)
 pub length-upTo : (n : ℕ) → length (upTo n) ≡ n
 length-upTo n = length-countFrom 0 n
 
+-- functions that agree on the members
+pub map-same : {A B : Type 0} (g h : A → B) (l : List A) → ((a : A) → List·Memᴰ a l → g a ≡ h a) → map g l ≡ map h l
+map-same g h [] e = refl
+map-same g h (a ∷ l) e = λ i. e a (List·Memᴰ·head refl) i ∷ map-same g h l (λ b m. e b (List·Memᴰ·tail m)) i
+
+pub joined-same : {A B : Type 0} (g h : A → List B) (l : List A) → ((a : A) → List·Memᴰ a l → g a ≡ h a) → joined g l ≡ joined h l
+unfolding joined
+joined-same g h [] e = refl
+joined-same g h (a ∷ l) e = λ i. e a (List·Memᴰ·head refl) i ++ joined-same g h l (λ b m. e b (List·Memᴰ·tail m)) i
+
 pub joined-next : {B : Type 0} (g : ℕ → List B) (n : ℕ) → joined g (upTo (n + 1)) ≡ joined g (upTo n) ++ g n
 joined-next g n = ap (joined g) (upTo-next n) ∙ joined-snoc g (upTo n) n
 

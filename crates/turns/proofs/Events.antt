@@ -13,6 +13,7 @@ use Rattle.model.specs.declared.Verdict.the-variants as verdict
 use Rattle.model.specs.declared.Row.the-variants.{AfterFinish, Kind, Choice}
 use Rattle.model.specs.Rows.{refuse, rowVerdict}
 use Rattle.model.specs.Task.{Task, func, point}
+use Rattle.model.specs.Sheet.{Sheet}
 use Rattle.model.specs.Refusal.{isEither, eventRows}
 use Rattle.model.specs.Plain.{Frame, Act, takes, preempted, act}
 use Rattle.model.specs.Run as run
@@ -20,15 +21,14 @@ use Rattle.model.specs.Run.{Place, runningPlace, stepTurn, stepBound, turnAt, t
 use Rattle.tables.specs.declared.Header.{Header}
 use Rattle.tables.specs.Tables.{taskOf}
 use Rattle.prices.specs.declared.Price.{Price}
-use Rattle.prices.specs.Prices.{priceOf}
-use Rattle.figures.specs.Figured.{sheetAt}
+use Rattle.readout.specs.Sheet.{sheetIn}
 use Rattle.machine.specs.Moves.{coreOf}
 use Rattle.steps.specs.declared.State.{State}
 use Rattle.steps.specs.declared.Turned.{Turned}
 use Rattle.steps.specs.Frames.{placesIn, framesFrom, framesOf, stateOf, turnOf}
-use Rattle.steps.specs.Steps.{Stays, Added, IsTurn, Steps}
+use Rattle.steps.specs.Steps.{Stays, Added, IsTurn}
 use Rattle.steps.proofs.Laws.{frames-some}
-use Rattle.moves.specs.Moves.{IsPreemption}
+use Rattle.moves.specs.Moves.{StepsIn, IsPreemption}
 use Rattle.turns.specs.Turns.{Turns, actOf}
 use Rattle.turns.proofs.Laws.{stays-same}
 use Rattle.turns.proofs.Given.{top-of}
@@ -44,30 +44,33 @@ unfolding act
 act-preempt k v n = rw (ne-eqb k 0 n) refl
 
 -- a turn of the model under another name
-turn-as : {price : Price} {m a : ℕ} {r : Turned} {w cache memory : List ℕ} {u u′ : run.Turn} {n : ℕ} → u ≡ u′ → IsTurn price m a r w cache memory u n
-    → (turnOf w r (u′ .out) (u′ .back) cache memory ≡ u′) × Added m (priceOf price (u′ .out) + priceOf price (u′ .back)) (r .state .moved)
+turn-as : {price : ℕ → ℕ} {m a : ℕ} {r : Turned} {w cache memory : List ℕ} {u u′ : run.Turn} {n : ℕ} → u ≡ u′ → IsTurn price m a r w cache memory u n
+    → (turnOf w r (u′ .out) (u′ .back) cache memory ≡ u′) × Added m (price (u′ .out) + price (u′ .back)) (r .state .moved)
 turn-as {price} {m} {r = r} {w} {cache} {memory} e d = (
   subst (λ (z : run.Turn). turnOf w r (z .out) (z .back) cache memory ≡ z) e (d .turn),
-  subst (λ (z : run.Turn). Added m (priceOf price (z .out) + priceOf price (z .back)) (r .state .moved)) e (d .moved),
+  subst (λ (z : run.Turn). Added m (price (z .out) + price (z .back)) (r .state .moved)) e (d .moved),
 )
 
 module _ (price : Price) (w : List ℕ) (h : Header) (x : State) (cache memory : List ℕ) (some : 0 < x .depth) where
   abbrev t : Task
   t = taskOf w h
 
+  abbrev sheet : Sheet
+  sheet = sheetIn price w h
+
   -- the turn of an event, by what it asks for
-  turn-of : (a : Act) → turn t (sheetAt price t) (stateOf w x cache memory) a
-      ≡ turnAt t (sheetAt price t) (record { fn = x .f; at = x .p } ∷ placesIn w (x .depth - 1)) (coreOf (x .machine) cache memory) a
+  turn-of : (a : Act) → turn t sheet (stateOf w x cache memory) a
+      ≡ turnAt t sheet (record { fn = x .f; at = x .p } ∷ placesIn w (x .depth - 1)) (coreOf (x .machine) cache memory) a
   unfolding turn
   turn-of a =
-      ap (λ (fs : List Place). turnAt t (sheetAt price t) fs (coreOf (x .machine) cache memory) a) (frames-some w (x .depth) (x .f) (x .p) some)
+      ap (λ (fs : List Place). turnAt t sheet fs (coreOf (x .machine) cache memory) a) (frames-some w (x .depth) (x .f) (x .p) some)
 
   pub step-turns : {r : Turned} {w′ cache′ memory′ : List ℕ} (y : Point) (k v : ℕ) → point (func t (x .f)) (x .p) ≡ y → k ≡ 0
-      → Steps price t x y v w cache memory r w′ cache′ memory′
+      → StepsIn price w h x y v cache memory r w′ cache′ memory′
       → Stays w w′
       → Turns price w h x cache memory (actOf k v) r w′ cache′ memory′
   unfolding eventBound
-  step-turns {r = r} y k v i e d s =
+  step-turns {r = r} y k v i e d b =
       let same =
       ap (λ (z : Point). stepTurn t (x .f) (x .p) (placesIn w (x .depth - 1)) (coreOf (x .machine) cache memory) z v) (sym i) ∙ sym (turn-of (takes v)) in
       rw (act-step k v e)
@@ -77,14 +80,14 @@ module _ (price : Price) (w : List ℕ) (h : Header) (x : State) (cache memory :
         moved = turn-as same d .1;
         bound = λ fs j.
             let e =
-            ap (stepBound (sheetAt price t) (x .f) (x .p)) (sym i)
-            ∙ ap (λ (gs : List Frame). eventBound t (sheetAt price t) gs (takes v)) (sym (top-of w (x .depth) (x .f) (x .p) fs some j .whole)) in
+            ap (stepBound sheet (x .f) (x .p)) (sym i)
+            ∙ ap (λ (gs : List Frame). eventBound t sheet gs (takes v)) (sym (top-of w (x .depth) (x .f) (x .p) fs some j .whole)) in
             subst (λ (n : ℕ). Added (x .allowed) n (r .state .allowed)) e (d .bound);
-        stays = s;
+        stays = b;
       })
 
   pub preempt-turns : {r : Turned} {cache′ memory′ : List ℕ} (k v : ℕ) → (k ≡ 0 → ⊥)
-      → IsPreemption price t x v w cache memory r cache′ memory′
+      → IsPreemption price w h x v cache memory r cache′ memory′
       → Turns price w h x cache memory (actOf k v) r w cache′ memory′
   unfolding eventBound
   preempt-turns {r = r} k v n d =
@@ -94,7 +97,7 @@ module _ (price : Price) (w : List ℕ) (h : Header) (x : State) (cache memory :
         on = d .on;
         moved = turn-as (sym (turn-of (preempted v))) d .1;
         bound = λ fs j.
-            let e = ap (λ (gs : List Frame). eventBound t (sheetAt price t) gs (preempted v)) (sym (top-of w (x .depth) (x .f) (x .p) fs some j .whole)) in
+            let e = ap (λ (gs : List Frame). eventBound t sheet gs (preempted v)) (sym (top-of w (x .depth) (x .f) (x .p) fs some j .whole)) in
             subst (λ (n : ℕ). Added (x .allowed) n (r .state .allowed)) e (d .bound);
         stays = stays-same w;
       })

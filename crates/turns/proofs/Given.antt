@@ -26,7 +26,7 @@ use Rattle.tables.specs.Layout.{tablesLength}
 use Rattle.tables.specs.Tables.{pointAt, baseAt, sizeAt, spanAt, taskOf}
 use Rattle.tables.proofs.Laws.{size-is, frame-is, point-is, count-is, stacked-within}
 use Rattle.prices.specs.declared.Price.{Price}
-use Rattle.figures.specs.Figured.{sheetAt}
+use Rattle.readout.specs.Sheet.{sheetIn}
 use Rattle.machine.specs.Moves.{coreOf, mostAddress, Good}
 use Rattle.machine.proofs.Kept.{window-good, window-frame}
 use Rattle.steps.specs.declared.State.{State}
@@ -90,7 +90,7 @@ module _ {price : Price} {w : List ℕ} {h : Header} {x : State} {cache memory :
   t = taskOf w h
 
   formed : WellFormed t
-  formed = k .bounded .figured .settled .formed
+  formed = k .bounded .readable .settled .formed
 
   top : TopFrame w (x .depth) (x .f) (x .p) (k .frames)
   top = top-of w (x .depth) (x .f) (x .p) (k .frames) some (k .same)
@@ -98,9 +98,9 @@ module _ {price : Price} {w : List ℕ} {h : Header} {x : State} {cache memory :
   abbrev frame : Frame
   frame = record { fn = x .f; at = x .p; numbers = top .numbers }
 
-  runs-top : Running t (sheetAt price t) (k .sound .ground) (frame ∷ top .rest) (coreOf (x .machine) cache memory)
+  runs-top : Running t (sheetIn price w h) (k .sound .ground) (frame ∷ top .rest) (coreOf (x .machine) cache memory)
   runs-top =
-      subst (λ (fs : List Frame). Running t (sheetAt price t) (k .sound .ground) fs (coreOf (x .machine) cache memory)) (top .whole) (k .running)
+      subst (λ (fs : List Frame). Running t (sheetIn price w h) (k .sound .ground) fs (coreOf (x .machine) cache memory)) (top .whole) (k .running)
 
   top-in : In t frame
   top-in = stands-in (runs-top .standing) .0
@@ -115,12 +115,12 @@ module _ {price : Price} {w : List ℕ} {h : Header} {x : State} {cache memory :
   at-within = omega (arith, top-in .at-in, size-is w h (x .f) fn-within)
 
   pub runs-good : Good (coreOf (x .machine) cache memory)
-  runs-good = window-good t (sheetAt price t) _ _ (formed .shaped .stack-low (omega (arith, top-in .fn-in))) (runs-top .window) (runs-top .clean)
+  runs-good = window-good t (sheetIn price w h) _ _ (formed .shaped .stack-low (omega (arith, top-in .fn-in))) (runs-top .window) (runs-top .clean)
 
   pub depth-few : x .depth ≤ mostFuncs
   depth-few =
       let e = sym (length-callers w (x .depth - 1)) ∙ ap length (top .below) ∙ length-places (top .rest) in
-      omega (arith, e, below-few formed top-below, fn-within, k .bounded .figured .settled .holds .few)
+      omega (arith, e, below-few formed top-below, fn-within, k .bounded .readable .settled .holds .few)
 
   pub runs-inside : (s : Span) → s ≡ spanAt w (x .f) → Counts x → Inside price w h x s
   runs-inside s e c =
@@ -135,12 +135,12 @@ module _ {price : Price} {w : List ℕ} {h : Header} {x : State} {cache memory :
 
   touch-reaches : (o : ℕ) → T (touches (func t (x .f)) o (x .p)) → x .p < mostPoints → Reaches x cache o
   touch-reaches o j l =
-      let c = touched-cached t (sheetAt price t) formed (k .sound) frame (top .rest) _ o top-in j (runs-top .window) in
+      let c = touched-cached t (sheetIn price w h) formed (k .sound) frame (top .rest) _ o top-in j (runs-top .window) in
       record { some = some; small = l; on = k .on; offset = omega (arith, c .1, runs-good .fits) }
 
 -- what a run gives at any time
 pub runs-placed : {price : Price} {w : List ℕ} {h : Header} {x : State} {cache memory : List ℕ} → Runs price w h x cache memory → Placed w h x
-runs-placed k = record { settled = k .bounded .figured .settled; fn-in = λ i. fn-within k i; at-in = λ i. at-within k i }
+runs-placed k = record { settled = k .bounded .readable .settled; fn-in = λ i. fn-within k i; at-in = λ i. at-within k i }
 
 -- ---- the point at which the running frame stands
 
@@ -189,7 +189,7 @@ module _ {price : Price} {w : List ℕ} {h : Header} {x : State} {cache memory :
         on = r .on;
         good = runs-good r some;
         fits = frame-fits r some g (omega (arith, l .1, count-is w h));
-        room = room-below t (sheetAt price t) m (r .sound) (frame r some) _ _ g j (top-below r some) i (runs-top r some .window);
+        room = room-below t (sheetIn price w h) m (r .sound) (frame r some) _ _ g j (top-below r some) i (runs-top r some .window);
         counts = k .inside .counts;
       }
 
@@ -210,7 +210,7 @@ module _ {price : Price} {w : List ℕ} {h : Header} {x : State} {cache memory :
 
   pub return-given : length memory ≤ mostAddress → Leaves w x cache (s .frame)
   return-given m = record {
-    space = omega (arith, k .runs .bounded .figured .room);
+    space = omega (arith, k .runs .bounded .readable .room);
     some = k .inside .some;
     few = depth-few (k .runs) (k .inside .some);
     on = k .runs .on;

@@ -12,9 +12,11 @@ use Rattle.model.specs.declared.Eviction.the-variants.{Eager, Lazy}
 use Rattle.model.specs.declared.Point.{Point}
 use Rattle.model.specs.declared.Point.the-variants.{Load, Store, Call, Ensure, Goto, Either, Return}
 use Rattle.model.specs.Refusal.{isEither}
-use Rattle.model.specs.Task.{Task, count, func}
+use Rattle.model.specs.Task.{count, func}
 use Rattle.model.specs.Core.{reserve, idle}
 use Rattle.model.specs.Figures.{longest}
+use Rattle.model.specs.Run as run
+use Rattle.theory.proofs.Prices.{price-moves}
 use Rattle.theory.proofs.Window.{frame-room}
 use Rattle.tables.specs.declared.Header.{Header}
 use Rattle.tables.specs.declared.Span.{Span}
@@ -23,6 +25,7 @@ use Rattle.tables.specs.Valid.{Settled}
 use Rattle.tables.proofs.Laws.{count-is, frame-is}
 use Rattle.tables.proofs.Valid.{kept-same}
 use Rattle.prices.specs.declared.Price.{Price}
+use Rattle.prices.specs.Prices.{priceOf}
 use Rattle.machine.specs.declared.Machine.{Machine}
 use Rattle.theory.specs.Cores.{withEviction}
 use Rattle.machine.specs.Moves.{evictionOf, coreOf, Entered}
@@ -30,13 +33,20 @@ use Rattle.machine.proofs.Laws.{entered-with}
 use Rattle.steps.specs.declared.State.{State}
 use Rattle.steps.specs.declared.Turned.{Turned}
 use Rattle.steps.specs.Frames.{framesEnd, placesIn}
-use Rattle.steps.specs.Steps.{Stays, Steps}
+use Rattle.steps.specs.Steps.{Stays, IsTurn, IsPlain}
+use Rattle.steps.proofs.Laws.{plain-turn}
+use Rattle.moves.specs.Moves.{StepsIn}
 use Rattle.turns.specs.Turns.{Started}
 
 -- a step at a point that is known
-pub steps-at : (price : Price) (t : Task) (x : State) (y z : Point) (v : ℕ) (w cache memory : List ℕ) {r : Turned} {w′ cache′ memory′ : List ℕ} → y ≡ z
-    → Steps price t x z v w cache memory r w′ cache′ memory′ → Steps price t x y v w cache memory r w′ cache′ memory′
-steps-at price t x y z v w cache memory e d = rw e d
+pub steps-at : (price : Price) (w : List ℕ) (h : Header) (x : State) (y z : Point) (v : ℕ) (cache memory : List ℕ) {r : Turned} {w′ cache′ memory′ : List ℕ}
+    → y ≡ z → StepsIn price w h x z v cache memory r w′ cache′ memory′ → StepsIn price w h x y v cache memory r w′ cache′ memory′
+steps-at price w h x y z v cache memory e d = rw e d
+
+-- one that moves nothing costs nothing
+pub plain-in : (price : Price) {m a : ℕ} {r : Turned} {w cache memory : List ℕ} {u : run.Turn} → IsPlain m a r w cache memory u
+    → IsTurn (priceOf price) m a r w cache memory u 0
+plain-in price d = plain-turn (priceOf price) (price-moves (price .start) (price .each) .none) d
 
 pub stays-same : (w : List ℕ) → Stays w w
 stays-same w = record { below = λ i l. refl; kept = kept-same framesEnd w }
@@ -56,12 +66,12 @@ module _ {w : List ℕ} {h : Header} (k : Settled w h) (some : 0 < h .funcs) whe
       let f = first-frame s e in
       (omega (arith, t .shaped .stack-low some-func), omega (arith, f, t .shaped .frames 0 some-func), omega (arith, f, frame-room (taskOf w h) t 0 some-func))
 
-  -- x: the eviction; l, the number that the machine has for it
-  pub start-is : (x : Eviction) (s : Span) (l : ℕ) (m r : Machine) (n : ℕ) → s ≡ spanAt w 0 → evictionOf l ≡ x → Entered Eager (h .stack) (s .frame) n m
+  -- v: the eviction; l, the number that the machine has for it
+  pub start-is : (v : Eviction) (s : Span) (l : ℕ) (m r : Machine) (n : ℕ) → s ≡ spanAt w 0 → evictionOf l ≡ v → Entered Eager (h .stack) (s .frame) n m
       → ((cache memory : List ℕ) → coreOf r cache memory ≡ withEviction (evictionOf l) (coreOf m cache memory)) × (r .top ≡ m .top)
-      → Started x w h n (record { depth = 1; f = 0; p = 0; machine = r; moved = 0; allowed = 0 })
+      → Started v w h n (record { depth = 1; f = 0; p = 0; machine = r; moved = 0; allowed = 0 })
   unfolding placesIn
-  start-is x s l m r n e y a b =
+  start-is v s l m r n e y a b =
       let f = k .formed .shaped .frames 0 some-func in
       let a′ = entered-with m r (evictionOf l) Eager (h .stack) (s .frame) n (omega (arith, f, first-frame s e)) a b in
       record {

@@ -19,7 +19,7 @@ use Rattle.tables.specs.Tables.{sizeAt, taskOf}
 use Rattle.tables.specs.Valid.{Settled}
 use Rattle.prices.specs.declared.Price.{Price}
 use Rattle.prices.specs.Prices.{priceOf}
-use Rattle.figures.specs.Figured.{sheetAt}
+use Rattle.readout.specs.Sheet.{sheetIn}
 use Rattle.bounds.specs.Bounds.{Bounded}
 use Rattle.machine.specs.Moves.{coreOf, OnCache}
 use Rattle.steps.specs.declared.State.{State}
@@ -28,15 +28,15 @@ use Rattle.steps.specs.Frames.{framesOf, stateOf, turnOf}
 use Rattle.steps.specs.Steps.{Stays, Added}
 use Rattle.moves.specs.Moves.{Inside}
 
--- the working space has the task, its figures and the bounds of its events, and the state is one that a run can be in: what an event starts
+-- the working space has the task, a sheet and the bounds of its events, and the state is one that a run can be in: what an event starts
 -- from. frames: those of the plain stack; sound: the sheet obeys the rules; on: the machine stands on the cache
 pub record Runs (price : Price) (w : List ℕ) (h : Header) (x : State) (cache memory : List ℕ) : Type 0 where
   pub bounded : Bounded price w h
   pub frames : List Frame
   pub same : framesOf w x ≡ places frames
-  pub sound : Sound (taskOf w h) (sheetAt price (taskOf w h))
+  pub sound : Sound (taskOf w h) (sheetIn price w h)
   pub on : OnCache (x .machine) cache
-  pub running : Running (taskOf w h) (sheetAt price (taskOf w h)) (sound .ground) frames (coreOf (x .machine) cache memory)
+  pub running : Running (taskOf w h) (sheetIn price w h) (sound .ground) frames (coreOf (x .machine) cache memory)
 
 -- the running frame, where there is one, is at a point of the task: all that a row of an event looks at
 pub record Placed (w : List ℕ) (h : Header) (x : State) : Type 0 where
@@ -50,7 +50,7 @@ actOf kind value = act (record { kind = kind; value = value })
 
 -- what the model's run does at an event
 abbrev pub modelTurn : Price → List ℕ → Header → State → List ℕ → List ℕ → Act → run.Turn
-modelTurn price w h x cache memory a = run.turn (taskOf w h) (sheetAt price (taskOf w h)) (stateOf w x cache memory) a
+modelTurn price w h x cache memory a = run.turn (taskOf w h) (sheetIn price w h) (stateOf w x cache memory) a
 
 -- an event does what the model's turn does, what its moves cost was moved more, the sheet allows more what it allows on any plain stack with these frames,
 -- and the working space is as it was but for the callers
@@ -62,7 +62,7 @@ pub record Turns (price : Price) (w : List ℕ) (h : Header) (x : State) (cache 
   pub moved : Added (x .moved) (priceOf price (modelTurn price w h x cache memory a .out) + priceOf price (modelTurn price w h x cache memory a .back))
       (r .state .moved)
   pub bound : (fs : List Frame) → framesOf w x ≡ places fs
-      → Added (x .allowed) (eventBound (taskOf w h) (sheetAt price (taskOf w h)) fs a) (r .state .allowed)
+      → Added (x .allowed) (eventBound (taskOf w h) (sheetIn price w h) fs a) (r .state .allowed)
   pub stays : Stays w w′
 
 -- function 0 has been entered on the core that evicts so, with any cache of the task's size and any memory of this many numbers; nothing was moved, and

@@ -9,7 +9,8 @@ ghost use Rattle.tables.specs.Tables.{taskOf};
 ghost use Rattle.tables.specs.Valid.{Settled};
 ghost use Rattle.machine.specs.Moves.{evictionOf};
 ghost use Rattle.steps.specs.Frames.{framesOf};
-ghost use Rattle.steps.specs.Steps.{Stays, Steps, Counts};
+ghost use Rattle.steps.specs.Steps.{Stays, Counts};
+ghost use Rattle.moves.specs.Moves.{StepsIn};
 ghost use Rattle.turns.specs.Turns.{Runs, Placed, Turns, actOf, Started, StandsAt};
 use machine::Machine;
 use model::Eviction;
@@ -36,7 +37,7 @@ fn step(
     v: u32,
 ) -> Turned
     requires { ⌜ StandsAt price (now work) h x (now cache) (now memory) s y ⌝ }
-    ensures { λ r. ⌜ Steps price (taskOf (now (work .entry)) h) x y v (now (work .entry)) (now (cache .entry)) (now (memory .entry))
+    ensures { λ r. ⌜ StepsIn price (now (work .entry)) h x y v (now (cache .entry)) (now (memory .entry))
         r (now (work .exit)) (now (cache .exit)) (now (memory .exit)) × Stays (now (work .entry)) (now (work .exit)) ⌝ }
 {
     match y {

@@ -1,14 +1,11 @@
-// The list of the dearest points of a task with its figures, or 14.
+// The list of the dearest points of a task by the sheet in the columns, or 14.
 ghost use mathlib.Core.Path.{_≡_};
 ghost use mathlib.Core.List.{List};
 ghost use Prim.Native.Nat.{ℕ};
 ghost use Rattle.model.specs.Task.{Task, task};
-ghost use Rattle.model.specs.Dearest.{dearestText};
 ghost use Rattle.model.specs.Services.{cleared};
-ghost use Rattle.tables.specs.Tables.{taskOf};
-ghost use Rattle.prices.specs.Prices.{priceOf};
-ghost use Rattle.figures.specs.Figured.{Figured};
-ghost use Rattle.dearest.specs.Ranking.{Printable, listText};
+ghost use Rattle.readout.specs.Readable.{Readable};
+ghost use Rattle.dearest.specs.Ranking.{Printable, listText, listIn};
 ghost use Rattle.serving.specs.Served.{Writes};
 use model::Limits;
 use model::Verdict;
@@ -33,11 +30,11 @@ fn write_ranks(output: &mut [u8], ranks: &[u64; Limits::DEAREST], n: usize) -> W
     }
 }
 
-// 14, or the list.
+// 14, or the list: the bytes of any service whose text of a task it is.
 pub fn write_list(output: &mut [u8], work: &[u32], h: Header, price: Price) -> WriteResult
-    requires { ⌜ Figured price (now work) h ⌝ }
-    ensures { λ r. ⌜ ((t : Task) (w w′ : List ℕ) → taskOf (now (work .entry)) h ≡ t → cleared w′ ≡ cleared w →
-        Writes (dearestText (priceOf price)) (task t) w (now (output .entry)) r w′ (now (output .exit))) ⌝ }
+    requires { ⌜ Readable price (now work) h ⌝ }
+    ensures { λ r. ⌜ ((print : Task → List ℕ) (t : Task) (w w′ : List ℕ) → listIn price (now (work .entry)) h ≡ print t → cleared w′ ≡ cleared w →
+        Writes print (task t) w (now (output .entry)) r w′ (now (output .exit))) ⌝ }
 {
     let mut ranks = [0u64; Limits::DEAREST];
     let n = dearest::rank_task(&mut ranks, work, h, price);

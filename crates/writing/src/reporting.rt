@@ -1,17 +1,14 @@
-// The report of a task with its figures, or 14.
+// The report of a task by the sheet in the columns, or 14.
 ghost use mathlib.Core.Path.{_≡_};
 ghost use mathlib.Core.List.{List};
+ghost use lib.ListN.{length};
 ghost use Prim.Native.Nat.{ℕ};
 ghost use Rattle.model.specs.Rows.{rowVerdict};
 ghost use Rattle.model.specs.Task.{Task, task};
-ghost use Rattle.model.specs.Sheet.{reportText};
-ghost use Rattle.model.specs.Refusal.{outputRows};
 ghost use Rattle.model.specs.Services.{cleared};
-ghost use Rattle.tables.specs.Tables.{taskOf};
-ghost use Rattle.prices.specs.Prices.{priceOf};
-ghost use Rattle.figures.specs.Figured.{Figured};
-ghost use Rattle.report.specs.Report.{showsOnce};
-ghost use Rattle.serving.specs.Served.{Writes};
+ghost use Rattle.readout.specs.Readable.{Readable};
+ghost use Rattle.report.specs.Report.{reportIn};
+ghost use Rattle.serving.specs.Served.{lengthRow, Writes};
 use model::Verdict;
 use model::WriteResult;
 use prices::Price;
@@ -19,8 +16,8 @@ use tables::Header;
 
 // 14, for an output of this length. The length of the report is worked out only where the output may be too short, since that takes every figure once more.
 fn report_row(room: usize, work: &[u32], h: Header, price: Price) -> Verdict
-    requires { ⌜ Figured price (now work) h ⌝ }
-    ensures { λ v. ⌜ v ≡ rowVerdict (outputRows (reportText (showsOnce price) (priceOf price)) room (taskOf (now (work .entry)) h)) ⌝ }
+    requires { ⌜ Readable price (now work) h ⌝ }
+    ensures { λ v. ⌜ v ≡ rowVerdict (lengthRow room (length (reportIn price (now (work .entry)) h))) ⌝ }
 {
     if report::most_length(h) <= room {
         return Verdict::Accepted;
@@ -28,11 +25,11 @@ fn report_row(room: usize, work: &[u32], h: Header, price: Price) -> Verdict
     serving::output_row(room, report::report_length(work, h, price))
 }
 
-// 14, or the report.
+// 14, or the report: the bytes of any service whose text of a task it is.
 pub fn write_report(output: &mut [u8], work: &[u32], h: Header, price: Price) -> WriteResult
-    requires { ⌜ Figured price (now work) h ⌝ }
-    ensures { λ r. ⌜ ((t : Task) (w w′ : List ℕ) → taskOf (now (work .entry)) h ≡ t → cleared w′ ≡ cleared w →
-        Writes (reportText (showsOnce price) (priceOf price)) (task t) w (now (output .entry)) r w′ (now (output .exit))) ⌝ }
+    requires { ⌜ Readable price (now work) h ⌝ }
+    ensures { λ r. ⌜ ((print : Task → List ℕ) (t : Task) (w w′ : List ℕ) → reportIn price (now (work .entry)) h ≡ print t → cleared w′ ≡ cleared w →
+        Writes print (task t) w (now (output .entry)) r w′ (now (output .exit))) ⌝ }
 {
     if let Verdict::Refused(r) = report_row(output.len(), work, h, price) {
         return serving::nothing_written(r);

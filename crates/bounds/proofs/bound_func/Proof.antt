@@ -2,8 +2,8 @@
 use native.Mathlib.Omega.{arith}
 use mathlib.Core.Path.{ap}
 use borrow.Author.Needs.{needs}
-use Rattle.figures.specs.declared.FuncFigures.{FuncFigures}
-use Rattle.figures.specs.Figured.{funcFigures}
+use Rattle.readout.specs.declared.FuncFigures.{FuncFigures}
+use Rattle.readout.specs.Readable.{funcFigures}
 use Rattle.bounds.proofs.Laws.{span-fits, bounded-func}
 use Rattle.bounds.proofs.bound_func.Statement.{statement}
 use Rattle.bounds.proofs.bound_func.Tie as tie
@@ -13,48 +13,48 @@ point-bounds-requires c κs =
     let c5 = c .before .before .before .before .before in
     let a = c5 .before .before .before .pre in
     let e = c5 .span-at .ensures in
-    let i = span-fits (a .0 .figured) (a .1) e .small in
-    (a .0 .figured, a .1, e, omega (arith, i), omega (arith, i))
+    let i = span-fits (a .0 .readable) (a .1) e .small in
+    (a .0 .readable, a .1, e, omega (arith, i), omega (arith, i))
 
 add-put-column : tie.Need-add-put-column
 add-put-column c =
     let c7 = c .before .before .before .before .before .before .before in
     let a = c7 .before .before .before .pre in
-    omega (arith, span-fits (a .0 .figured) (a .1) (c7 .span-at .ensures) .lies .within)
+    omega (arith, span-fits (a .0 .readable) (a .1) (c7 .span-at .ensures) .lies .within)
 
 put-column-requires : tie.Need-put-column-requires
 put-column-requires c κs =
     let c9 = c .before .before .before .before .before .before .before .before .before in
     let a = c9 .before .before .before .pre in
-    let i = span-fits (a .0 .figured) (a .1) (c9 .span-at .ensures) in
-    (omega (arith, i .lies .within, a .0 .figured .room), omega (arith, i .small))
+    let i = span-fits (a .0 .readable) (a .1) (c9 .span-at .ensures) in
+    (omega (arith, i .lies .within, a .0 .readable .room), omega (arith, i .small))
 
 add-put-column-2 : tie.Need-add-put-column-2
 add-put-column-2 c =
     let c13 = c .before .before .before .before .before .before .before .before .before .before .before .before .before in
     let a = c13 .before .before .before .pre in
-    omega (arith, span-fits (a .0 .figured) (a .1) (c13 .span-at .ensures) .lies .within)
+    omega (arith, span-fits (a .0 .readable) (a .1) (c13 .span-at .ensures) .lies .within)
 
 put-column-requires-2 : tie.Need-put-column-requires-2
 put-column-requires-2 c κs =
     let c5 = c .before .before .before .before .before in
     let c15 = c5 .before .before .before .before .before .before .before .before .before .before in
     let a = c15 .before .before .before .pre in
-    let i = span-fits (a .0 .figured) (a .1) (c15 .span-at .ensures) in
-    (omega (arith, i .lies .within, a .0 .figured .room, c5 .put-column .ensures .changed .size), omega (arith, i .small))
+    let i = span-fits (a .0 .readable) (a .1) (c15 .span-at .ensures) in
+    (omega (arith, i .lies .within, a .0 .readable .room, c5 .put-column .ensures .changed .size), omega (arith, i .small))
 
 -- the place of the spill
 add-work : tie.Need-add-work
 add-work c =
     let c10 = c .before .before .before .before .before .before .before .before .before .before in
     let a = c10 .before .before .before .before .before .before .before .before .before .before .before .pre in
-    omega (arith, a .1, a .0 .figured .settled .holds .few)
+    omega (arith, a .1, a .0 .readable .settled .holds .few)
 
 mul-work : tie.Need-mul-work
 mul-work c =
     let c10 = c .before .before .before .before .before .before .before .before .before .before in
     let a = c10 .before .before .before .before .before .before .before .before .before .before .before .pre in
-    omega (arith, a .1, a .0 .figured .settled .holds .few)
+    omega (arith, a .1, a .0 .readable .settled .holds .few)
 
 slice-write-work : tie.Need-slice-write-work
 slice-write-work c =
@@ -64,8 +64,8 @@ slice-write-work c =
     omega (
       arith,
       a .1,
-      a .0 .figured .room,
-      a .0 .figured .settled .holds .few,
+      a .0 .readable .room,
+      a .0 .readable .settled .holds .few,
       c8 .put-column .ensures .changed .size,
       c .before .before .put-column2 .ensures .changed .size,
     )

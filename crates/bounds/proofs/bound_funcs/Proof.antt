@@ -21,7 +21,7 @@ bound-func-requires c κs =
 add-f : tie.Need-add-f Inv-loop μ-loop
 add-f c =
     let c6 = c .before .before .before .before .before .before in
-    omega (arith, c6 .loop-test .taken, c6 .before .loop .inv .1 .figured .settled .holds .few)
+    omega (arith, c6 .loop-test .taken, c6 .before .loop .inv .1 .readable .settled .holds .few)
 
 loop-less : tie.Need-loop-less Inv-loop μ-loop
 loop-less c = omega (arith, c .before .before .before .before .before .before .loop-test .taken)
@@ -35,7 +35,7 @@ loop-again c =
 returns : tie.Need-returns Inv-loop μ-loop
 returns c =
     let l = c .before .loop in
-    bounded-all (c .before .before .before .pre) (omega arith) (l .inv .1) (l .inv .2)
+    (bounded-all (omega arith) (l .inv .1), l .inv .2)
 
 pub bound-funcs-spec : {M : Type 1} → statement M
 bound-funcs-spec =

@@ -3,17 +3,16 @@ use Prim.Native.Nat.{ℕ, _-_, _≤_}
 use native.Mathlib.Omega.{arith}
 use mathlib.Core.Path.{_≡_, ap, subst}
 use Rattle.model.specs.Sheet.{PointSheet}
-use Rattle.tables.specs.Tables.{taskOf}
 use Rattle.problems.specs.Problems.{Filled}
 use Rattle.problems.proofs.Laws.{filled-none, filled-more}
-use Rattle.figures.specs.Figured.{sheetAt}
+use Rattle.readout.specs.Sheet.{sheetIn}
 use Rattle.bounds.proofs.point_bounds.Statement.{statement}
 use Rattle.bounds.proofs.point_bounds.Tie as tie
 
 abbrev Inv-loop : tie.InvT-loop
 Inv-loop work h price f s costs₀ fills₀ n p₀ costs fills p =
-    (p ≤ n) × Filled (λ q v. v ≡ sheetAt price (taskOf work h) .at f q .cost) p costs₀ costs
-    × Filled (λ q v. v ≡ sheetAt price (taskOf work h) .at f q .fill) p fills₀ fills
+    (p ≤ n) × Filled (λ q v. v ≡ sheetIn price work h .at f q .cost) p costs₀ costs
+    × Filled (λ q v. v ≡ sheetIn price work h .at f q .fill) p fills₀ fills
 
 abbrev μ-loop : tie.MeasureT-loop
 μ-loop work h price f s costs₀ fills₀ n p₀ costs fills p = n - p
@@ -37,7 +36,7 @@ returns c =
     let l = c .before .loop in
     let a = c .before .before .before .before .before .args in
     let e : l .p ≡ a .s .size = omega arith in
-    let t = sheetAt (a .price) (taskOf (a .work .now) (a .h)) in (
+    let t = sheetIn (a .price) (a .work .now) (a .h) in (
       subst (λ (n : ℕ). Filled (λ q v. v ≡ t .at (a .f) q .cost) n (a .costs .now) (l .costs)) e (l .inv .1),
       subst (λ (n : ℕ). Filled (λ q v. v ≡ t .at (a .f) q .fill) n (a .fills .now) (l .fills)) e (l .inv .2),
     )

@@ -2,8 +2,9 @@
 use native.Mathlib.Omega.{arith}
 use mathlib.Core.Path.{ap, _∙_}
 use Rattle.model.specs.Sheet as sheet
-use Rattle.figures.proofs.Limits.{save-low}
-use Rattle.figures.proofs.Read.{size-low}
+use Rattle.tables.specs.declared.Span.{Span}
+use Rattle.readout.proofs.Limits.{figures-low}
+use Rattle.readout.proofs.Read.{size-low}
 use Rattle.dearest.specs.Ranking.{rankOf}
 use borrow.Author.Needs.{needs}
 use Rattle.dearest.proofs.rank_at.Statement.{statement}
@@ -13,10 +14,11 @@ rank-with-requires : tie.Need-rank-with-requires
 rank-with-requires c κs =
     let a = c .before .before .args in
     let k = c .before .before .pre .0 in
+    let i = ap (λ (s : Span). s .size) (k .span) in
     let e = ap (λ (x : sheet.PointSheet). x .save) (c .point-figures .ensures) in (
-      omega (arith, k .low, k .figured .settled .holds .few),
+      omega (arith, k .low, k .readable .settled .holds .few),
       omega (arith, size-low k),
-      omega (arith, e, save-low (k .figured .settled .formed .shaped) (a .price) (k .figured .small) (a .f) (a .p)),
+      omega (arith, e, figures-low (k .readable) (a .f) (k .low) (a .p) (omega (arith, i)) .save),
     )
 
 returns : tie.Need-returns

@@ -4,7 +4,8 @@ use Prim.Native.Nat.{_-_, _≤_}
 use mathlib.Core.Path.{_≡_}
 use Rattle.model.specs.Basic.{joined, countFrom}
 use Rattle.tables.specs.Tables.{taskOf}
-use Rattle.figures.proofs.Read.{there}
+use Rattle.readout.specs.Sheet.{sheetIn}
+use Rattle.readout.proofs.Read.{there}
 use Rattle.ranks.specs.Ranks.{best}
 use Rattle.ranks.proofs.Laws.{best-none, falling-best, length-best}
 use Rattle.dearest.specs.Ranking.{funcRanks}
@@ -14,7 +15,7 @@ use Rattle.dearest.proofs.rank_funcs.Statement.{statement}
 use Rattle.dearest.proofs.rank_funcs.Tie as tie
 
 abbrev Inv-loop : tie.InvT-loop
-Inv-loop ranks₀ work h price funcs f₀ ranks f = (f ≤ h .funcs) × (ranks ≡ best ranks₀ (funcRanks price (taskOf work h) f))
+Inv-loop ranks₀ work h price funcs f₀ ranks f = (f ≤ h .funcs) × (ranks ≡ best ranks₀ (funcRanks (taskOf work h) (sheetIn price work h) f))
 
 abbrev μ-loop : tie.MeasureT-loop
 μ-loop ranks₀ work h price funcs f₀ ranks f = h .funcs - f
@@ -42,8 +43,8 @@ loop-again c =
     let l = c .before .before .before .before .loop in
     let taken = rw (c .before .before .span-at .ensures) at (c .rank-points .ensures) in (
       omega arith,
-      taken-more (a .ranks .now) (funcRanks (a .price) (taskOf (a .work .now) (a .h)) (l .f)) _ (l .inv .1) taken
-          (funcs-more (a .price) (a .work .now) (a .h) (l .f) (omega arith)),
+      taken-more (a .ranks .now) (funcRanks (taskOf (a .work .now) (a .h)) (sheetIn (a .price) (a .work .now) (a .h)) (l .f)) _ (l .inv .1) taken
+          (funcs-more (sheetIn (a .price) (a .work .now) (a .h)) (a .work .now) (a .h) (l .f) (omega arith)),
     )
 
 returns : tie.Need-returns Inv-loop μ-loop

@@ -3,8 +3,8 @@ use native.Mathlib.Omega.{arith}
 use Prim.Native.Nat.{_-_, _≤_}
 use mathlib.Core.Path.{_≡_}
 use Rattle.model.specs.Basic.{countFrom}
-use Rattle.tables.specs.Tables.{taskOf}
-use Rattle.figures.proofs.Read.{size-low}
+use Rattle.readout.specs.Sheet.{sheetIn}
+use Rattle.readout.proofs.Read.{size-low}
 use Rattle.ranks.specs.Ranks.{best}
 use Rattle.ranks.proofs.Laws.{best-none, falling-best}
 use Rattle.dearest.specs.Ranking.{pointRanks}
@@ -13,7 +13,7 @@ use Rattle.dearest.proofs.rank_points.Statement.{statement}
 use Rattle.dearest.proofs.rank_points.Tie as tie
 
 abbrev Inv-loop : tie.InvT-loop
-Inv-loop ranks₀ work h price f s size p₀ ranks p = (p ≤ s .size) × (ranks ≡ best ranks₀ (pointRanks price (taskOf work h) f p))
+Inv-loop ranks₀ work h price f s size p₀ ranks p = (p ≤ s .size) × (ranks ≡ best ranks₀ (pointRanks (sheetIn price work h) f p))
 
 abbrev μ-loop : tie.MeasureT-loop
 μ-loop ranks₀ work h price f s size p₀ ranks p = s .size - p
@@ -37,9 +37,9 @@ loop-again : tie.Need-loop-again Inv-loop μ-loop
 loop-again c =
     let a = c .before .before .before .before .before .before .args in
     let l = c .before .before .before .before .loop in
-    let t = taskOf (a .work .now) (a .h) in
+    let t = sheetIn (a .price) (a .work .now) (a .h) in
     let taken = rw (c .before .before .rank-at .ensures) at (c .take-in .ensures) in
-    (omega arith, taken-more (a .ranks .now) (pointRanks (a .price) t (a .f) (l .p)) _ (l .inv .1) taken (points-more (a .price) t (a .f) (l .p)))
+    (omega arith, taken-more (a .ranks .now) (pointRanks t (a .f) (l .p)) _ (l .inv .1) taken (points-more t (a .f) (l .p)))
 
 returns : tie.Need-returns Inv-loop μ-loop
 returns c =

@@ -2,10 +2,9 @@
 use mathlib.Core.Path.{ap, _∙_}
 use lib.ListN.{length}
 use Rattle.model.specs.Limits.{mostDearest}
-use Rattle.tables.specs.Tables.{taskOf}
 use Rattle.ranks.specs.Ranks.{best}
 use Rattle.ranks.proofs.Laws.{zeros-fall}
-use Rattle.dearest.specs.Ranking.{funcRanks}
+use Rattle.dearest.specs.Ranking.{ranksIn}
 use Rattle.dearest.proofs.Laws.{listing}
 use borrow.Author.Needs.{needs}
 use Rattle.dearest.proofs.rank_task.Statement.{statement}
@@ -20,7 +19,7 @@ returns : tie.Need-returns
 returns c =
     let start = c .before .before .before .before in
     let a = start .args in
-    let e = c .before .rank-funcs .ensures ∙ ap (λ l. best l (funcRanks (a .price) (taskOf (a .work .now) (a .h)) (a .h .funcs))) (start .pre .1) in
+    let e = c .before .rank-funcs .ensures ∙ ap (λ l. best l (ranksIn (a .price) (a .work .now) (a .h))) (start .pre .1) in
     listing _ _ (start .pre .0) e (c .listed .ensures)
 
 pub rank-task-spec : {M : Type 1} → statement M

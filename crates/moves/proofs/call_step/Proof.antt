@@ -13,13 +13,13 @@ returns c =
     let u = r .before .before .before .before .before in
     let i = u .before .before .before .before .before in
     let n = i .before .before .wide .ensures in
-    let s = i .before .before .before .before .before .before in
-    let p = s .pre in (
+    let start = i .before .before .before .before .before .before in
+    let p = start .pre in (
       λ v.
-          enters-does _ _ (s .args .x) _ _ _ _ _ _ _ v (p .some) (p .few) (omega (arith, p .bounded .figured .room)) n (callee-frame p n (i .span-at .ensures))
+          enters-does _ (start .args .h) (start .args .x) _ _ _ _ _ _ _ v (p .some) (p .few) (omega (arith, p .bounded .readable .room)) n (callee-frame p n (i .span-at .ensures))
           (callee-spill p n) (c .before .before .before .moves-price .ensures) (c .before .added .ensures) (c .added2 .ensures) (u .put-caller .ensures)
           (r .reserve .ensures),
-      caller-stays _ (s .args .x .depth - 1) _ _ (omega (arith, p .some, p .few)) _ (u .put-caller .ensures),
+      caller-stays _ (start .args .x .depth - 1) _ _ (omega (arith, p .some, p .few)) _ (u .put-caller .ensures),
     )
 
 reserve-requires : tie.Need-reserve-requires
@@ -33,7 +33,7 @@ moves-price-requires : tie.Need-moves-price-requires
 moves-price-requires c κs =
     let i = c .before .before .before .before .before .before .before .before .before .before .before .before .before in
     let p = i .before .before .before .before .before .before .pre in (
-      p .bounded .figured .small,
+      p .bounded .readable .small,
       callee-few p (i .before .before .wide .ensures) (i .span-at .ensures) (c .before .before .before .reserve .ensures .blocks),
       omega arith,
     )
@@ -55,7 +55,7 @@ added-requires-2 c κs =
 put-caller-requires : tie.Need-put-caller-requires
 put-caller-requires c κs =
     let p = c .before .before .before .before .before .before .before .before .before .before .pre in
-    omega (arith, p .bounded .figured .room, p .some, p .few, p .fn-in, p .small)
+    omega (arith, p .bounded .readable .room, p .some, p .few, p .fn-in, p .small)
 
 pub call-step-spec : {M : Type 1} → statement M
 call-step-spec =

@@ -11,15 +11,15 @@ use Rattle.moves.proofs.ensure_step.Tie as tie
 moves-price-requires : tie.Need-moves-price-requires
 moves-price-requires c κs =
     let e = c .before .before .before in
-    let s = e .before .before .before .before .before .before .before in
-    let o = coreOf (s .args .x .machine) (s .args .cache .now) (s .args .memory .now) in
-    (s .pre .0 .bounded .figured .small, omega arith, omega (arith, e .ensure .ensures .blocks, ensure-blocks o (s .args .k), s .pre .4))
+    let start = e .before .before .before .before .before .before .before in
+    let o = coreOf (start .args .x .machine) (start .args .cache .now) (start .args .memory .now) in
+    (start .pre .0 .bounded .readable .small, omega arith, omega (arith, e .ensure .ensures .blocks, ensure-blocks o (start .args .k), start .pre .4))
 
 returns : tie.Need-returns
 returns c =
     let e = c .before .before .before .before .before .before .before in
-    let s = e .before .before .before .before .before .before .before in
-    λ v. ensure-does _ _ (s .args .x) _ _ _ _ v (s .pre .0 .some) _ _ (omega arith) (fill-inside (s .pre .0) (e .before .before .before .figure-at .ensures))
+    let start = e .before .before .before .before .before .before .before in
+    λ v. ensure-does _ (start .args .h) (start .args .x) _ _ _ _ v (start .pre .0 .some) _ _ (omega arith) (fill-inside (start .pre .0) (e .before .before .before .figure-at .ensures))
     (c .before .before .before .moves-price .ensures) (c .before .added .ensures) (c .added2 .ensures) (e .ensure .ensures)
 
 pub ensure-step-spec : {M : Type 1} → statement M

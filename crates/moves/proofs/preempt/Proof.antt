@@ -1,7 +1,7 @@
 -- Both halves, by the figures of the point, and the sheet allows the cost.
 use native.Mathlib.Omega.{arith}
 use borrow.Author.Needs.{needs}
-use Rattle.figures.specs.Columns.{deadColumn, needColumn}
+use Rattle.columns.specs.Columns.{deadColumn, needColumn}
 use Rattle.bounds.specs.Bounds.{costBounds}
 use Rattle.machine.proofs.Kept.{written-few}
 use Rattle.moves.proofs.Laws.{preempt-does, read-inside, dead-inside, need-inside, cost-inside}
@@ -13,15 +13,15 @@ moves-price-requires c κs =
     let e = c .before .before .before .before .before in
     let p = e .before .before .before .before .before .before .before .before .before .before .pre in
     let d = e .preempt .ensures in
-    (p .0 .bounded .figured .small, omega (arith, d .out, written-few _ (p .2), p .2 .fits, p .1 .few), omega (arith, d .back, p .2 .fits, p .1 .few))
+    (p .0 .bounded .readable .small, omega (arith, d .out, written-few _ (p .2), p .2 .fits, p .1 .few), omega (arith, d .back, p .2 .fits, p .1 .few))
 
 returns : tie.Need-returns
 returns c =
     let e = c .before .before .before .before .before .before .before .before in
     let f = e .before .before .before .before in
-    let s = f .before .before .before .before .before .before in
-    let k = s .pre .0 in
-    preempt-does _ _ (s .args .x) _ _ _ _ _ (k .some) _ _ (dead-inside k (f .before .before .figure-at .ensures)) (need-inside k (f .before .figure-at2 .ensures))
+    let start = f .before .before .before .before .before .before in
+    let k = start .pre .0 in
+    preempt-does _ (start .args .h) (start .args .x) _ _ _ _ _ (k .some) _ _ (dead-inside k (f .before .before .figure-at .ensures)) (need-inside k (f .before .figure-at2 .ensures))
     (cost-inside k (f .figure-at3 .ensures)) (c .before .before .moves-price .ensures) (c .before .added .ensures) (c .added2 .ensures) (e .preempt .ensures)
 
 added-requires : tie.Need-added-requires

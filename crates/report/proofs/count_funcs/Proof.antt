@@ -2,7 +2,6 @@
 use native.Mathlib.Omega.{arith}
 use Prim.Native.Nat.{_-_, _≤_}
 use mathlib.Core.Path.{_≡_}
-use Rattle.tables.specs.Tables.{taskOf}
 use Rattle.report.specs.Report.{funcPart, funcsPart, Counts}
 use Rattle.report.proofs.Laws.{none-counted, next-counted, next-has-room}
 use Rattle.report.proofs.count_funcs.Statement.{statement}
@@ -10,7 +9,7 @@ use Rattle.report.proofs.count_funcs.Tie as tie
 
 abbrev Inv-loop : tie.InvT-loop
 Inv-loop work h price funcs lines f₀ so-far f =
-    (f ≤ h .funcs) × Counts lines (funcsPart price (taskOf work h) f) so-far
+    (f ≤ h .funcs) × Counts lines (funcsPart price work h f) so-far
 
 abbrev μ-loop : tie.MeasureT-loop
 μ-loop work h price funcs lines f₀ so-far f = h .funcs - f
@@ -18,13 +17,13 @@ abbrev μ-loop : tie.MeasureT-loop
 loop-holds : tie.Need-loop-holds Inv-loop μ-loop
 loop-holds c =
     let a = c .before .args in
-    (omega arith, none-counted (funcPart (a .price) (taskOf (a .work .now) (a .h))) (a .lines))
+    (omega arith, none-counted (funcPart (a .price) (a .work .now) (a .h)) (a .lines))
 
 count-func-requires : tie.Need-count-func-requires Inv-loop μ-loop
 count-func-requires c κs =
     let start = c .before .before .before in
     let a = start .args in
-    let part = funcPart (a .price) (taskOf (a .work .now) (a .h)) in
+    let part = funcPart (a .price) (a .work .now) (a .h) in
     (start .pre .0, omega arith, next-has-room part (c .before .loop .f) (a .h .funcs) (omega arith) (start .pre .1) (c .before .loop .inv .1))
 
 add-f : tie.Need-add-f Inv-loop μ-loop
@@ -37,7 +36,7 @@ loop-again : tie.Need-loop-again Inv-loop μ-loop
 loop-again c =
     let a = c .before .before .before .before .args in
     let l = c .before .before .loop in
-    let part = funcPart (a .price) (taskOf (a .work .now) (a .h)) in
+    let part = funcPart (a .price) (a .work .now) (a .h) in
     (omega arith, next-counted part (l .f) (l .inv .1) (c .count-func .ensures))
 
 returns : tie.Need-returns Inv-loop μ-loop

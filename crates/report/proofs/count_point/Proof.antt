@@ -3,8 +3,7 @@ use native.Mathlib.Omega.{arith}
 use mathlib.Core.Path.{ap, _∙_}
 use lib.ListN.{length}
 use Rattle.model.specs.Sheet.{PointSheet}
-use Rattle.tables.specs.Tables.{taskOf}
-use Rattle.figures.proofs.Read.{size-low}
+use Rattle.readout.proofs.Read.{size-low}
 use Rattle.report.specs.Report.{pointPart}
 use Rattle.report.proofs.Limits.{sums-read}
 use Rattle.report.proofs.Laws.{point-row, line-counted}
@@ -14,7 +13,7 @@ use Rattle.report.proofs.count_point.Tie as tie
 
 line-length-requires : tie.Need-line-length-requires
 line-length-requires c κs =
-    let s = c .before .before in (omega (arith, size-low (s .pre .0)), sums-read (s .pre .0) (s .args .p) (c .point-figures .ensures))
+    let s = c .before .before in (omega (arith, size-low (s .pre .0)), sums-read (s .pre .0) (s .args .p) (s .pre .1) (c .point-figures .ensures))
 
 add-and-line : tie.Need-add-and-line
 add-and-line c =
@@ -32,7 +31,7 @@ returns c =
     let a = c .before .before .before .before .before .args in
     let figures = c .before .before .before .point-figures .ensures in
     line-counted
-    (pointPart (a .price) (taskOf (a .work .now) (a .h)) (a .f) (a .p))
+    (pointPart (a .price) (a .work .now) (a .h) (a .f) (a .p))
     (ap (λ (x : PointSheet). x .cost) figures)
     (c .before .before .line-length .ensures ∙ ap length (point-row (a .price) (a .f) (a .p) figures))
     (c .and-line .ensures)

@@ -2,8 +2,7 @@
 use native.Mathlib.Omega.{arith}
 use Prim.Native.Nat.{_-_, _≤_}
 use mathlib.Core.Path.{_≡_}
-use Rattle.tables.specs.Tables.{taskOf}
-use Rattle.figures.proofs.Read.{size-low}
+use Rattle.readout.proofs.Read.{size-low}
 use Rattle.report.specs.Report.{pointPart, pointsPart, Counts}
 use Rattle.report.proofs.Laws.{none-counted, next-counted, next-has-room}
 use Rattle.report.proofs.count_points.Statement.{statement}
@@ -11,7 +10,7 @@ use Rattle.report.proofs.count_points.Tie as tie
 
 abbrev Inv-loop : tie.InvT-loop
 Inv-loop work h price f s size lines p₀ so-far p =
-    (p ≤ s .size) × Counts lines (pointsPart price (taskOf work h) f p) so-far
+    (p ≤ s .size) × Counts lines (pointsPart price work h f p) so-far
 
 abbrev μ-loop : tie.MeasureT-loop
 μ-loop work h price f s size lines p₀ so-far p = s .size - p
@@ -19,13 +18,13 @@ abbrev μ-loop : tie.MeasureT-loop
 loop-holds : tie.Need-loop-holds Inv-loop μ-loop
 loop-holds c =
     let a = c .before .args in
-    (omega arith, none-counted (pointPart (a .price) (taskOf (a .work .now) (a .h)) (a .f)) (a .lines))
+    (omega arith, none-counted (pointPart (a .price) (a .work .now) (a .h) (a .f)) (a .lines))
 
 count-point-requires : tie.Need-count-point-requires Inv-loop μ-loop
 count-point-requires c κs =
     let start = c .before .before .before in
     let a = start .args in
-    let part = pointPart (a .price) (taskOf (a .work .now) (a .h)) (a .f) in
+    let part = pointPart (a .price) (a .work .now) (a .h) (a .f) in
     (start .pre .0, omega arith, next-has-room part (c .before .loop .p) (a .s .size) (omega arith) (start .pre .1) (c .before .loop .inv .1))
 
 add-p : tie.Need-add-p Inv-loop μ-loop
@@ -38,7 +37,7 @@ loop-again : tie.Need-loop-again Inv-loop μ-loop
 loop-again c =
     let a = c .before .before .before .before .args in
     let l = c .before .before .loop in
-    let part = pointPart (a .price) (taskOf (a .work .now) (a .h)) (a .f) in
+    let part = pointPart (a .price) (a .work .now) (a .h) (a .f) in
     (omega arith, next-counted part (l .p) (l .inv .1) (c .count-point .ensures))
 
 returns : tie.Need-returns Inv-loop μ-loop

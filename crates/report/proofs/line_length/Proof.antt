@@ -2,7 +2,7 @@
 use mathlib.Core.Bool.{true, false}
 use mathlib.Core.Path.{ap, sym, _∙_}
 use lib.ListN.{length}
-use Rattle.figures.specs.Figured.{figuredOf}
+use Rattle.readout.specs.Readable.{figuredOf}
 use Rattle.report.proofs.Laws.{shown-row}
 use borrow.Author.Needs.{needs}
 use Rattle.report.proofs.line_length.Statement.{statement}

@@ -2,8 +2,7 @@
 use native.Mathlib.Omega.{arith}
 use mathlib.Core.Path.{refl, ap}
 use lib.ListN.{length}
-use Rattle.tables.specs.Tables.{taskOf}
-use Rattle.figures.proofs.Read.{there}
+use Rattle.readout.proofs.Read.{there}
 use Rattle.report.specs.Report.{headPart, pointsPart}
 use Rattle.report.proofs.Laws.{line-added, adds-both, adds-counts, room-first, room-second, room-start, opened-func}
 use borrow.Author.Needs.{needs}
@@ -17,7 +16,7 @@ returns c =
     let start = row .before .before .before .before .before .before .before .before in
     let a = start .args in
     let k = there (start .pre .0) (start .pre .1) span in
-    let part = headPart (a .price) (taskOf (a .work .now) (a .h)) (a .f) in
+    let part = headPart (a .price) (a .work .now) (a .h) (a .f) in
     let own = row .before .before .func-numbers .ensures .0 in
     let head = line-added part refl own (row .put-row .ensures) (c .before .before .before .before .and-line .ensures) in
     rw (opened-func k) (adds-both (room-start (start .pre .2)) head (c .before .before .put-points .ensures))
@@ -28,8 +27,8 @@ put-row-requires c κs =
     let start = c .before .before .before .before .before .before .before in
     let a = start .args in
     let k = there (start .pre .0) (start .pre .1) (span .ensures) in
-    let part = headPart (a .price) (taskOf (a .work .now) (a .h)) (a .f) in
-    let points = pointsPart (a .price) (taskOf (a .work .now) (a .h)) (a .f) (span .result .size) in
+    let part = headPart (a .price) (a .work .now) (a .h) (a .f) in
+    let points = pointsPart (a .price) (a .work .now) (a .h) (a .f) (span .result .size) in
     let room = room-first part points (rw (opened-func k) at (start .pre .2)) in
     omega (arith, room .bytes, ap length (c .before .func-numbers .ensures .0))
 
@@ -40,8 +39,8 @@ put-points-requires c κs =
     let start = row .before .before .before .before .before .before .before .before in
     let a = start .args in
     let k = there (start .pre .0) (start .pre .1) (span .ensures) in
-    let part = headPart (a .price) (taskOf (a .work .now) (a .h)) (a .f) in
-    let points = pointsPart (a .price) (taskOf (a .work .now) (a .h)) (a .f) (span .result .size) in
+    let part = headPart (a .price) (a .work .now) (a .h) (a .f) in
+    let points = pointsPart (a .price) (a .work .now) (a .h) (a .f) (span .result .size) in
     let own = row .before .before .func-numbers .ensures .0 in
     let head = line-added part refl own (row .put-row .ensures) (c .before .and-line .ensures) in
     let room = room-second part points (rw (opened-func k) at (start .pre .2)) (adds-counts head) in

@@ -3,7 +3,6 @@ use native.Mathlib.Omega.{arith}
 use Prim.Native.Nat.{_-_, _≤_}
 use mathlib.Core.Path.{_≡_, refl}
 use lib.ListN.{length}
-use Rattle.tables.specs.Tables.{taskOf}
 use Rattle.report.specs.Report.{funcPart, funcsPart, Adds}
 use Rattle.report.proofs.Laws.{adds-counts, none-added, next-added, next-has-room, room-start}
 use Rattle.report.proofs.put_funcs.Statement.{statement}
@@ -11,7 +10,7 @@ use Rattle.report.proofs.put_funcs.Tie as tie
 
 abbrev Inv-loop : tie.InvT-loop
 Inv-loop out₀ work h price funcs lines f₀ out so-far f =
-    (f ≤ h .funcs) × (length out ≡ length out₀) × Adds lines (funcsPart price (taskOf work h) f) out₀ so-far out
+    (f ≤ h .funcs) × (length out ≡ length out₀) × Adds lines (funcsPart price work h f) out₀ so-far out
 
 abbrev μ-loop : tie.MeasureT-loop
 μ-loop out₀ work h price funcs lines f₀ out so-far f = h .funcs - f
@@ -19,14 +18,14 @@ abbrev μ-loop : tie.MeasureT-loop
 loop-holds : tie.Need-loop-holds Inv-loop μ-loop
 loop-holds c =
     let a = c .before .before .args in
-    (omega arith, refl, none-added (funcPart (a .price) (taskOf (a .work .now) (a .h))) (a .lines) (a .out .now))
+    (omega arith, refl, none-added (funcPart (a .price) (a .work .now) (a .h)) (a .lines) (a .out .now))
 
 put-func-requires : tie.Need-put-func-requires Inv-loop μ-loop
 put-func-requires c κs =
     let start = c .before .before .before .before .before in
     let a = start .args in
     let l = c .before .before .loop in
-    let part = funcPart (a .price) (taskOf (a .work .now) (a .h)) in
+    let part = funcPart (a .price) (a .work .now) (a .h) in
     let room = next-has-room part (l .f) (a .h .funcs) (omega arith) (start .pre .1) (adds-counts (l .inv .2)) in
     (start .pre .0, omega arith, rw (l .inv .1) room)
 
@@ -41,7 +40,7 @@ loop-again c =
     let start = c .before .before .before .before .before .before .before .before in
     let a = start .args in
     let l = c .before .before .before .before .before .loop in
-    let part = funcPart (a .price) (taskOf (a .work .now) (a .h)) in
+    let part = funcPart (a .price) (a .work .now) (a .h) in
     (omega arith, omega arith, next-added part (l .f) (room-start (start .pre .1)) (l .inv .2) (c .before .before .put-func .ensures))
 
 same-length : tie.Need-same-length Inv-loop μ-loop

@@ -3,7 +3,7 @@ use native.Mathlib.Omega.{arith}
 use mathlib.Core.Bool.{true, false}
 use mathlib.Core.Path.{ap, sym, _∙_}
 use lib.ListN.{length}
-use Rattle.figures.specs.Figured.{figuredOf}
+use Rattle.readout.specs.Readable.{figuredOf}
 use Rattle.report.proofs.Laws.{shown-row, shown-wrote}
 use borrow.Author.Needs.{needs}
 use Rattle.report.proofs.put_line.Statement.{statement}

@@ -3,8 +3,7 @@ use native.Mathlib.Omega.{arith}
 use mathlib.Core.Path.{ap}
 use lib.ListN.{length}
 use Rattle.model.specs.Sheet.{PointSheet}
-use Rattle.tables.specs.Tables.{taskOf}
-use Rattle.figures.proofs.Read.{size-low}
+use Rattle.readout.proofs.Read.{size-low}
 use Rattle.report.specs.Report.{pointPart}
 use Rattle.report.proofs.Limits.{sums-read}
 use Rattle.report.proofs.Laws.{point-row, line-added}
@@ -17,7 +16,7 @@ put-line-requires c κs =
     let s = c .before .before .before .before in
     let figures = c .before .point-figures .ensures in (
       omega (arith, size-low (s .pre .0)),
-      sums-read (s .pre .0) (s .args .p) figures,
+      sums-read (s .pre .0) (s .args .p) (s .pre .1) figures,
       omega (arith, ap length (point-row (s .args .price) (s .args .f) (s .args .p) figures), s .pre .2 .bytes),
     )
 
@@ -31,7 +30,7 @@ returns c =
     let a = c .before .before .before .before .before .before .before .before .args in
     let figures = c .before .before .before .before .before .point-figures .ensures in
     line-added
-    (pointPart (a .price) (taskOf (a .work .now) (a .h)) (a .f) (a .p))
+    (pointPart (a .price) (a .work .now) (a .h) (a .f) (a .p))
     (ap (λ (x : PointSheet). x .cost) figures)
     (point-row (a .price) (a .f) (a .p) figures)
     (c .before .before .before .put-line .ensures)

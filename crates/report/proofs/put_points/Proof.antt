@@ -3,8 +3,7 @@ use native.Mathlib.Omega.{arith}
 use Prim.Native.Nat.{_-_, _≤_}
 use mathlib.Core.Path.{_≡_, refl}
 use lib.ListN.{length}
-use Rattle.tables.specs.Tables.{taskOf}
-use Rattle.figures.proofs.Read.{size-low}
+use Rattle.readout.proofs.Read.{size-low}
 use Rattle.report.specs.Report.{pointPart, pointsPart, Adds}
 use Rattle.report.proofs.Laws.{adds-counts, none-added, next-added, next-has-room, room-start}
 use Rattle.report.proofs.put_points.Statement.{statement}
@@ -12,7 +11,7 @@ use Rattle.report.proofs.put_points.Tie as tie
 
 abbrev Inv-loop : tie.InvT-loop
 Inv-loop out₀ work h price f s size lines p₀ out so-far p =
-    (p ≤ s .size) × (length out ≡ length out₀) × Adds lines (pointsPart price (taskOf work h) f p) out₀ so-far out
+    (p ≤ s .size) × (length out ≡ length out₀) × Adds lines (pointsPart price work h f p) out₀ so-far out
 
 abbrev μ-loop : tie.MeasureT-loop
 μ-loop out₀ work h price f s size lines p₀ out so-far p = s .size - p
@@ -20,14 +19,14 @@ abbrev μ-loop : tie.MeasureT-loop
 loop-holds : tie.Need-loop-holds Inv-loop μ-loop
 loop-holds c =
     let a = c .before .before .args in
-    (omega arith, refl, none-added (pointPart (a .price) (taskOf (a .work .now) (a .h)) (a .f)) (a .lines) (a .out .now))
+    (omega arith, refl, none-added (pointPart (a .price) (a .work .now) (a .h) (a .f)) (a .lines) (a .out .now))
 
 put-point-requires : tie.Need-put-point-requires Inv-loop μ-loop
 put-point-requires c κs =
     let start = c .before .before .before .before .before in
     let a = start .args in
     let l = c .before .before .loop in
-    let part = pointPart (a .price) (taskOf (a .work .now) (a .h)) (a .f) in
+    let part = pointPart (a .price) (a .work .now) (a .h) (a .f) in
     let room = next-has-room part (l .p) (a .s .size) (omega arith) (start .pre .1) (adds-counts (l .inv .2)) in
     (start .pre .0, omega arith, rw (l .inv .1) room)
 
@@ -42,7 +41,7 @@ loop-again c =
     let start = c .before .before .before .before .before .before .before .before in
     let a = start .args in
     let l = c .before .before .before .before .before .loop in
-    let part = pointPart (a .price) (taskOf (a .work .now) (a .h)) (a .f) in
+    let part = pointPart (a .price) (a .work .now) (a .h) (a .f) in
     (omega arith, omega arith, next-added part (l .p) (room-start (start .pre .1)) (l .inv .2) (c .before .before .put-point .ensures))
 
 same-length : tie.Need-same-length Inv-loop μ-loop

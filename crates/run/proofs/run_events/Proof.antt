@@ -23,9 +23,9 @@ abbrev μ-loop : tie.MeasureT-loop
 
 -- an event is left, and its answer has a place
 bounds : (l : tie.In-loop Inv-loop μ-loop)
-    → let s = l .before .before .before .before .before .before .before .before .before in
+    → let start = l .before .before .before .before .before .before .before .before .before in
     let x = l .before .loop in
-    (x .i < length (s .args .events .now) / 2) × (length (s .args .events .now) ≤ mostEventNumbers) × (x .i < length (x .answers))
+    (x .i < length (start .args .events .now) / 2) × (length (start .args .events .now) ≤ mostEventNumbers) × (x .i < length (x .answers))
 bounds l =
     let p = l .before .before .before .before .before .before .before .before .before .pre in
     let t = l .loop-test .taken in
@@ -34,9 +34,9 @@ bounds l =
 returns : tie.Need-returns Inv-loop μ-loop
 returns c =
     let l = c .before .before .before .before .before .before .before .before in
-    let s = l .before .before in
-    let a = s .before .before .before .before .before .before .before in
-    serves-as (a .args .eviction) (s .start .result) (a .pre) (s .start .ensures)
+    let start = l .before .before in
+    let a = start .before .before .before .before .before .before .before in
+    serves-as (a .args .eviction) (start .start .result) (a .pre) (start .start .ensures)
     (loops-off (l .before .loop .inv .0) _ (bounds l .0) (a .pre .answered) (c .before .before .r .given .1)
     (c .before .before .before .before .event-row .ensures) (c .ended .ensures))
 
@@ -62,10 +62,10 @@ loop-again c =
 returns-2 : tie.Need-returns-2 Inv-loop μ-loop
 returns-2 c =
     let k = c .before .before .loop .inv in
-    let s = c .before .before .before in
-    let a = s .before .before .before .before .before .before .before in
+    let start = c .before .before .before in
+    let a = start .before .before .before .before .before .before .before in
     let p = a .pre in
-    serves-as (a .args .eviction) (s .start .result) p (s .start .ensures)
+    serves-as (a .args .eviction) (start .start .result) p (start .start .ensures)
     (loops-end (k .0) (p .paired) (p .answered) (omega (arith, k .1, c .before .loop-test .left)) (c .ended2 .ensures))
 
 pub run-events-spec : {M : Type 1} → statement M
@@ -74,8 +74,8 @@ run-events-spec =
     (tie.spec
     Inv-loop
     μ-loop
-    (λ c κs. let p = c .before .before .before .before .before .before .pre in (p .bounded .figured .settled, p .some, p .room))
-    (λ c. let s = c .before .before .before .before .before .before .before in (loops-start (s .args .eviction) (c .start .result) (s .pre) (c .start .ensures), omega arith, refl, refl))
+    (λ c κs. let p = c .before .before .before .before .before .before .pre in (p .bounded .readable .settled, p .some, p .room))
+    (λ c. let start = c .before .before .before .before .before .before .before in (loops-start (start .args .eviction) (c .start .result) (start .pre) (c .start .ensures), omega arith, refl, refl))
     (λ c. omega arith)
     (λ c. omega arith)
     (λ c. omega arith)

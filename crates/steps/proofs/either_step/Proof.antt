@@ -9,17 +9,17 @@ use Rattle.steps.proofs.either_step.Tie as tie
 
 returns : tie.Need-returns
 returns c =
-    let s = c .before .before .before in
-    let a = s .args in
+    let start = c .before .before .before in
+    let a = start .args in
     let e = c .before .wide .ensures ∙ ap (λ b. if b then a .q else a .r) (sym (eq-eqb _ _ (c .before .before .if1 .taken))) in
-    λ z t w cache memory o. plain-does z (a .x) _ _ _ _ _ w cache memory _ (s .pre) o (c .onwards .ensures) e refl refl
+    λ t w cache memory o. plain-does (a .x) _ _ _ _ _ w cache memory _ (start .pre) o (c .onwards .ensures) e refl refl
 
 returns-2 : tie.Need-returns-2
 returns-2 c =
-    let s = c .before .before .before in
-    let a = s .args in
+    let start = c .before .before .before in
+    let a = start .args in
     let e = c .before .wide2 .ensures ∙ ap (λ b. if b then a .q else a .r) (sym (ne-eqb _ _ (c .before .before .if1 .left))) in
-    λ z t w cache memory o. plain-does z (a .x) _ _ _ _ _ w cache memory _ (s .pre) o (c .onwards2 .ensures) e refl refl
+    λ t w cache memory o. plain-does (a .x) _ _ _ _ _ w cache memory _ (start .pre) o (c .onwards2 .ensures) e refl refl
 
 pub either-step-spec : {M : Type 1} → statement M
 either-step-spec = tie.close (tie.spec (λ c κs. search needs) (λ c κs. search needs) returns (λ c κs. search needs) (λ c κs. search needs) returns-2)

@@ -7,9 +7,9 @@ use Rattle.steps.proofs.goto_step.Tie as tie
 
 returns : tie.Need-returns
 returns c =
-    let s = c .before .before in
-    λ z t v w cache memory o.
-    plain-does z (s .args .x) _ _ _ _ _ w cache memory _ (s .pre) o (c .onwards .ensures) (c .before .wide .ensures) refl refl
+    let start = c .before .before in
+    λ t v w cache memory o.
+    plain-does (start .args .x) _ _ _ _ _ w cache memory _ (start .pre) o (c .onwards .ensures) (c .before .wide .ensures) refl refl
 
 pub goto-step-spec : {M : Type 1} → statement M
 goto-step-spec = tie.close (tie.spec (λ c κs. search needs) (λ c κs. search needs) returns)

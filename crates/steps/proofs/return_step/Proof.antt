@@ -12,11 +12,11 @@ returns : tie.Need-returns
 returns c =
     let r = c .resumed .ensures in
     let f = c .before .before .free .ensures in
-    let s = c .before .before .before .before .before .before in
-    let x = s .args .x in
-    let cache = s .args .cache .now in
-    λ z t v memory e.
-    leave-does z x _ _ cache memory _ _ (r .0)
+    let start = c .before .before .before .before .before .before in
+    let x = start .args .x in
+    let cache = start .args .cache .now in
+    λ t v memory e.
+    leave-does x _ _ cache memory _ _ (r .0)
     (ap (λ (m : Machine). coreOf m cache memory) (r .1) ∙ f .0 memory ∙ ap (λ k. free k (coreOf (x .machine) cache memory)) (sym e))
     (subst (λ (m : Machine). OnCache m cache) (sym (r .1)) (f .1)) (r .2) (r .3)
 

@@ -9,10 +9,10 @@ use Rattle.steps.proofs.store_step.Tie as tie
 returns : tie.Need-returns
 returns c =
     let l = c .before .before .before .before in
-    let s = l .before .before .before .before in
-    let x = s .args .x in
-    λ z t w memory.
-    plain-does z (record { depth = x .depth; f = x .f; p = x .p; machine = l .store .result; moved = x .moved; allowed = x .allowed }) _ _ _ _ _ w _ memory _ (s .pre .some) (l .store .ensures .1) (c .onwards .ensures)
+    let start = l .before .before .before .before in
+    let x = start .args .x in
+    λ t w memory.
+    plain-does (record { depth = x .depth; f = x .f; p = x .p; machine = l .store .result; moved = x .moved; allowed = x .allowed }) _ _ _ _ _ w _ memory _ (start .pre .some) (l .store .ensures .1) (c .onwards .ensures)
     (omega arith) refl (l .store .ensures .0 memory)
 
 pub store-step-spec : {M : Type 1} → statement M

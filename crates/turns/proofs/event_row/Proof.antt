@@ -11,30 +11,30 @@ use Rattle.turns.proofs.event_row.Tie as tie
 returns-5 : tie.Need-returns-5
 returns-5 c =
     let f = c .before .before .before .before in
-    let s = f .before .before .before .before .before .before in
-    let e = placed-is (s .pre) (omega arith) _ _ (f .span-at .ensures) (c .before .before .point-at .ensures) in
-    row-at _ _ (s .args .x) _ _ _ _ (omega arith)
+    let start = f .before .before .before .before .before .before in
+    let e = placed-is (start .pre) (omega arith) _ _ (f .span-at .ensures) (c .before .before .point-at .ensures) in
+    row-at _ _ (start .args .x) _ _ _ _ (omega arith)
     (row-choice _ _ _ _ (omega arith) (f .before .before .if3 .left) (omega arith) (ap isEither e ∙ sym (c .before .is-either .ensures) ∙ c .if5 .taken))
 
 returns-6 : tie.Need-returns-6
 returns-6 c =
     let f = c .before .before .before .before in
-    let s = f .before .before .before .before .before .before in
-    let e = placed-is (s .pre) (omega arith) _ _ (f .span-at .ensures) (c .before .before .point-at .ensures) in
-    row-at _ _ (s .args .x) _ _ _ _ (omega arith)
+    let start = f .before .before .before .before .before .before in
+    let e = placed-is (start .pre) (omega arith) _ _ (f .span-at .ensures) (c .before .before .point-at .ensures) in
+    row-at _ _ (start .args .x) _ _ _ _ (omega arith)
     (row-other _ _ _ _ (omega arith) (ap isEither e ∙ sym (c .before .is-either .ensures) ∙ c .if5 .left))
 
 point-at-requires : tie.Need-point-at-requires
 point-at-requires c κs =
     let f = c .before in
-    let s = f .before .before .before .before .before .before in
-    (placed-point (s .pre) (omega arith) _ (f .span-at .ensures), placed-few (s .pre) (omega arith) .1)
+    let start = f .before .before .before .before .before .before in
+    (placed-point (start .pre) (omega arith) _ (f .span-at .ensures), placed-few (start .pre) (omega arith) .1)
 
 add-point-at : tie.Need-add-point-at
 add-point-at c =
     let f = c .before in
-    let s = f .before .before .before .before .before .before in
-    let l = placed-point (s .pre) (omega arith) _ (f .span-at .ensures) in omega arith
+    let start = f .before .before .before .before .before .before in
+    let l = placed-point (start .pre) (omega arith) _ (f .span-at .ensures) in omega arith
 
 pub event-row-spec : {M : Type 1} → statement M
 event-row-spec =

@@ -7,8 +7,8 @@ use Rattle.turns.proofs.start.Tie as tie
 returns : tie.Need-returns
 returns c =
     let f = c .before in
-    let s = f .before .before in
-    start-is (s .before .before .pre .0) (s .before .before .pre .1) _ _ _ (f .fresh .result) _ _ (s .span-at .ensures) (f .before .lazy-of .ensures) (f .fresh .ensures)
+    let start = f .before .before in
+    start-is (start .before .before .pre .0) (start .before .before .pre .1) _ _ _ (f .fresh .result) _ _ (start .span-at .ensures) (f .before .lazy-of .ensures) (f .fresh .ensures)
     (c .evicting .ensures)
 
 pub start-spec : {M : Type 1} → statement M

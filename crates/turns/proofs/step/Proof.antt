@@ -2,7 +2,7 @@
 use native.Mathlib.Omega.{arith}
 use borrow.Author.Needs.{needs}
 use Rattle.tables.specs.Tables.{taskOf}
-use Rattle.turns.proofs.Laws.{stays-same, steps-at}
+use Rattle.turns.proofs.Laws.{stays-same, steps-at, plain-in}
 use Rattle.turns.proofs.Given.{load-given, store-given, call-given, ensure-given, return-given, frame-same}
 use Rattle.turns.proofs.step.Statement.{statement}
 use Rattle.turns.proofs.step.Tie as tie
@@ -10,32 +10,31 @@ use Rattle.turns.proofs.step.Tie as tie
 returns : tie.Need-returns
 returns c =
     let y = c .before .before .before in
-    let s = y .before .before .before .before .before in
-    let a = s .args in
+    let start = y .before .before .before .before .before in
+    let a = start .args in
     let t = taskOf (a .work .now) (a .h) in (
-      steps-at (a .price) t (a .x) (a .y) _ (a .v) (a .work .now) (a .cache .now) (a .memory .now) (y .y .given .1)
-          (c .load-step .ensures (a .price) t (a .v) (a .work .now) (a .memory .now)),
+      steps-at (a .price) (a .work .now) (a .h) (a .x) (a .y) _ (a .v) (a .cache .now) (a .memory .now) (y .y .given .1)
+          (plain-in (a .price) (c .load-step .ensures t (a .v) (a .work .now) (a .memory .now))),
       stays-same (a .work .now),
     )
 
 returns-2 : tie.Need-returns-2
 returns-2 c =
     let y = c .before .before .before .before .before in
-    let s = y .before .before .before .before .before in
-    let a = s .args in
+    let start = y .before .before .before .before .before in
+    let a = start .args in
     let t = taskOf (a .work .now) (a .h) in (
-      steps-at (a .price) t (a .x) (a .y) _ (a .v) (a .work .now) (a .cache .now) (a .memory .now) (y .y2 .given .1)
-          (c .before .before .store-step .ensures (a .price) t (a .work .now) (a .memory .now)),
+      steps-at (a .price) (a .work .now) (a .h) (a .x) (a .y) _ (a .v) (a .cache .now) (a .memory .now) (y .y2 .given .1)
+          (plain-in (a .price) (c .before .before .store-step .ensures t (a .work .now) (a .memory .now))),
       stays-same (a .work .now),
     )
 
 returns-3 : tie.Need-returns-3
 returns-3 c =
     let y = c .before .before .before .before .before .before .before .before .before in
-    let s = y .before .before .before .before .before in
-    let a = s .args in
-    let t = taskOf (a .work .now) (a .h) in (
-      steps-at (a .price) t (a .x) (a .y) _ (a .v) (a .work .now) (a .cache .now) (a .memory .now) (y .y3 .given .1)
+    let start = y .before .before .before .before .before in
+    let a = start .args in (
+      steps-at (a .price) (a .work .now) (a .h) (a .x) (a .y) _ (a .v) (a .cache .now) (a .memory .now) (y .y3 .given .1)
           (c .before .before .before .before .call-step .ensures .0 (a .v)),
       c .before .before .before .before .call-step .ensures .1,
     )
@@ -43,10 +42,9 @@ returns-3 c =
 returns-4 : tie.Need-returns-4
 returns-4 c =
     let y = c .before .before .before .before .before .before .before in
-    let s = y .before .before .before .before .before in
-    let a = s .args in
-    let t = taskOf (a .work .now) (a .h) in (
-      steps-at (a .price) t (a .x) (a .y) _ (a .v) (a .work .now) (a .cache .now) (a .memory .now) (y .y4 .given .1)
+    let start = y .before .before .before .before .before in
+    let a = start .args in (
+      steps-at (a .price) (a .work .now) (a .h) (a .x) (a .y) _ (a .v) (a .cache .now) (a .memory .now) (y .y4 .given .1)
           (c .before .before .ensure-step .ensures (a .v)),
       stays-same (a .work .now),
     )
@@ -54,47 +52,47 @@ returns-4 c =
 returns-5 : tie.Need-returns-5
 returns-5 c =
     let y = c .before .before in
-    let s = y .before .before .before .before .before in
-    let a = s .args in
+    let start = y .before .before .before .before .before in
+    let a = start .args in
     let t = taskOf (a .work .now) (a .h) in (
-      steps-at (a .price) t (a .x) (a .y) _ (a .v) (a .work .now) (a .cache .now) (a .memory .now) (y .y5 .given .1)
-          (c .goto-step .ensures (a .price) t (a .v) (a .work .now) (a .cache .now) (a .memory .now) (s .pre .runs .on)),
+      steps-at (a .price) (a .work .now) (a .h) (a .x) (a .y) _ (a .v) (a .cache .now) (a .memory .now) (y .y5 .given .1)
+          (plain-in (a .price) (c .goto-step .ensures t (a .v) (a .work .now) (a .cache .now) (a .memory .now) (start .pre .runs .on))),
       stays-same (a .work .now),
     )
 
 returns-6 : tie.Need-returns-6
 returns-6 c =
     let y = c .before .before in
-    let s = y .before .before .before .before .before in
-    let a = s .args in
+    let start = y .before .before .before .before .before in
+    let a = start .args in
     let t = taskOf (a .work .now) (a .h) in (
-      steps-at (a .price) t (a .x) (a .y) _ (a .v) (a .work .now) (a .cache .now) (a .memory .now) (y .y6 .given .1)
-          (c .either-step .ensures (a .price) t (a .work .now) (a .cache .now) (a .memory .now) (s .pre .runs .on)),
+      steps-at (a .price) (a .work .now) (a .h) (a .x) (a .y) _ (a .v) (a .cache .now) (a .memory .now) (y .y6 .given .1)
+          (plain-in (a .price) (c .either-step .ensures t (a .work .now) (a .cache .now) (a .memory .now) (start .pre .runs .on))),
       stays-same (a .work .now),
     )
 
 returns-7 : tie.Need-returns-7
 returns-7 c =
     let y = c .before .before .before in
-    let s = y .before .before .before .before .before in
-    let a = s .args in
+    let start = y .before .before .before .before .before in
+    let a = start .args in
     let t = taskOf (a .work .now) (a .h) in (
-      steps-at (a .price) t (a .x) (a .y) _ (a .v) (a .work .now) (a .cache .now) (a .memory .now) (y .enum-told .given .1)
-          (c .return-step .ensures (a .price) t (a .v) (a .memory .now) (frame-same (s .pre))),
+      steps-at (a .price) (a .work .now) (a .h) (a .x) (a .y) _ (a .v) (a .cache .now) (a .memory .now) (y .enum-told .given .1)
+          (plain-in (a .price) (c .return-step .ensures t (a .v) (a .memory .now) (frame-same (start .pre)))),
       stays-same (a .work .now),
     )
 
 call-step-requires : tie.Need-call-step-requires
 call-step-requires c κs =
     let y = c .before .before .before .before in
-    let s = y .before .before .before .before .before in
-    call-given (s .pre) (y .y3 .given .1)
+    let start = y .before .before .before .before .before in
+    call-given (start .pre) (y .y3 .given .1)
 
 ensure-step-requires : tie.Need-ensure-step-requires
 ensure-step-requires c κs =
     let y = c .before .before .before .before in
-    let s = y .before .before .before .before .before in
-    let g = ensure-given (s .pre) (y .y4 .given .1) in (s .pre .inside, s .pre .runs .on, g .0, g .1, g .2)
+    let start = y .before .before .before .before .before in
+    let g = ensure-given (start .pre) (y .y4 .given .1) in (start .pre .inside, start .pre .runs .on, g .0, g .1, g .2)
 
 pub step-spec : {M : Type 1} → statement M
 step-spec =
@@ -113,7 +111,7 @@ step-spec =
     (λ c. search needs)
     (λ c κs. search needs)
     (λ c. search needs)
-    (λ c κs. let s = c .before .before .before .before .before .before .before in return-given (s .pre) (omega (arith, s .good)))
+    (λ c κs. let start = c .before .before .before .before .before .before .before in return-given (start .pre) (omega (arith, start .good)))
     (λ c. search needs)
     returns
     (λ c. search needs)

@@ -1,10 +1,6 @@
 -- The lines are too long for the output, or they are written.
 use native.Mathlib.Omega.{arith}
-use mathlib.Core.Path.{refl, ap, _∙_}
-use mathlib.Core.List.{List}
-use Prim.Native.Nat.{ℕ}
 use lib.ListN.{length}
-use Rattle.model.specs.Services.{over}
 use Rattle.serving.proofs.Laws.{row-room, row-of, too-short, long-enough}
 use borrow.Author.Needs.{needs}
 use Rattle.writing.proofs.listing.write_ranks.Statement.{statement}
@@ -13,9 +9,8 @@ use Rattle.writing.proofs.listing.write_ranks.Tie as tie
 returns : tie.Need-returns
 returns c print t w w′ e after =
     let output = c .before .before .before .before .before .before .before .args .output .now in
-    let row = row-of _ _ print t (c .before .before .before .before .before .list-length .ensures .0 ∙ ap length e)
-    (c .before .before .before .before .output-row .ensures) in
-    rw (c .nothing-written .ensures) (too-short print output refl row after (c .before .before .r .given .1))
+    let row = row-of _ _ (c .before .before .before .before .before .list-length .ensures .0) (c .before .before .before .before .output-row .ensures) in
+    rw (c .nothing-written .ensures) (too-short print output e row after (c .before .before .r .given .1))
 
 put-list-requires : tie.Need-put-list-requires
 put-list-requires c κs =
@@ -28,10 +23,9 @@ returns-2 : tie.Need-returns-2
 returns-2 c print t w w′ e after =
     let c6 = c .before .before .before .before .before .before in
     let output = c6 .before .before .before .args .output .now in
-    let row = row-of _ _ print t (c6 .before .list-length .ensures .0 ∙ ap length e) (c6 .output-row .ensures) in
+    let row = row-of _ _ (c6 .before .list-length .ensures .0) (c6 .output-row .ensures) in
     let p = c .before .before .put-list .ensures in
-    long-enough print output refl row after (c .before .before .before .before .enum-told .given .1)
-    (p .0 ∙ ap length e) (p .1 ∙ ap (λ (l : List ℕ). over l output) e)
+    long-enough print output e row after (c .before .before .before .before .enum-told .given .1) (p .0) (p .1)
 
 pub write-ranks-spec : {M : Type 1} → statement M
 write-ranks-spec =

@@ -2,10 +2,7 @@
 use native.Mathlib.Omega.{arith}
 use mathlib.Core.Path.{refl}
 use lib.ListN.{length}
-use Rattle.model.specs.Sheet.{reportText}
-use Rattle.tables.specs.Tables.{taskOf}
-use Rattle.prices.specs.Prices.{priceOf}
-use Rattle.report.specs.Report.{showsOnce}
+use Rattle.report.specs.Report.{reportIn}
 use Rattle.report.proofs.Limits.{report-most}
 use Rattle.serving.proofs.Laws.{room-enough, row-of}
 use borrow.Author.Needs.{needs}
@@ -19,12 +16,10 @@ returns : tie.Need-returns
 returns c =
     let start = c .before .before .before in
     let a = start .args in
-    let print = reportText (showsOnce (a .price)) (priceOf (a .price)) in
-    let t = taskOf (a .work .now) (a .h) in
-    row-of (a .room) (length (print t)) print t refl (room-enough (a .room) (length (print t)) (omega (arith, report-most (start .pre))) refl)
+    room-enough (a .room) (length (reportIn (a .price) (a .work .now) (a .h))) (omega (arith, report-most (start .pre))) refl
 
 returns-2 : tie.Need-returns-2
-returns-2 c = row-of _ _ _ _ (c .before .report-length .ensures .0) (c .output-row .ensures)
+returns-2 c = row-of _ _ (c .before .report-length .ensures .0) (c .output-row .ensures)
 
 pub report-row-spec : {M : Type 1} → statement M
 report-row-spec =

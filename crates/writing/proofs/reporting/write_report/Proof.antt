@@ -1,20 +1,20 @@
 -- The report is too long for the output, or it is written.
 use native.Mathlib.Omega.{arith}
 use Rattle.report.proofs.Limits.{report-small}
-use Rattle.serving.proofs.Laws.{output-room, too-short, long-enough}
+use Rattle.serving.proofs.Laws.{row-room, too-short, long-enough}
 use borrow.Author.Needs.{needs}
 use Rattle.writing.proofs.reporting.write_report.Statement.{statement}
 use Rattle.writing.proofs.reporting.write_report.Tie as tie
 
 returns : tie.Need-returns
-returns c t w w′ same after =
-    let row = c .before .before .before .before .report-row .ensures in
-    rw (c .nothing-written .ensures) (too-short _ _ same row after (c .before .before .r .given .1))
+returns c print t w w′ e after =
+    let output = c .before .before .before .before .before .before .before .args .output .now in
+    rw (c .nothing-written .ensures) (too-short print output e (c .before .before .before .before .report-row .ensures) after (c .before .before .r .given .1))
 
 put-report-requires : tie.Need-put-report-requires
 put-report-requires c κs = (
   c .before .before .before .before .before .before .pre,
-  output-room _ _ _ (c .before .before .before .report-row .ensures) (c .before .enum-told .given .1),
+  row-room _ _ (c .before .before .before .report-row .ensures) (c .before .enum-told .given .1),
 )
 
 cast-t12 : tie.Need-cast-t12
@@ -23,10 +23,11 @@ cast-t12 c =
     omega (arith, c .before .before .put-report .ensures .0, report-small (start .pre))
 
 returns-2 : tie.Need-returns-2
-returns-2 c t w w′ same after =
-    let row = c .before .before .before .before .before .before .report-row .ensures in
+returns-2 c print t w w′ e after =
+    let c6 = c .before .before .before .before .before .before in
+    let output = c6 .before .before .before .args .output .now in
     let p = c .before .before .put-report .ensures in
-    long-enough _ _ same row after (c .before .before .before .before .enum-told .given .1) (p .0) (p .1)
+    long-enough print output e (c6 .report-row .ensures) after (c .before .before .before .before .enum-told .given .1) (p .0) (p .1)
 
 pub write-report-spec : {M : Type 1} → statement M
 write-report-spec =

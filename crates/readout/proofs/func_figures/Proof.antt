@@ -1,15 +1,15 @@
 -- The columns have the figures of the function.
 use native.Mathlib.Omega.{arith}
 use borrow.Author.Needs.{needs}
-use Rattle.figures.proofs.Read.{small-frame, small-entry, small-spill, func-figures-are}
-use Rattle.figures.proofs.func_figures.Statement.{statement}
-use Rattle.figures.proofs.func_figures.Tie as tie
+use Rattle.readout.proofs.Read.{small-frame, small-spill, func-figures-are}
+use Rattle.readout.proofs.func_figures.Statement.{statement}
+use Rattle.readout.proofs.func_figures.Tie as tie
 
 add-price-above-2 : tie.Need-add-price-above-2
 add-price-above-2 c =
     let a = c .before .before .before .before .before .pre in
     let e = c .before .before .before .span-at .ensures in
-    omega (arith, small-frame (a .0) (a .1) e, small-entry (a .0) (a .1) e)
+    omega (arith, small-frame (a .0) (a .1) e, a .0 .entry .each _ (a .1))
 
 price-above-requires : tie.Need-price-above-requires
 price-above-requires c κs =

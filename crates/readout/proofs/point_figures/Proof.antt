@@ -2,9 +2,9 @@
 use native.Mathlib.Omega.{arith}
 use borrow.Author.Needs.{needs}
 use Rattle.columns.specs.Columns.{highColumn, deadColumn, needColumn, nextColumn, fillColumn}
-use Rattle.figures.proofs.Read.{read-there, small-high, small-need, small-next, small-fill, small-chain, figures-are}
-use Rattle.figures.proofs.point_figures.Statement.{statement}
-use Rattle.figures.proofs.point_figures.Tie as tie
+use Rattle.readout.proofs.Read.{read-there, low-there, figures-are}
+use Rattle.readout.proofs.point_figures.Statement.{statement}
+use Rattle.readout.proofs.point_figures.Tie as tie
 
 price-above-requires : tie.Need-price-above-requires
 price-above-requires c κs =
@@ -13,8 +13,8 @@ price-above-requires c κs =
       omega (
         arith,
         c .before .before .before .before .figure-at .ensures,
-        small-high (a .0) (a .1) (a .2)
-            (c .before .before .before .before .before .before .args .p) (a .3),
+        low-there (a .0) (a .1) (a .2)
+            (c .before .before .before .before .before .before .args .p) (a .3) (a .0 .high),
       ),
     )
 
@@ -25,8 +25,8 @@ price-above-requires-2 c κs =
       omega (
         arith,
         c .before .before .before .figure-at3 .ensures,
-        small-need (a .0) (a .1) (a .2)
-            (c .before .before .before .before .before .before .before .args .p) (a .3),
+        low-there (a .0) (a .1) (a .2)
+            (c .before .before .before .before .before .before .before .args .p) (a .3) (a .0 .need),
       ),
     )
 
@@ -37,8 +37,8 @@ price-above-requires-3 c κs =
       omega (
         arith,
         c .before .before .before .figure-at4 .ensures,
-        small-next (a .0) (a .1) (a .2)
-            (c .before .before .before .before .before .before .before .before .args .p) (a .3),
+        low-there (a .0) (a .1) (a .2)
+            (c .before .before .before .before .before .before .before .before .args .p) (a .3) (a .0 .next),
       ),
     )
 
@@ -46,7 +46,7 @@ of-move-requires : tie.Need-of-move-requires
 of-move-requires c κs =
     let c10 = c .before .before .before .before .before .before .before .before .before .before in
     let a = c10 .pre in
-    (a .0 .small, omega (arith, c .figure-at5 .ensures, small-fill (a .0) (a .1) (a .2) (c10 .args .p) (a .3)))
+    (a .0 .small, omega (arith, c .figure-at5 .ensures, low-there (a .0) (a .1) (a .2) (c10 .args .p) (a .3) (a .0 .fill)))
 
 cost-of-requires : tie.Need-cost-of-requires
 cost-of-requires c κs =
@@ -54,7 +54,7 @@ cost-of-requires c κs =
       c .before .before .before .before .price-above .ensures .1,
       c .before .before .before .price-above2 .ensures .1,
       c .before .before .price-above3 .ensures .1,
-      small-chain (a .0) (a .1) (a .2) (c .before .before .before .before .before .before .before .before .before .before .before .args .p) (a .3),
+      a .0 .chain .each _ (a .1),
     )
 
 returns : tie.Need-returns

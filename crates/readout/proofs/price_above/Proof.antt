@@ -3,8 +3,8 @@ use mathlib.Core.Path.{ap, _∙_}
 use native.Mathlib.Omega.{arith}
 use borrow.Author.Needs.{needs}
 use Rattle.prices.specs.Prices.{priceOf}
-use Rattle.figures.proofs.price_above.Statement.{statement}
-use Rattle.figures.proofs.price_above.Tie as tie
+use Rattle.readout.proofs.price_above.Statement.{statement}
+use Rattle.readout.proofs.price_above.Tie as tie
 
 returns : tie.Need-returns
 returns c =
