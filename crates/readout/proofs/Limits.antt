@@ -12,7 +12,7 @@ use Rattle.tables.proofs.Laws.{count-is, size-is}
 use Rattle.prices.specs.declared.Price.{Price}
 use Rattle.prices.specs.Prices.{priceOf, mostPrice}
 use Rattle.prices.proofs.Laws.{price-small}
-use Rattle.columns.specs.Columns.{highColumn, deadColumn, needColumn, nextColumn}
+use Rattle.columns.specs.Columns.{highColumn, deadColumn, needColumn, nextColumn, chainColumn}
 use Rattle.columns.specs.Values.{mostChain}
 use Rattle.readout.specs.Sheet.{sheetIn}
 use Rattle.readout.specs.Readable.{Readable}
@@ -37,7 +37,7 @@ module _ {price : Price} {w : List ℕ} {h : Header} (k : Readable price w h) (f
       let high = k .high .each f p l i in
       let need = k .need .each f p l i in
       let next = k .next .each f p l i in
-      let chain = k .chain .each f l in
+      let chain : item w (chainColumn + f) ≤ mostChain = omega (arith, k .chain .each f l) in
       let save = priced (item w (highColumn + baseAt w f + p) - item w (deadColumn + baseAt w f + p)) (omega arith) in
       let reload = priced (item w (needColumn + baseAt w f + p) - item w (deadColumn + baseAt w f + p)) (omega arith) in
       let later = priced (item w (nextColumn + baseAt w f + p) - item w (needColumn + baseAt w f + p)) (omega arith) in

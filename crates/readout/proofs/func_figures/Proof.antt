@@ -14,12 +14,13 @@ add-price-above-2 c =
 price-above-requires : tie.Need-price-above-requires
 price-above-requires c κs =
     let a = c .before .before .before .before .before .pre in
-    (a .0 .small, small-spill (a .0) (a .1) (c .before .before .before .span-at .ensures))
+    (a .0 .small, omega (arith, small-spill (a .0) (a .1) (c .before .before .before .span-at .ensures), a .0 .entry .each _ (a .1)))
 
 returns : tie.Need-returns
 returns c =
     let a = c .before .before .before .before .before .before .before .pre in
-    func-figures-are (a .0) (a .1) (c .before .before .before .before .before .span-at .ensures) (c .before .price-above .ensures .0)
+    func-figures-are (a .0) (a .1) (c .before .before .before .before .before .span-at .ensures)
+    (omega (arith, c .before .price-above .ensures .0))
 
 pub func-figures-spec : {M : Type 1} → statement M
 func-figures-spec =

@@ -69,8 +69,8 @@ returns c =
     let save = c .before .before .before .before .before .price-above .ensures .0 in
     let reload = c .before .before .before .before .price-above2 .ensures .0 in
     let later = c .before .before .before .price-above3 .ensures .0 in
-    figures-are (a .0) (a .1) (a .2) (c10 .before .before .args .p) (a .3) high dead need next fill save reload later (c .before .of-move .ensures .0)
-    (c .cost-of .ensures)
+    figures-are (a .0) (a .1) (a .2) (c10 .before .before .args .p) (a .3) high dead need next fill (omega (arith, save)) (omega (arith, reload))
+    (omega (arith, later)) (omega (arith, c .before .of-move .ensures .0)) (c .cost-of .ensures)
 
 pub point-figures-spec : {M : Type 1} → statement M
 point-figures-spec =
