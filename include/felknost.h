@@ -57,8 +57,8 @@ uint32_t felknost_check(const uint8_t *text, size_t length);
  * The sheet of a task without a stack has the lines "(report", "  (total 0)" and ")", with their line feeds 22 bytes. It is the same at every start and each
  * in their ranges.
  *
- * result gets three numbers: CODE, PLACE and how many bytes were written. CODE and PLACE are 0 where the text is accepted; else they are as above, and
- * three rows are new:
+ * result gets FELKNOST_WRITE_RESULT numbers: CODE, PLACE and how many bytes were written. CODE and PLACE are 0 where the text is accepted; else they are as
+ * above, and three rows are new:
  *
  *  14  the output is too small; PLACE is the number of bytes wanted. It is tried after all others
  *  15  the working space is too small; PLACE is FELKNOST_WORK. It is tried before all others
@@ -70,9 +70,15 @@ uint32_t felknost_check(const uint8_t *text, size_t length);
  * of work are 0 afterwards, and those behind them are left as they were; with 15 work is not touched. What the buffers held before does not
  * matter. No two buffers may overlap. A buffer may be NULL where its length is 0.
  *
- * The return value is 1. It is 0 where result has fewer than three numbers; then nothing is touched.
+ * The return value is 1. It is 0 where result has fewer than FELKNOST_WRITE_RESULT numbers; then nothing is touched.
  */
 #define FELKNOST_WORK 16384
+
+/* The numbers of a result of felknost_report and felknost_dearest_points, and the index of each. The first two have the same index in every result. */
+#define FELKNOST_WRITE_RESULT 3
+#define FELKNOST_RESULT_CODE 0
+#define FELKNOST_RESULT_PLACE 1
+#define FELKNOST_RESULT_WRITTEN 2
 
 /* Bytes of output that are enough for every task and every start and each: no report has more than 63,967. None has fewer than 22. */
 #define FELKNOST_OUTPUT 65536
@@ -105,10 +111,10 @@ uint32_t felknost_dearest_points(const uint8_t *text, size_t text_length, uint32
  * goes to its first target on 0 and to its second on 1. answers gets a number for each event done: the number loaded, else 0. start and each are the price
  * of a move, as for felknost_report; a preemption makes two moves, out and back.
  *
- * result gets five numbers: CODE, PLACE, how many events were done, the price of all that they moved, and the price that the sheet allows them. With start 0
- * and each 1 the last two are blocks. The fourth is never more than the fifth. In blocks, with exactly one preemption among the events done, the fourth is
- * also at most the spills and fills that the sheet has for these events plus once of the point of the preemption. The fifth has the cost of that point, not
- * once. CODE and PLACE are 0 where all events were done; else they are as above, but for 14, or one of these:
+ * result gets FELKNOST_RUN_RESULT numbers: CODE, PLACE, how many events were done, the price of all that they moved, and the price that the sheet allows
+ * them. With start 0 and each 1 the last two are blocks. The fourth is never more than the fifth. In blocks, with exactly one preemption among the events done,
+ * the fourth is also at most the spills and fills that the sheet has for these events plus once of the point of the preemption. The fifth has the cost of that
+ * point, not once. CODE and PLACE are 0 where all events were done; else they are as above, but for 14, or one of these:
  *
  *  23  start is above 255, or each is 0 or above 255; PLACE is 0. It is tried after 15 and before all others
  *  16  events has an odd number of numbers or more than 131,072; PLACE is 0
@@ -121,12 +127,19 @@ uint32_t felknost_dearest_points(const uint8_t *text, size_t text_length, uint32
  *
  * 16 to 19 are tried in this order after the rows of the text. All but 20 to 22 leave answers, cache and memory as they were. The events before one that
  * is refused by 20 to 22 are done, and answers has no number of it or of a later one; at one event 22 is tried first. work, NULL, overlap and the return
- * value are as for felknost_report, but result has five numbers.
+ * value are as for felknost_report, but result has FELKNOST_RUN_RESULT numbers.
  *
  * Of a task without a stack: cache and memory may have any length, 0 too. CODE and PLACE are 0 where there is no event; else the first event is refused with
  * 22 and PLACE 0, whatever its kind and value. 15, 23, 16 and 17 are tried before that. In every case answers, cache and memory are left as they were, and the
  * last three numbers of result are 0.
  */
+
+/* The numbers of a result of felknost_run and felknost_run_lazy, and the index of each behind code and place. */
+#define FELKNOST_RUN_RESULT 5
+#define FELKNOST_RESULT_DONE 2
+#define FELKNOST_RESULT_MOVED 3
+#define FELKNOST_RESULT_ALLOWED 4
+
 uint32_t felknost_run(const uint8_t *text, size_t text_length, uint32_t start, uint32_t each, const uint32_t *events, size_t events_length,
                       uint32_t *answers, size_t answers_length, uint32_t *cache, size_t cache_length, uint32_t *memory, size_t memory_length,
                       uint32_t *work, size_t work_length, uint64_t *result, size_t result_length);

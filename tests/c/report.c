@@ -82,9 +82,10 @@ static size_t built_has(const char *total, struct price price, int points)
 {
     size_t line = strlen(total), wanted;
     room_case = total;
-    int answer = called(built, used, price, FELKNOST_OUTPUT, FELKNOST_WORK, 3, 0);
-    wanted = (size_t)numbers[2];
-    int fits = answer == 1 && numbers[0] == 0 && wanted > line + 2 && wanted < sizeof whole && kept_from(&outputs, wanted);
+    int answer = called(built, used, price, FELKNOST_OUTPUT, FELKNOST_WORK, FELKNOST_WRITE_RESULT, 0);
+    wanted = (size_t)numbers[FELKNOST_RESULT_WRITTEN];
+    int accepted = answer == 1 && numbers[FELKNOST_RESULT_CODE] == 0;
+    int fits = accepted && wanted > line + 2 && wanted < sizeof whole && kept_from(&outputs, wanted);
     count(total, fits);
     if (fits) {
         memcpy(whole, outputs.at, wanted);

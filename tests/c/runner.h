@@ -66,7 +66,7 @@ static uint32_t ran(const struct given *given, int at_end)
 /* Code, place, done, moved, allowed. */
 static int result_is(uint64_t code, uint64_t place, uint64_t done, uint64_t moved, uint64_t allowed)
 {
-    const uint64_t wanted[5] = {code, place, done, moved, allowed};
+    const uint64_t wanted[FELKNOST_RUN_RESULT] = {code, place, done, moved, allowed};
     return memcmp(results.at, wanted, sizeof wanted) == 0 && kept_from(&results, sizeof wanted);
 }
 
@@ -87,12 +87,12 @@ static void worked(int at_end)
     static const uint32_t loaded[] = {0, 0, 0, 4, 0, 0, 3, 0};
     static const uint32_t memory[] = {HELD, HELD, HELD, HELD, HELD, HELD, 3};
     static const uint32_t cache[] = {HELD, 3, HELD, HELD, HELD};
-    struct given given = {TASK, in_blocks, 16, 9, 5, 7, FELKNOST_WORK + 3, 6, plain_list};
+    struct given given = {TASK, in_blocks, 16, 9, 5, 7, FELKNOST_WORK + 3, FELKNOST_RUN_RESULT + 1, plain_list};
     room_case = "a run to its end";
     int good = ran(&given, at_end) == 1 && result_is(0, 0, 8, 2, 2);
     count(room_case, good && holds(&answers, loaded, 8) && kept_from(&answers, sizeof loaded) && cleared(&works, given.work));
     count("its memory and cache", holds(&memories, memory, 7) && holds(&caches, cache, 5));
-    struct given preempted = {TASK, in_blocks, 16, 8, 5, 6, FELKNOST_WORK, 5, preempted_list};
+    struct given preempted = {TASK, in_blocks, 16, 8, 5, 6, FELKNOST_WORK, FELKNOST_RUN_RESULT, preempted_list};
     room_case = "a run with a preemption";
     count(room_case, ran(&preempted, at_end) == 1 && result_is(0, 0, 8, 9, 9));
     given.price = preempted.price = start_of_10;
@@ -112,7 +112,7 @@ static void calls(int at_end)
     static const uint32_t loaded[] = {0, 0, 0, 0, 0, 0, 0, 0, 0, 1, 0};
     static const uint32_t memory[] = {HELD, HELD, HELD, HELD, HELD, 1};
     static const uint32_t cache[] = {HELD, 1, HELD, HELD};
-    struct given given = {text, in_blocks, 22, 11, 4, 6, FELKNOST_WORK, 5, list};
+    struct given given = {text, in_blocks, 22, 11, 4, 6, FELKNOST_WORK, FELKNOST_RUN_RESULT, list};
     room_case = "a run with two calls";
     count(room_case, ran(&given, at_end) == 1 && result_is(0, 0, 11, MOVED_BY_CALLS, 8) && holds(&answers, loaded, 11) && cleared(&works, given.work));
     count("its memory and cache", holds(&memories, memory, 6) && holds(&caches, cache, 4));
@@ -126,7 +126,7 @@ static void preemptions(int at_end)
     static const uint32_t list[] = {STEP, 5, STEP, 6, PREEMPTION, 3, PREEMPTION, 4, STEP, 0, STEP, 7, PREEMPTION, 3, STEP, 0, STEP, 0, STEP, 0};
     static const uint32_t loaded[] = {0, 0, 0, 0, 5, 0, 0, 7, 5, 0};
     static const uint32_t kept[] = {5, 7};
-    struct given given = {text, in_blocks, 20, 10, 2, 2, FELKNOST_WORK, 5, list};
+    struct given given = {text, in_blocks, 20, 10, 2, 2, FELKNOST_WORK, FELKNOST_RUN_RESULT, list};
     room_case = "a run with three preemptions";
     count(room_case, ran(&given, at_end) == 1 && result_is(0, 0, 10, MOVED_BY_PREEMPTIONS, 12) && holds(&answers, loaded, 10));
     count("its memory and cache", holds(&memories, kept, 2) && holds(&caches, kept, 2));
@@ -145,11 +145,11 @@ static int sheet_read(void)
     static uint8_t output[FELKNOST_OUTPUT];
     static uint32_t work[FELKNOST_WORK];
     static const char task[] = TASK;
-    uint64_t result[3] = {1, 1, 0};
+    uint64_t result[FELKNOST_WRITE_RESULT] = {1, 1, 0};
     int function, point;
-    felknost_report((const uint8_t *)task, sizeof task - 1, 0, 1, output, sizeof output - 1, work, FELKNOST_WORK, result, 3);
+    felknost_report((const uint8_t *)task, sizeof task - 1, 0, 1, output, sizeof output - 1, work, FELKNOST_WORK, result, FELKNOST_WRITE_RESULT);
     const char *line = (const char *)output;
-    if (result[0] != 0 || strncmp(line, "(report\n", 8) != 0)
+    if (result[FELKNOST_RESULT_CODE] != 0 || strncmp(line, "(report\n", 8) != 0)
         return 0;
     line += 8;
     for (function = 0; function < 2; function++) {
@@ -188,10 +188,11 @@ static uint64_t spills_and_fills(int steps)
 /* The run ends so, moves at most the first of the sums and is allowed the second. Returns what it moves, or a number above both where one of this fails. */
 static uint64_t moved_within(const struct given *given, uint64_t code, uint64_t place, uint64_t done, uint64_t with_once, uint64_t with_cost, int at_end)
 {
-    uint64_t got[5] = {0};
+    uint64_t got[FELKNOST_RUN_RESULT] = {0};
     uint32_t returned = ran(given, at_end);
     memcpy(got, results.at, sizeof got);
-    return returned == 1 && result_is(code, place, done, got[3], with_cost) && got[3] <= with_once ? got[3] : UINT64_MAX;
+    uint64_t moved = got[FELKNOST_RESULT_MOVED];
+    return returned == 1 && result_is(code, place, done, moved, with_cost) && moved <= with_once ? moved : UINT64_MAX;
 }
 
 /*
@@ -201,7 +202,7 @@ static uint64_t moved_within(const struct given *given, uint64_t code, uint64_t 
 static void preempted_once(int stop, int at_end)
 {
     uint32_t list[2 * (STOPS + 2)];
-    struct given given = {TASK, in_blocks, 0, STOPS + 2, 5, 6, FELKNOST_WORK, 5, list};
+    struct given given = {TASK, in_blocks, 0, STOPS + 2, 5, 6, FELKNOST_WORK, FELKNOST_RUN_RESULT, list};
     uint64_t moved = 0, refused, with_once = 0, with_cost = 0;
     int done, good = 1;
     room_case = "a run with one preemption";
@@ -244,7 +245,7 @@ static void nothing_done(const char *name, struct given given, uint64_t code, ui
 
 static void refused_before_the_first_event(int at_end)
 {
-    struct given good = {TASK, in_blocks, 16, 8, 5, 6, FELKNOST_WORK, 5, plain_list};
+    struct given good = {TASK, in_blocks, 16, 8, 5, 6, FELKNOST_WORK, FELKNOST_RUN_RESULT, plain_list};
     struct given given = good;
     given.work = FELKNOST_WORK - 1;
     nothing_done("15", given, 15, FELKNOST_WORK, at_end);
@@ -274,12 +275,12 @@ static void refused_before_the_first_event(int at_end)
 
 static void refused_for_the_price(int at_end)
 {
-    struct given given = {TASK, in_blocks, 16, 8, 5, 6, FELKNOST_WORK + 3, 5, plain_list};
+    struct given given = {TASK, in_blocks, 16, 8, 5, 6, FELKNOST_WORK + 3, FELKNOST_RUN_RESULT, plain_list};
     size_t i;
     for (i = 0; i < REFUSED_PRICES; i++) {
         given.price = refused_prices[i];
         nothing_done("23", given, 23, 0, at_end);
-        struct given worse = {"(stack 65)\n", given.price, 15, 0, 0, 0, FELKNOST_WORK, 5, plain_list};
+        struct given worse = {"(stack 65)\n", given.price, 15, 0, 0, 0, FELKNOST_WORK, FELKNOST_RUN_RESULT, plain_list};
         nothing_done("23 before the text and 16 to 19", worse, 23, 0, at_end);
         worse.work = FELKNOST_WORK - 1;
         nothing_done("15 before 23", worse, 15, FELKNOST_WORK, at_end);
@@ -292,16 +293,16 @@ static void refused_events(int at_end)
     static const uint32_t choice[] = {STEP, 0, STEP, 2, STEP, 0};
     static const uint32_t finished[] = {STEP, 1, STEP, 0, 7, 0};
     static const uint32_t zeros[] = {0, 0};
-    struct given given = {TASK, in_blocks, 6, 3, 5, 6, FELKNOST_WORK, 5, kind};
+    struct given given = {TASK, in_blocks, 6, 3, 5, 6, FELKNOST_WORK, FELKNOST_RUN_RESULT, kind};
     room_case = "20";
     count(room_case, ran(&given, at_end) == 1 && result_is(20, 1, 1, 0, 0) && holds(&answers, zeros, 1) && kept_from(&answers, 4));
-    struct given other = {CHOICE, in_blocks, 6, 3, 5, 2, FELKNOST_WORK, 5, choice};
+    struct given other = {CHOICE, in_blocks, 6, 3, 5, 2, FELKNOST_WORK, FELKNOST_RUN_RESULT, choice};
     room_case = "21";
     count(room_case, ran(&other, at_end) == 1 && result_is(21, 1, 1, 0, 0) && holds(&answers, zeros, 1) && kept_from(&answers, 4));
     other.list = finished;
     room_case = "22 before 20";
     count(room_case, ran(&other, at_end) == 1 && result_is(22, 2, 2, 0, 0) && holds(&answers, zeros, 2) && kept_from(&answers, 8));
-    struct given many = {TASK, in_blocks, 4, 2, 5, 6, FELKNOST_WORK, 5, two_preemptions};
+    struct given many = {TASK, in_blocks, 4, 2, 5, 6, FELKNOST_WORK, FELKNOST_RUN_RESULT, two_preemptions};
     room_case = "preemptions in a row";
     count(room_case, ran(&many, at_end) == 1 && result_is(0, 0, 2, 0, 0) && holds(&answers, zeros, 2));
 }
@@ -309,7 +310,7 @@ static void refused_events(int at_end)
 static void short_results(int at_end)
 {
     struct given given = {TASK, in_blocks, 16, 8, 5, 6, FELKNOST_WORK, 0, plain_list};
-    for (; given.result < 5; given.result++) {
+    for (; given.result < FELKNOST_RUN_RESULT; given.result++) {
         room_case = "a result too short";
         int good = ran(&given, at_end) == 0 && kept_from(&answers, 0) && kept_from(&caches, 0) && kept_from(&memories, 0);
         count(room_case, good && kept_from(&works, 0) && kept_from(&results, 0));
@@ -323,15 +324,16 @@ static void short_results(int at_end)
 static void *runs(void *good)
 {
     static const char task[] = TASK;
+    static const uint64_t ended[FELKNOST_RUN_RESULT] = {0, 0, 8, 9, 9};
     uint32_t *work = (uint32_t *)malloc(FELKNOST_WORK * sizeof *work);
     uint32_t answer[8], cache[5], memory[6];
-    uint64_t result[5];
+    uint64_t result[FELKNOST_RUN_RESULT];
     int round;
     for (round = 0; work != NULL && round < ROUNDS; round++) {
         memset(work, FILLER, FELKNOST_WORK * sizeof *work);
         uint32_t returned = SERVICE((const uint8_t *)task, sizeof task - 1, 0, 1, preempted_list, 16, answer, 8, cache, 5, memory, 6, work, FELKNOST_WORK,
-                                    result, 5);
-        if (returned != 1 || result[2] != 8 || result[3] != 9 || result[4] != 9 || answer[7] != 3)
+                                    result, FELKNOST_RUN_RESULT);
+        if (returned != 1 || memcmp(result, ended, sizeof ended) != 0 || answer[7] != 3)
             break;
     }
     free(work);
@@ -342,7 +344,7 @@ static void *runs(void *good)
 /* ---- the stack */
 
 static uint32_t stack_answers[8], stack_cache[5], stack_memory[6], stack_work[FELKNOST_WORK];
-static uint64_t stack_result[5];
+static uint64_t stack_result[FELKNOST_RUN_RESULT];
 
 static void run_task(void)
 {
@@ -350,18 +352,18 @@ static void run_task(void)
     /* Point 1 is reached from a higher one, so that the kernel decides and not the sweep. */
     static const char back[] = "(stack 5)\n(func 0\n  (goto 2)\n  (goto 4)\n  (either 1 3)\n  (goto 4)\n  (return)\n)\n";
     SERVICE((const uint8_t *)back, sizeof back - 1, 0, 1, preempted_list, 0, stack_answers, 8, stack_cache, 5, stack_memory, 6, stack_work,
-            FELKNOST_WORK, stack_result, 5);
+            FELKNOST_WORK, stack_result, FELKNOST_RUN_RESULT);
     SERVICE((const uint8_t *)task, sizeof task - 1, 0, 1, preempted_list, 16, stack_answers, 8, stack_cache, 5, stack_memory, 6, stack_work,
-            FELKNOST_WORK, stack_result, 5);
+            FELKNOST_WORK, stack_result, FELKNOST_RUN_RESULT);
 }
 
 static void stacks(void)
 {
     on_stated_stack("stack of " NAME ", first call", run_task);
-    count(room_case, stack_result[3] == 9 && stack_answers[7] == 3);
+    count(room_case, stack_result[FELKNOST_RESULT_MOVED] == 9 && stack_answers[7] == 3);
     memset(stack_result, 0, sizeof stack_result);
     in_stated_thread(run_task);
-    count(room_case, stack_result[3] == 9 && stack_answers[7] == 3);
+    count(room_case, stack_result[FELKNOST_RESULT_MOVED] == 9 && stack_answers[7] == 3);
 }
 
 /* ---- all of it */

@@ -168,11 +168,11 @@ static uint32_t wrote(const struct writer *writer, const struct asked *asked, in
 static void writes(const char *name, const struct writer *writer, struct asked asked, uint64_t code, uint64_t place, const char *bytes)
 {
     size_t length = strlen(bytes);
-    const uint64_t wanted[3] = {code, place, length};
+    const uint64_t wanted[FELKNOST_WRITE_RESULT] = {code, place, length};
     int way;
     for (way = 0; way < WAYS; way++) {
         room_case = name;
-        int good = wrote(writer, &asked, way) == 1 && result_is(wanted, 3) && cleared(&works, asked.work);
+        int good = wrote(writer, &asked, way) == 1 && result_is(wanted, FELKNOST_WRITE_RESULT) && cleared(&works, asked.work);
         count_for(writer->name, way, good && memcmp(outputs.at, bytes, length) == 0 && kept_from(&outputs, length));
     }
 }
@@ -182,7 +182,7 @@ static void reports(void)
     size_t i;
     count("the bytes of the report", sizeof REPORT - 1 == REPORT_BYTES);
     for (i = 0; i < FITTING_PRICES; i++) {
-        struct asked asked = {&nothing, fitting_prices[i], 0, FELKNOST_WORK, 3};
+        struct asked asked = {&nothing, fitting_prices[i], 0, FELKNOST_WORK, FELKNOST_WRITE_RESULT};
         for (; asked.output < REPORT_BYTES; asked.output++)
             writes("14", &report, asked, 14, REPORT_BYTES, "");
         for (; asked.output <= 30; asked.output++)
@@ -198,7 +198,7 @@ static void lists_of_no_line(void)
     size_t i, price;
     for (price = 0; price < FITTING_PRICES; price++)
         for (i = 0; i < sizeof lengths / sizeof *lengths; i++) {
-            struct asked asked = {&nothing, fitting_prices[price], lengths[i], FELKNOST_WORK, 3};
+            struct asked asked = {&nothing, fitting_prices[price], lengths[i], FELKNOST_WORK, FELKNOST_WRITE_RESULT};
             writes("a list of no line", &dearest, asked, 0, 0, "");
         }
 }
@@ -209,7 +209,7 @@ static void spaces_for(const struct writer *writer)
     static const size_t fitting[] = {16384, 16385};
     size_t i;
     for (i = 0; i < sizeof too_small / sizeof *too_small; i++) {
-        struct asked asked = {&nothing, in_blocks, 30, too_small[i], 3};
+        struct asked asked = {&nothing, in_blocks, 30, too_small[i], FELKNOST_WRITE_RESULT};
         writes("15", writer, asked, 15, 16384, "");
         asked.output = 0;
         writes("15 before 14", writer, asked, 15, 16384, "");
@@ -217,7 +217,7 @@ static void spaces_for(const struct writer *writer)
         writes("15 before 23", writer, asked, 15, 16384, "");
     }
     for (i = 0; i < sizeof fitting / sizeof *fitting; i++) {
-        struct asked asked = {&nothing, in_blocks, 30, fitting[i], 3};
+        struct asked asked = {&nothing, in_blocks, 30, fitting[i], FELKNOST_WRITE_RESULT};
         writes("a working space", writer, asked, 0, 0, writer->bytes);
     }
 }
@@ -226,7 +226,7 @@ static void prices_for(const struct writer *writer)
 {
     size_t i;
     for (i = 0; i < REFUSED_PRICES; i++) {
-        struct asked asked = {&nothing, refused_prices[i], 30, FELKNOST_WORK + 1, 4};
+        struct asked asked = {&nothing, refused_prices[i], 30, FELKNOST_WORK + 1, FELKNOST_WRITE_RESULT + 1};
         writes("23", writer, asked, 23, 0, "");
         asked.output = 0;
         writes("23 before 14", writer, asked, 23, 0, "");
@@ -237,15 +237,15 @@ static void results_for(const struct writer *writer)
 {
     struct asked asked = {&nothing, in_blocks, 30, FELKNOST_WORK, 0};
     int way;
-    for (; asked.result < 3; asked.result++)
+    for (; asked.result < FELKNOST_WRITE_RESULT; asked.result++)
         for (way = 0; way < WAYS; way++) {
             room_case = "a result too short";
             int returned = (int)wrote(writer, &asked, way);
             count_for(writer->name, way, returned == 0 && kept_from(&outputs, 0) && kept_from(&works, 0) && kept_from(&results, 0));
         }
-    asked.result = 3;
+    asked.result = FELKNOST_WRITE_RESULT;
     writes("a result of three numbers", writer, asked, 0, 0, writer->bytes);
-    asked.result = 5;
+    asked.result = FELKNOST_WRITE_RESULT + 2;
     writes("a longer result", writer, asked, 0, 0, writer->bytes);
 }
 
@@ -254,7 +254,7 @@ static void refused_by(const struct writer *writer)
     size_t i;
     for (i = 0; i < REFUSED_TEXTS; i++) {
         const struct text *text = &refused_texts[i];
-        struct asked asked = {text, in_blocks, 30, FELKNOST_WORK, 3};
+        struct asked asked = {text, in_blocks, 30, FELKNOST_WORK, FELKNOST_WRITE_RESULT};
         writes(text->name, writer, asked, text->code, text->place, "");
         asked.output = 0;
         writes(text->name, writer, asked, text->code, text->place, "");
@@ -325,12 +325,12 @@ static int stack_kept(const struct given *given)
 /* No event is done: the last three numbers of the result are 0, and answers, cache and memory are as they were. */
 static void ends(const char *name, struct given given, uint64_t code, uint64_t place)
 {
-    const uint64_t wanted[5] = {code, place, 0, 0, 0};
+    const uint64_t wanted[FELKNOST_RUN_RESULT] = {code, place, 0, 0, 0};
     int core, way;
     for (core = 0; core < CORES; core++)
         for (way = 0; way < WAYS; way++) {
             room_case = name;
-            int good = ran(&cores[core], &given, way) == 1 && result_is(wanted, 5) && cleared(&works, given.work);
+            int good = ran(&cores[core], &given, way) == 1 && result_is(wanted, FELKNOST_RUN_RESULT) && cleared(&works, given.work);
             count_for(cores[core].name, way, good && still_from(&answers, FIRST_ANSWER, given.answers) && stack_kept(&given));
         }
 }
@@ -341,7 +341,7 @@ static void caches_and_memories(void)
     size_t cache, memory;
     for (cache = 0; cache < 4; cache++)
         for (memory = 0; memory < 4; memory++) {
-            struct given given = {&nothing, in_blocks, mixed, 0, 0, lengths[cache], lengths[memory], FELKNOST_WORK, 5};
+            struct given given = {&nothing, in_blocks, mixed, 0, 0, lengths[cache], lengths[memory], FELKNOST_WORK, FELKNOST_RUN_RESULT};
             ends("no event", given, 0, 0);
             given.events = 6;
             given.answers = 3;
@@ -357,7 +357,7 @@ static void first_events(void)
     for (kind = 0; kind < sizeof kinds / sizeof *kinds; kind++)
         for (value = 0; value < sizeof values / sizeof *values; value++) {
             const uint32_t list[] = {kinds[kind], values[value]};
-            struct given given = {&nothing, in_blocks, list, 2, 1, 3, 2, FELKNOST_WORK, 5};
+            struct given given = {&nothing, in_blocks, list, 2, 1, 3, 2, FELKNOST_WORK, FELKNOST_RUN_RESULT};
             ends("22 before 20 and 21", given, 22, 0);
         }
 }
@@ -392,7 +392,7 @@ static void lists_and_answers(void)
     };
     size_t i;
     for (i = 0; i < sizeof cases / sizeof *cases; i++) {
-        struct given given = {&nothing, in_blocks, steps, cases[i].events, cases[i].answers, 2, 3, FELKNOST_WORK, 5};
+        struct given given = {&nothing, in_blocks, steps, cases[i].events, cases[i].answers, 2, 3, FELKNOST_WORK, FELKNOST_RUN_RESULT};
         ends("a list and its answers", given, cases[i].code, cases[i].place);
     }
 }
@@ -403,14 +403,14 @@ static void spaces_for_runs(void)
     static const size_t fitting[] = {16384, 16385};
     size_t i;
     for (i = 0; i < sizeof too_small / sizeof *too_small; i++) {
-        struct given given = {&nothing, in_blocks, steps, 0, 0, 0, 0, too_small[i], 5};
+        struct given given = {&nothing, in_blocks, steps, 0, 0, 0, 0, too_small[i], FELKNOST_RUN_RESULT};
         ends("15", given, 15, 16384);
         given.events = 3;
         given.price = refused_prices[0];
         ends("15 before 23, 16 and 17", given, 15, 16384);
     }
     for (i = 0; i < sizeof fitting / sizeof *fitting; i++) {
-        struct given given = {&nothing, in_blocks, steps, 0, 0, 1, 1, fitting[i], 6};
+        struct given given = {&nothing, in_blocks, steps, 0, 0, 1, 1, fitting[i], FELKNOST_RUN_RESULT + 1};
         ends("a working space", given, 0, 0);
         given.events = 4;
         given.answers = 2;
@@ -422,13 +422,13 @@ static void prices_for_runs(void)
 {
     size_t i;
     for (i = 0; i < FITTING_PRICES; i++) {
-        struct given given = {&nothing, fitting_prices[i], mixed + 4, 0, 1, 5, 5, FELKNOST_WORK, 5};
+        struct given given = {&nothing, fitting_prices[i], mixed + 4, 0, 1, 5, 5, FELKNOST_WORK, FELKNOST_RUN_RESULT};
         ends("a price", given, 0, 0);
         given.events = 2;
         ends("a price and a preemption", given, 22, 0);
     }
     for (i = 0; i < REFUSED_PRICES; i++) {
-        struct given given = {&nothing, refused_prices[i], steps, 0, 0, 5, 5, FELKNOST_WORK + 1, 5};
+        struct given given = {&nothing, refused_prices[i], steps, 0, 0, 5, 5, FELKNOST_WORK + 1, FELKNOST_RUN_RESULT};
         ends("23", given, 23, 0);
         given.events = 3;
         ends("23 before 16", given, 23, 0);
@@ -441,7 +441,7 @@ static void results_for_runs(void)
 {
     struct given given = {&nothing, in_blocks, steps, 2, 1, 2, 3, FELKNOST_WORK, 0};
     int core, way;
-    for (; given.result < 5; given.result++)
+    for (; given.result < FELKNOST_RUN_RESULT; given.result++)
         for (core = 0; core < CORES; core++)
             for (way = 0; way < WAYS; way++) {
                 room_case = "a result too short";
@@ -456,7 +456,7 @@ static void refused_by_runs(void)
     size_t i;
     for (i = 0; i < REFUSED_TEXTS; i++) {
         const struct text *text = &refused_texts[i];
-        struct given given = {text, in_blocks, steps, 0, 0, 0, 0, FELKNOST_WORK, 5};
+        struct given given = {text, in_blocks, steps, 0, 0, 0, 0, FELKNOST_WORK, FELKNOST_RUN_RESULT};
         ends(text->name, given, text->code, text->place);
         given.events = 3;
         ends(text->name, given, text->code, text->place);
@@ -466,8 +466,8 @@ static void refused_by_runs(void)
 /* 18 and 19 are tried for every task that has a stack, and such a task has not finished before its return. */
 static void tasks_with_a_stack(void)
 {
-    static const uint64_t wanted[5] = {22, 1, 1, 0, 0};
-    struct given given = {&no_frame, in_blocks, steps, 0, 2, 0, 0, FELKNOST_WORK, 5};
+    static const uint64_t wanted[FELKNOST_RUN_RESULT] = {22, 1, 1, 0, 0};
+    struct given given = {&no_frame, in_blocks, steps, 0, 2, 0, 0, FELKNOST_WORK, FELKNOST_RUN_RESULT};
     int core, way;
     ends("18, no cache", given, 18, 1);
     given.cache = 2;
@@ -482,7 +482,7 @@ static void tasks_with_a_stack(void)
     for (core = 0; core < CORES; core++)
         for (way = 0; way < WAYS; way++) {
             room_case = "22 behind a return";
-            int good = ran(&cores[core], &given, way) == 1 && result_is(wanted, 5) && cleared(&works, given.work);
+            int good = ran(&cores[core], &given, way) == 1 && result_is(wanted, FELKNOST_RUN_RESULT) && cleared(&works, given.work);
             const uint32_t *answer = (const uint32_t *)(const void *)answers.at;
             count_for(cores[core].name, way, good && answer[0] == 0 && answer[1] == FIRST_ANSWER + 1 && stack_kept(&given));
         }

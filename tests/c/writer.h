@@ -28,7 +28,7 @@
 
 static struct buffer texts, outputs, works, results;
 
-static uint64_t numbers[3];
+static uint64_t numbers[FELKNOST_WRITE_RESULT];
 
 static int called(const char *text, size_t length, struct price price, size_t output, size_t work, size_t result, int at_end)
 {
@@ -40,7 +40,7 @@ static int called(const char *text, size_t length, struct price price, size_t ou
     uint32_t answer = SERVICE(texts.at, length, price.start, price.each, outputs.at, output, (uint32_t *)(void *)works.at, work,
                               (uint64_t *)(void *)results.at, result);
     room_open(&texts.room);
-    if (result >= 3)
+    if (result >= FELKNOST_WRITE_RESULT)
         memcpy(numbers, results.at, sizeof numbers);
     return (int)answer;
 }
@@ -51,8 +51,8 @@ static void expect_at(const char *name, const char *text, size_t length, struct 
     int at_end;
     for (at_end = 0; at_end < 2; at_end++) {
         room_case = name;
-        int answer = called(text, length, price, output, work, 5, at_end);
-        int same = numbers[0] == code && numbers[1] == place && numbers[2] == written;
+        int answer = called(text, length, price, output, work, FELKNOST_WRITE_RESULT + 2, at_end);
+        int same = numbers[FELKNOST_RESULT_CODE] == code && numbers[FELKNOST_RESULT_PLACE] == place && numbers[FELKNOST_RESULT_WRITTEN] == written;
         int wrote = memcmp(outputs.at, bytes, written) == 0 && kept_from(&outputs, written);
         count(name, answer == 1 && same && wrote && cleared(&works, work) && kept_from(&results, sizeof numbers));
     }
@@ -104,15 +104,16 @@ static void short_results(void)
 {
     size_t result;
     int at_end;
-    for (result = 0; result < 3; result++)
+    for (result = 0; result < FELKNOST_WRITE_RESULT; result++)
         for (at_end = 0; at_end < 2; at_end++) {
             room_case = "a result too short";
             int answer = called(TASK, sizeof TASK - 1, in_blocks, 400, FELKNOST_WORK, result, at_end);
             count(room_case, answer == 0 && kept_from(&outputs, 0) && kept_from(&works, 0) && kept_from(&results, 0));
         }
-    uint64_t three[3] = {9, 9, 9};
-    int answer = (int)SERVICE(NULL, 0, 0, 1, NULL, 0, NULL, 0, three, 3);
-    count("nothing is lent but the result", answer == 1 && three[0] == 15 && three[1] == FELKNOST_WORK && three[2] == 0);
+    static const uint64_t refused[FELKNOST_WRITE_RESULT] = {15, FELKNOST_WORK, 0};
+    uint64_t alone[FELKNOST_WRITE_RESULT] = {9, 9, 9};
+    int answer = (int)SERVICE(NULL, 0, 0, 1, NULL, 0, NULL, 0, alone, FELKNOST_WRITE_RESULT);
+    count("nothing is lent but the result", answer == 1 && memcmp(alone, refused, sizeof refused) == 0);
     count("nothing is lent", SERVICE(NULL, 0, 0, 1, NULL, 0, NULL, 0, NULL, 0) == 0);
 }
 
@@ -125,13 +126,13 @@ static void *writes(void *good)
     static const char task[] = TASK;
     uint32_t *work = (uint32_t *)malloc(FELKNOST_WORK * sizeof *work);
     uint8_t output[WANTED + 3];
-    uint64_t result[3];
+    uint64_t result[FELKNOST_WRITE_RESULT];
     int round;
     for (round = 0; work != NULL && round < ROUNDS; round++) {
         memset(work, FILLER, FELKNOST_WORK * sizeof *work);
         memset(output, FILLER, sizeof output);
-        if (SERVICE((const uint8_t *)task, sizeof task - 1, 0, 1, output, sizeof output, work, FELKNOST_WORK, result, 3) != 1 || result[2] != WANTED ||
-            memcmp(output, BYTES, WANTED) != 0 || output[WANTED] != FILLER)
+        uint32_t answer = SERVICE((const uint8_t *)task, sizeof task - 1, 0, 1, output, sizeof output, work, FELKNOST_WORK, result, FELKNOST_WRITE_RESULT);
+        if (answer != 1 || result[FELKNOST_RESULT_WRITTEN] != WANTED || memcmp(output, BYTES, WANTED) != 0 || output[WANTED] != FILLER)
             break;
     }
     free(work);
@@ -143,11 +144,11 @@ static void *writes(void *good)
 
 static uint8_t stack_output[PAGE];
 static uint32_t stack_work[FELKNOST_WORK];
-static uint64_t stack_result[3];
+static uint64_t stack_result[FELKNOST_WRITE_RESULT];
 
 static void write_of(const char *text, size_t output)
 {
-    SERVICE((const uint8_t *)text, strlen(text), 0, 1, stack_output, output, stack_work, FELKNOST_WORK, stack_result, 3);
+    SERVICE((const uint8_t *)text, strlen(text), 0, 1, stack_output, output, stack_work, FELKNOST_WORK, stack_result, FELKNOST_WRITE_RESULT);
 }
 
 static void write_tasks(void)

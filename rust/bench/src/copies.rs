@@ -4,6 +4,8 @@ use std::cell::RefCell;
 use std::hint::black_box;
 use std::process::ExitCode;
 
+use felknost::{RESULT_CODE, RESULT_MOVED, RESULT_WRITTEN, RUN_RESULT};
+
 use crate::run::List;
 use crate::texts::{report_texts, texts};
 use crate::timing::{micros, Call, Rounds};
@@ -20,7 +22,8 @@ struct Room {
     cache: Vec<u32>,
     memory: Vec<u32>,
     work: Vec<u32>,
-    result: [u64; 5],
+    /// Room for the result of a run; the other ones are shorter.
+    result: [u64; RUN_RESULT],
 }
 
 /// A price of moves: start and each.
@@ -79,7 +82,7 @@ macro_rules! writer {
                 room.result.as_mut_ptr(),
                 room.result.len(),
             );
-            answer(room.result[0], room.result[2])
+            answer(room.result[RESULT_CODE], room.result[RESULT_WRITTEN])
         }
     }};
 }
@@ -135,7 +138,7 @@ macro_rules! runner {
                 room.result.as_mut_ptr(),
                 room.result.len(),
             );
-            answer(room.result[0], room.result[3])
+            answer(room.result[RESULT_CODE], room.result[RESULT_MOVED])
         }
     }};
 }
@@ -264,7 +267,7 @@ pub fn compare() -> ExitCode {
         cache: vec![7; 64],
         memory: vec![7; 256],
         work: vec![0; felknost::WORK],
-        result: [0; 5],
+        result: [0; RUN_RESULT],
     });
     let mut slower = 0;
     for (service, rounds, rows) in tables() {

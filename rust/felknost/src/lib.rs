@@ -41,7 +41,31 @@ extern "C" {
 /// The numbers that a lent working space has at least.
 pub const WORK: usize = 16_384;
 
-/// Bytes of output that are enough for the report of every task at every price.
+/// The numbers of a result of [`raw::report`] and [`raw::dearest_points`]: code, place, bytes written.
+pub const WRITE_RESULT: usize = 3;
+
+/// The numbers of a result of [`raw::run`] and [`raw::run_lazy`]: code, place, events done, moved, allowed.
+pub const RUN_RESULT: usize = 5;
+
+/// The index of the code in every result: 0, or that of a [`Row`].
+pub const RESULT_CODE: usize = 0;
+
+/// The index of the place in every result.
+pub const RESULT_PLACE: usize = 1;
+
+/// The index of the bytes written, in a result of [`WRITE_RESULT`] numbers.
+pub const RESULT_WRITTEN: usize = 2;
+
+/// The index of the events done, in a result of [`RUN_RESULT`] numbers.
+pub const RESULT_DONE: usize = 2;
+
+/// The index of what was moved, in a result of [`RUN_RESULT`] numbers.
+pub const RESULT_MOVED: usize = 3;
+
+/// The index of what the sheet allows, in a result of [`RUN_RESULT`] numbers.
+pub const RESULT_ALLOWED: usize = 4;
+
+/// Bytes of output that are enough for the report of every task at every price: no report has more than 63,967.
 pub const OUTPUT: usize = 65_536;
 
 /// Bytes of output that are enough for the dearest points of every task at every price: no list has more than 220.

@@ -1,6 +1,6 @@
 //! The report of a task text, and what every service that writes has in common with it.
 
-use crate::{raw, Refusal};
+use crate::{raw, Refusal, RESULT_CODE, RESULT_PLACE, RESULT_WRITTEN, WRITE_RESULT};
 
 /// Writes the report of a task text to the front of `output` and gives its length. A move costs `start`, 0 to 255, where it moves a block at
 /// all, and `each`, 1 to 255, for each block; 0 and 1 count blocks. With 0 and 1 the line of a point ends with once, the bound on what a
@@ -27,10 +27,9 @@ pub(crate) fn written(
     output: &mut [u8],
     work: &mut [u32],
 ) -> Result<usize, Refusal> {
-    let mut result = [0; 3];
+    let mut result = [0; WRITE_RESULT];
     let answer = writer(text, start, each, output, work, &mut result);
     debug_assert_eq!(answer, 1);
-    let [code, place, written] = result;
-    Refusal::of(code as u32, place as u32)?;
-    Ok(written as usize)
+    Refusal::of(result[RESULT_CODE] as u32, result[RESULT_PLACE] as u32)?;
+    Ok(result[RESULT_WRITTEN] as usize)
 }

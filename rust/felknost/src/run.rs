@@ -1,6 +1,8 @@
 //! A run of an event list on either core.
 
-use crate::{raw, Refusal};
+use crate::{
+    raw, Refusal, RESULT_ALLOWED, RESULT_CODE, RESULT_DONE, RESULT_MOVED, RESULT_PLACE, RUN_RESULT,
+};
 
 /// What a run returns beside the buffers.
 #[derive(Clone, Copy, Debug, PartialEq, Eq)]
@@ -65,16 +67,15 @@ pub fn run_lazy(
     result_of(call)
 }
 
-/// What a call returns that is lent a result of five numbers.
+/// What a call returns that is lent a result of [`RUN_RESULT`] numbers.
 fn result_of(call: impl FnOnce(&mut [u64]) -> u32) -> RunResult {
-    let mut result = [0; 5];
+    let mut result = [0; RUN_RESULT];
     let answer = call(&mut result);
     debug_assert_eq!(answer, 1);
-    let [code, place, done, moved, allowed] = result;
     RunResult {
-        ending: Refusal::of(code as u32, place as u32),
-        done: done as u32,
-        moved,
-        allowed,
+        ending: Refusal::of(result[RESULT_CODE] as u32, result[RESULT_PLACE] as u32),
+        done: result[RESULT_DONE] as u32,
+        moved: result[RESULT_MOVED],
+        allowed: result[RESULT_ALLOWED],
     }
 }

@@ -1,6 +1,6 @@
 //! Run in both implementations, on the core without a lazy pointer and on the one with it.
 
-use felknost::raw;
+use felknost::{raw, RUN_RESULT};
 use generate::Price;
 use second::lazy::{LazyCore, View};
 use second::run::{run_lazy_seen, Service};
@@ -162,7 +162,7 @@ impl Core {
         let mut cache = Guarded::holding(&lent.cache);
         let mut memory = Guarded::holding(&lent.memory);
         let mut space = Guarded::noisy(work);
-        let mut result = Guarded::noisy(5 + text.len() % 3);
+        let mut result = Guarded::noisy(RUN_RESULT + text.len() % 3);
         let answer = (self.proved)(
             text,
             price.start,
@@ -184,7 +184,7 @@ impl Core {
 
 /// Requires that a function of the archive leaves all as it was where the result is too short. The buffers fit [`TWO`](crate::TWO).
 pub fn assert_short_run_results(function: raw::Runner, text: &[u8]) {
-    for length in 0..5 {
+    for length in 0..RUN_RESULT {
         let mut answers = Guarded::noisy(7);
         let mut cache = Guarded::noisy(5);
         let mut memory = Guarded::noisy(6);

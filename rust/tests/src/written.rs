@@ -2,7 +2,7 @@
 
 use std::fmt::Display;
 
-use felknost::{raw, Refusal, Row};
+use felknost::{raw, Refusal, Row, WRITE_RESULT};
 use generate::Price;
 use second::figures::{figures, Figures};
 use second::text::Task;
@@ -81,7 +81,7 @@ impl Service {
     fn write_in_archive(&self, text: &[u8], price: Price, work: usize, wanted: &Written) {
         let mut output = Guarded::noisy(wanted.output.len());
         let mut space = Guarded::noisy(work);
-        let mut result = Guarded::noisy(3 + text.len() % 3);
+        let mut result = Guarded::noisy(WRITE_RESULT + text.len() % 3);
         let answer = (self.proved)(
             text,
             price.start,
@@ -113,7 +113,7 @@ pub fn dearest_points_at(text: &[u8], price: Price, output: usize, work: usize) 
 
 /// Requires that a function of the archive leaves all as it was where the result is too short.
 pub fn assert_short_results(function: raw::Writer, text: &[u8]) {
-    for length in 0..3 {
+    for length in 0..WRITE_RESULT {
         let mut output = Guarded::noisy(300);
         let mut work = Guarded::noisy(WORK_MIN);
         let mut result = Guarded::noisy(length);

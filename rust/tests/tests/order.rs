@@ -2,6 +2,7 @@
 
 use std::collections::BTreeSet;
 
+use felknost::RESULT_DONE;
 use generate::Price;
 use second::WORK_MIN;
 use tests::{dearest_points_at, report_at, run, run_at, steps, text, verdict, Lent, TWO};
@@ -203,7 +204,7 @@ fn priced(text: &[u8], price: Price, work: usize) -> (u32, u32) {
     let lent = Lent::noisy(0, 1, 2);
     let ran = run_at(text, price, &[2, 0, 0], &lent, work);
     assert_eq!(ran.verdict(), refusal);
-    assert_eq!(ran.result.numbers()[2..], [0, 0, 0]);
+    assert_eq!(ran.result.numbers()[RESULT_DONE..], [0, 0, 0]);
     assert_eq!(ran.lent, lent);
     refusal
 }

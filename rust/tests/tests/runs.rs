@@ -3,6 +3,7 @@
 use std::collections::BTreeMap;
 use std::fmt::Display;
 
+use felknost::RESULT_DONE;
 use generate::{Price, RunCase};
 use second::figures::Displacement;
 use second::{code_and_place, plain, RunResult, WORK_MIN};
@@ -127,7 +128,7 @@ fn runs_with_lengths_that_do_not_fit_change_nothing() {
         let ran = run_case(&case);
         let (code, _) = ran.verdict();
         assert!((16..=19).contains(&code), "{case}");
-        assert_eq!(ran.result.numbers()[2..], [0, 0, 0], "{case}");
+        assert_eq!(ran.result.numbers()[RESULT_DONE..], [0, 0, 0], "{case}");
         assert_eq!(ran.lent, lent(&case.lent), "{case}");
         *codes.entry(code).or_insert(0u32) += 1;
     }
@@ -145,7 +146,7 @@ fn runs_of_refused_texts_change_nothing() {
         let lent = Lent::noisy(2, 4, 9);
         let ran = run(&case.text, &[0, 1, 1, 0], &lent, WORK_MIN + 2);
         assert_eq!(ran.result.ending, Err(refusal), "{case}");
-        assert_eq!(ran.result.numbers()[2..], [0, 0, 0], "{case}");
+        assert_eq!(ran.result.numbers()[RESULT_DONE..], [0, 0, 0], "{case}");
         assert_eq!(ran.lent, lent, "{case}");
     }
 }

@@ -3,6 +3,7 @@
 
 use std::path::{Path, PathBuf};
 
+use felknost::{RESULT_ALLOWED, RESULT_MOVED};
 use generate::Price;
 use second::figures::Displacement;
 use second::sheet::{Foot, Last};
@@ -188,12 +189,13 @@ fn vectors_run_lazy() {
     let mut less = 0;
     for case in run_vectors() {
         let ran = case.run_both();
+        let RunVector { name, result, .. } = &case;
         let numbers = ran.lazy.result.numbers();
-        assert_eq!(numbers[..3], case.result[..3], "{}", case.name);
-        assert!(numbers[3] <= case.result[3], "{}", case.name);
-        assert_eq!(numbers[4], case.result[4], "{}", case.name);
-        assert_eq!(ran.lazy.lent, case.back, "{}", case.name);
-        less += usize::from(numbers[3] < case.result[3]);
+        assert_eq!(numbers[..RESULT_MOVED], result[..RESULT_MOVED], "{name}");
+        assert!(numbers[RESULT_MOVED] <= result[RESULT_MOVED], "{name}");
+        assert_eq!(numbers[RESULT_ALLOWED], result[RESULT_ALLOWED], "{name}");
+        assert_eq!(ran.lazy.lent, case.back, "{name}");
+        less += usize::from(numbers[RESULT_MOVED] < result[RESULT_MOVED]);
     }
     assert_eq!(less, 12);
 }
@@ -207,14 +209,15 @@ fn vectors_run_once() {
     let mut less = 0;
     for case in tasks.iter().map(|path| RunVector::of(path)) {
         let ran = case.run_both();
-        assert_eq!(ran.eager.result.numbers()[..], case.result, "{}", case.name);
-        assert_eq!(ran.eager.lent, case.back, "{}", case.name);
+        let RunVector { name, result, .. } = &case;
+        assert_eq!(ran.eager.result.numbers()[..], *result, "{name}");
+        assert_eq!(ran.eager.lent, case.back, "{name}");
         let sheet = func_lines(&whole_report(&case.text, Price::BLOCKS));
         let allowed = Allowed::of(&sheet, &case.text, &case.events);
-        assert_eq!(allowed.preemptions, 1, "{}", case.name);
-        assert_eq!(case.result[3], allowed.with_once(), "{}", case.name);
-        assert_eq!(case.result[4], allowed.with_cost(), "{}", case.name);
-        assert!(case.result[3] < case.result[4], "{}", case.name);
+        assert_eq!(allowed.preemptions, 1, "{name}");
+        assert_eq!(result[RESULT_MOVED], allowed.with_once(), "{name}");
+        assert_eq!(result[RESULT_ALLOWED], allowed.with_cost(), "{name}");
+        assert!(result[RESULT_MOVED] < result[RESULT_ALLOWED], "{name}");
         less += usize::from(ran.lazy_moves_less());
     }
     assert_eq!(less, 2);
@@ -226,12 +229,12 @@ fn vectors_run_at_prices() {
     for case in run_vectors() {
         for price in prices() {
             let ran = run_at(&case.text, price, &case.events, &case.lent, WORK_MIN);
-            let numbers = ran.result.numbers();
+            let (numbers, result) = (ran.result.numbers(), &case.result);
             let name = format!("{} {price:?}", case.name);
             if price.fits() {
-                assert_eq!(numbers[..3], case.result[..3], "{name}");
+                assert_eq!(numbers[..RESULT_MOVED], result[..RESULT_MOVED], "{name}");
                 assert_eq!(ran.lent, case.back, "{name}");
-                assert!(numbers[3] <= numbers[4], "{name}");
+                assert!(numbers[RESULT_MOVED] <= numbers[RESULT_ALLOWED], "{name}");
             } else {
                 assert_eq!(numbers, [23, 0, 0, 0, 0], "{name}");
                 assert_eq!(ran.lent, case.lent, "{name}");

@@ -1,6 +1,7 @@
 //! A task without a stack, which is the text of no byte, in every service: with outputs, working spaces, prices, event lists, answers, caches and memories of the
 //! lengths that count, on both cores and on the plain stack. What each has to give is written here by hand. Texts of few bytes are refused, in every service.
 
+use felknost::RESULT_DONE;
 use generate::Price;
 use second::plain::{self, PlainResult};
 use second::{code_and_place, WORK_MIN};
@@ -139,7 +140,7 @@ fn ending(text: &[u8], price: Price, events: &[u32], lengths: [usize; 3], work: 
     let lent = Lent::noisy(answers, cache, memory);
     let BothRan { eager, lazy } = run_both_at(text, price, events, &lent, work);
     for ran in [&eager, &lazy] {
-        assert_eq!(ran.result.numbers()[2..], [0, 0, 0]);
+        assert_eq!(ran.result.numbers()[RESULT_DONE..], [0, 0, 0]);
         assert_eq!(ran.verdict(), eager.verdict());
         assert_eq!(ran.lent, lent);
     }
