@@ -99,7 +99,7 @@ uint32_t felknost_report(const uint8_t *text, size_t text_length, uint32_t start
  * the return value. With 14 PLACE is the number of bytes of the list.
  */
 
-/* Bytes of output that are enough for every list: none has more than 220. */
+/* Bytes of output that are enough for every list: no list has more than 220. */
 #define FELKNOST_DEAREST_OUTPUT 256
 
 uint32_t felknost_dearest_points(const uint8_t *text, size_t text_length, uint32_t start, uint32_t each, uint8_t *output, size_t output_length,

@@ -8,6 +8,7 @@ mod named;
 mod rules;
 mod services;
 mod sheets;
+mod sources;
 mod texts;
 mod written;
 
@@ -20,6 +21,7 @@ pub use services::{check, verdict};
 pub use sheets::{
     func_lines, once_of, rows, split_once, split_total, sum_of_costs, whole_report, FuncLines,
 };
+pub use sources::{header_number, header_numbers, source, spec_number};
 pub use texts::{called, deep, largest, prices, steps, text, TWO};
 pub use written::{
     assert_binding, assert_short_results, dearest_points_at, report, report_at, Wanted, Written,

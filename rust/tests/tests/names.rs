@@ -1,17 +1,11 @@
 //! The rows of the table of refusals have the same names and codes in the model, in the binding and in the second implementation, and the
 //! header declares the services and lists what each can return, and the lengths of the binding.
 
-use std::path::{Path, PathBuf};
-
-fn root(path: &str) -> PathBuf {
-    Path::new(env!("CARGO_MANIFEST_DIR"))
-        .join("../..")
-        .join(path)
-}
+use tests::{header_numbers, source};
 
 /// The words between `start` and the next `}` in a file.
 fn variants(path: &str, start: &str) -> Vec<String> {
-    let text = vectors::read_text(&root(path));
+    let text = source(path);
     let at = text.find(start).expect("the declaration is there") + start.len();
     let body = text[at..].split('}').next().expect("it ends");
     let names = body.split(',').map(|name| name.trim().to_string());
@@ -26,7 +20,7 @@ fn sorted(mut rows: Vec<(String, u32)>) -> Vec<(String, u32)> {
 
 /// The equations `codeOf NAME = NUMBER` of the model.
 fn in_model() -> Vec<(String, u32)> {
-    let text = vectors::read_text(&root("crates/model/specs/Rows.antt"));
+    let text = source("crates/model/specs/Rows.antt");
     let equation = |line: &str| {
         let (name, number) = line.strip_prefix("codeOf ")?.split_once(" = ")?;
         Some((name.to_string(), number.parse().ok()?))
@@ -52,7 +46,7 @@ fn rows_agree() {
 /// The lines of the header that begin with a code: those of check, of report, and of run, which has 23 too.
 #[test]
 fn header_lists_the_codes() {
-    let text = vectors::read_text(&root("include/felknost.h"));
+    let text = source("include/felknost.h");
     let codes: Vec<u32> = text
         .lines()
         .filter_map(|line| line.strip_prefix(" *")?.split_once("  "))
@@ -62,23 +56,32 @@ fn header_lists_the_codes() {
     assert_eq!(codes, wanted.collect::<Vec<u32>>());
 }
 
-/// The lengths that the header defines are those of the binding.
+/// The lengths and indices that the header defines are those of the binding, by the same names. The stack of a call is in the header alone.
 #[test]
 fn lengths_agree() {
-    let text = vectors::read_text(&root("include/felknost.h"));
-    let defined = |name: &str| -> usize {
-        let start = format!("#define FELKNOST_{name} ");
-        let number = text.lines().find_map(|line| line.strip_prefix(&start));
-        number.expect(name).parse().expect("a number")
-    };
-    assert_eq!(defined("WORK"), felknost::WORK);
-    assert_eq!(defined("OUTPUT"), felknost::OUTPUT);
-    assert_eq!(defined("DEAREST_OUTPUT"), felknost::DEAREST_OUTPUT);
+    let stacks = ["STACK", "THREAD_STACK"];
+    let mut defined = header_numbers();
+    defined.retain(|(name, _)| !stacks.contains(&&name[..]));
+    let binding = [
+        ("WORK", felknost::WORK),
+        ("WRITE_RESULT", felknost::WRITE_RESULT),
+        ("RESULT_CODE", felknost::RESULT_CODE),
+        ("RESULT_PLACE", felknost::RESULT_PLACE),
+        ("RESULT_WRITTEN", felknost::RESULT_WRITTEN),
+        ("OUTPUT", felknost::OUTPUT),
+        ("DEAREST_OUTPUT", felknost::DEAREST_OUTPUT),
+        ("RUN_RESULT", felknost::RUN_RESULT),
+        ("RESULT_DONE", felknost::RESULT_DONE),
+        ("RESULT_MOVED", felknost::RESULT_MOVED),
+        ("RESULT_ALLOWED", felknost::RESULT_ALLOWED),
+    ];
+    let binding = binding.map(|(name, number)| (name.to_string(), number));
+    assert_eq!(defined, binding);
 }
 
 /// The functions that the header declares, each with its parameters.
 fn declared() -> Vec<(String, String)> {
-    let text = vectors::read_text(&root("include/felknost.h"));
+    let text = source("include/felknost.h");
     let declarations = text.split("\nuint32_t felknost_").skip(1);
     let one = |declaration: &str| {
         let (name, rest) = declaration.split_once('(').expect("parameters");

@@ -310,26 +310,29 @@ mod in_archive {
     }
 
     fn assert_binding(function: felknost::Run) {
-        let mut answers = [7; 7];
+        let mut answers = [7; 8];
         let (mut cache, mut memory) = ([7; 5], [7; 6]);
         let mut work = vec![7; felknost::WORK];
-        let mut call = |start, each, answers: &mut [u32]| {
-            let (text, events) = (TWO.as_bytes(), steps(7, 3));
-            let (cache, memory) = (&mut cache, &mut memory);
-            function(
-                text, start, each, &events, answers, cache, memory, &mut work,
-            )
+        let mut call = |start, each, events: &[u32], answers: &mut [u32]| {
+            let (text, cache, memory) = (TWO.as_bytes(), &mut cache, &mut memory);
+            function(text, start, each, events, answers, cache, memory, &mut work)
         };
-        let ran = call(0, 1, &mut answers);
+        let plain = steps(7, 3);
+        let ran = call(0, 1, &plain, &mut answers);
         assert_eq!((ran.ending, ran.done), (Ok(()), 7));
         assert_eq!((ran.moved, ran.allowed), (2, 2));
-        assert_eq!(answers, [0, 0, 0, 3, 0, 0, 3]);
-        let ran = call(10, 1, &mut answers);
+        assert_eq!(answers, [0, 0, 0, 3, 0, 0, 3, 7]);
+        let ran = call(10, 1, &plain, &mut answers);
         assert_eq!((ran.moved, ran.allowed), (22, 22));
+        // Done, moved and allowed differ here.
+        let preempted = [steps(3, 3), vec![1, 8], steps(4, 3)].concat();
+        let ran = call(10, 1, &preempted, &mut answers);
+        assert_eq!((ran.ending, ran.done), (Ok(()), 8));
+        assert_eq!((ran.moved, ran.allowed), (49, 59));
         let refused = |row, place| Err(Refusal { row, place });
-        let short = call(0, 1, &mut answers[..6]);
+        let short = call(0, 1, &plain, &mut answers[..6]);
         assert_eq!(short.ending, refused(Row::AnswersTooSmall, 7));
-        let no_price = call(0, 256, &mut answers);
+        let no_price = call(0, 256, &plain, &mut answers);
         assert_eq!(no_price.ending, refused(Row::PriceRange, 0));
     }
 }
