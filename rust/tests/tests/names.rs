@@ -1,5 +1,5 @@
 //! The rows of the table of refusals have the same names and codes in the model, in the binding and in the second implementation, and the
-//! header declares the services and lists what each can return, and the lengths of the binding.
+//! header declares the services and lists what each can return, and has the lengths and indices of the binding.
 
 use tests::{header_numbers, source};
 
