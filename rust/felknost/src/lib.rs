@@ -47,7 +47,7 @@ pub const WRITE_RESULT: usize = 3;
 /// The numbers of a result of [`raw::run`] and [`raw::run_lazy`]: code, place, events done, moved, allowed.
 pub const RUN_RESULT: usize = 5;
 
-/// The index of the code in every result: 0, or that of a [`Row`].
+/// The index of the code in every result. A code is 0, or that of a [`Row`].
 pub const RESULT_CODE: usize = 0;
 
 /// The index of the place in every result.
