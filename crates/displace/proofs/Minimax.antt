@@ -6,7 +6,7 @@ use mathlib.Core.List.{List}
 use mathlib.Core.Option.{Option, none, some}
 use mathlib.Core.Path.{_≡_, refl}
 use lib.Dec.{T, leb, ltb, leb→le, le→leb, ltb→lt, lt→ltb}
-use Rattle.model.specs.Basic.{select, largest, countFrom}
+use Rattle.model.specs.Basic.{select, countFrom}
 use Rattle.model.specs.Task.{Func, size, point}
 use Rattle.model.specs.Walk.{Met, Smallest, leads, called, present, isCall, returns, never}
 use Rattle.model.specs.Figures.{displacementAt, callsAbove, minimax}

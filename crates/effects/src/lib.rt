@@ -10,8 +10,8 @@ ghost use Rattle.bits.specs.Bits.{Marks};
 ghost use Rattle.effects.specs.Effects.{gives, takes, effectWith, HasEffect};
 use model::Point;
 
-// A problem over sets of 64 bits. specs/Effects.antt says what a point gives and takes. The first four go backward from each point, the others
-// forward from point 0. Three have a column, a number for each point.
+// A problem over sets of 64 bits. specs/Effects.antt says what a point gives and takes. The first four go backward from each point, the last
+// one forward from point 0. Three have a column, a number for each point.
 pub enum Problem {
     // Offsets that a walk loads with no store of them before.
     Live,
@@ -24,8 +24,6 @@ pub enum Problem {
     FirstEnsure,
     // Occupancy that walks bring: k blocks are the bits below k. The column has what the callee of each call leaves of the cache.
     Occupied,
-    // Offsets that a walk has not stored; at point 0 those below the frame.
-    Unstored,
 }
 
 // What a point does: the offset that it loads and the offset that it stores, as sets; whether it is a call, an ensure, a return.
@@ -93,7 +91,6 @@ pub fn gens_of(problem: Problem, e: Effect, frame: u32, a: u32) -> u64
         Problem::CallLevels => only_if(e.returned, u64::MAX),
         Problem::FirstEnsure => only_if(e.ensured, kept_bit(a)),
         Problem::Occupied => only_if(e.ensured, bits::low_bits(frame)),
-        Problem::Unstored => 0,
     }
 }
 
@@ -108,6 +105,5 @@ pub fn kills_of(problem: Problem, e: Effect, a: u32) -> u64
         Problem::CallLevels => only_if(e.called, bits::low_bits(a)),
         Problem::FirstEnsure => only_if(e.ensured, u64::MAX),
         Problem::Occupied => only_if(e.called, !bits::low_bits(a)),
-        Problem::Unstored => e.stored,
     }
 }

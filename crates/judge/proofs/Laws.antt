@@ -1,8 +1,7 @@
 -- The judgement of the passes is the first refusal of the rows, in their order.
 use Prim.Native.Nat.{ℕ, _≤_, _<_}
-use mathlib.Core.Path.{_≡_, refl, sym, ap, _∙_}
+use mathlib.Core.Path.{_≡_, sym, ap, _∙_}
 use mathlib.Core.List.{List}
-use mathlib.Core.Option.{Option, none, some}
 use lib.ListN.{length}
 use borrow.Author.Tests.{lt-ltb, le-ltb}
 use Rattle.model.specs.declared.Refusal.{Refusal}
@@ -13,7 +12,7 @@ use Rattle.model.specs.Limits.{mostBytes}
 use Rattle.model.specs.Rows.{refuse, rowVerdict}
 use Rattle.model.specs.Task.{Task, Judged, refused, task, readText}
 use Rattle.model.specs.Refusal.{linkRows, walkRows, taskRows, orTask, withRows, judged}
-use Rattle.model.specs.WellFormed.{Shaped, Linked, WellFormed}
+use Rattle.model.specs.WellFormed.{Shaped, Linked}
 use Rattle.theory.proofs.Search.{verdict-none, verdict-some}
 use Rattle.theory.proofs.Reading.{read-shaped}
 use Rattle.theory.proofs.Accepted.{links-none, rows-none}
@@ -21,7 +20,7 @@ use Rattle.tables.specs.declared.Header.{Header}
 use Rattle.tables.specs.Layout.{tablesLength}
 use Rattle.tables.specs.Tables.{taskOf}
 use Rattle.tables.specs.Valid.{Kept, Holds}
-use Rattle.tables.proofs.Valid.{kept-same, kept-on}
+use Rattle.tables.proofs.Valid.{kept-same}
 use Rattle.reader.specs.declared.Read.{Read}
 use Rattle.reader.specs.declared.Read.the-variants as read
 use Rattle.reader.specs.Reading.{readAs}

@@ -20,7 +20,7 @@ use Rattle.scan.specs.declared.Pair.{Pair}
 use Rattle.scan.specs.declared.Pair.the-variants as pair
 use Rattle.scan.specs.Answers.{scanOne, scanTwo}
 use Rattle.scan.proofs.Laws.{both, starts-off, starts-short, one-off, one-short, two-by}
-use Rattle.line.specs.Lines.{First, isStack, isFunc, isInside, firstIs, numAs, stackAs, funcAs, insideAs}
+use Rattle.line.specs.Lines.{First, isStack, isFunc, isInside, firstIs, stackAs, funcAs}
 use Rattle.line.specs.Patterns.{Pattern, fixed, one, two, Parse, parseFixed, parseOne, parseTwo, _↵_, parse, parseBy, points, stack, func, close, lines}
 use Rattle.line.proofs.Feed.{noFeed, by-feed, lines-off, first-line, starts-line, starts-none, same-length}
 use Rattle.line.proofs.Feed.{withBytes, pairWithBytes, one-none, one-line, two-none, two-line}

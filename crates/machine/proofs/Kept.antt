@@ -1,49 +1,22 @@
--- What each move keeps of a good core, the most that it moves, and what a start and a run's window give. A run cites these laws.
+-- What the first half of a preemption keeps of a good core, the most blocks that a move moves, and what a start and a run's window give.
 use Prim.Native.Nat.{ℕ, _+_, _≤_, _<_}
 use mathlib.Core.List.{List, _∷_}
 use mathlib.Core.Path.{_≡_, refl}
 use native.Mathlib.Omega.{arith}
-use lib.ListN.{length, length-set}
+use lib.ListN.{length}
 use Rattle.model.specs.declared.Eviction.{Eviction}
 use Rattle.model.specs.Task.{Task, func}
 use Rattle.model.specs.Sheet.{Sheet}
 use Rattle.model.specs.Plain.{Frame}
-use Rattle.model.specs.Core.{Core, Clean, effective, spilled, reserve, free, ensure, store, save, withCache, resume, idle}
-use Rattle.theory.proofs.Blocks.{length-spilled, length-filled}
+use Rattle.model.specs.Core.{Core, Clean, effective, spilled, reserve, ensure, save, withCache, idle}
+use Rattle.theory.proofs.Blocks.{length-spilled}
 use Rattle.theory.proofs.Frames.{Window, total}
 use Rattle.theory.proofs.Clean.{written-between}
 use Rattle.machine.specs.Moves.{Good}
 
--- a core that equals a good one is good
-pub good-as : {c d : Core} → c ≡ d → Good d → Good c
-good-as e g = rw e g
-
--- ---- each move leaves a good core
+-- ---- a good core that is saved, and then has another cache
 
 module _ (c : Core) (g : Good c) where
-  pub reserve-good : (k : ℕ) → k ≤ c .st → Good (reserve k c .core)
-  unfolding reserve
-  reserve-good k h =
-      let l : length (reserve k c .core .memory) ≡ length (c .memory) = length-spilled _ _ _ _ in
-      record { nonempty = g .nonempty; within = omega (arith, g .within); fits = omega arith; inside = omega (arith, l) }
-
-  pub free-good : (k : ℕ) → c .st + k ≤ length (c .memory) → Good (free k c)
-  unfolding free
-  free-good k h = record { nonempty = g .nonempty; within = omega (arith, g .within); fits = omega arith; inside = omega arith }
-
-  pub ensure-good : (k : ℕ) → k ≤ length (c .cache) → c .st + k ≤ length (c .memory) → Good (ensure k c .core)
-  unfolding ensure
-  ensure-good k h m =
-      let l : length (ensure k c .core .cache) ≡ length (c .cache) = length-filled _ _ _ _ in
-      record { nonempty = omega (arith, l); within = omega (arith, g .within); fits = omega (arith, l); inside = omega arith }
-
-  -- to a cached offset
-  pub store-good : (o v : ℕ) → o < c .occupancy → Good (store o v c)
-  unfolding store
-  store-good o v h =
-      let l : length (store o v c .cache) ≡ length (c .cache) = simp length-set in
-      record { nonempty = omega (arith, l); within = omega (arith, g .within); fits = omega (arith, l); inside = g .inside }
-
   pub save-good : (dead : ℕ) → Good (save dead c .core)
   unfolding save
   save-good dead =
@@ -53,13 +26,7 @@ module _ (c : Core) (g : Good c) where
   pub between-good : (cache : List ℕ) → length cache ≡ length (c .cache) → Good (withCache cache c)
   between-good cache e = record { nonempty = omega arith; within = g .within; fits = omega arith; inside = g .inside }
 
-  pub resume-good : (dead need : ℕ) → Good (resume dead need c .core)
-  unfolding resume
-  resume-good dead need =
-      let l : length (resume dead need c .core .cache) ≡ length (c .cache) = length-filled _ _ _ _ in
-      record { nonempty = omega (arith, l); within = omega arith; fits = omega (arith, l); inside = omega arith }
-
--- ---- the most blocks that each moves
+-- ---- the most blocks that a move moves
 
 module _ (c : Core) where
   pub reserve-blocks : (k : ℕ) → c .pointer ≤ c .occupancy → c .occupancy ≤ length (c .cache) → reserve k c .blocks ≤ k
@@ -70,22 +37,11 @@ module _ (c : Core) where
   unfolding ensure
   ensure-blocks k = omega arith
 
-  pub save-blocks : (dead : ℕ) → c .pointer ≤ c .occupancy → save dead c .blocks ≤ c .occupancy
-  unfolding save
-  save-blocks dead i = omega (arith, written-between (c .eviction) (c .occupancy) (c .pointer) i)
-
-  pub resume-blocks : (dead need : ℕ) → resume dead need c .blocks ≤ c .occupancy
-  unfolding resume
-  resume-blocks dead need = omega arith
-
 -- what is written back is cached
 pub written-few : (c : Core) → Good c → effective c ≤ c .occupancy
 written-few c g = written-between (c .eviction) (c .occupancy) (c .pointer) (g .within) .1
 
 -- ---- a start
-
-pub idle-good : (x : Eviction) (cache memory : List ℕ) → 0 < length cache → Good (idle x cache memory)
-idle-good x cache memory h = record { nonempty = h; within = omega arith; fits = omega arith; inside = omega arith }
 
 -- entering function 0 moves nothing
 unspilled : (cache memory : List ℕ) (a k : ℕ) → k ≡ 0 → spilled cache memory a k ≡ memory

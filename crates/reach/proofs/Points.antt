@@ -4,9 +4,8 @@ use native.Mathlib.Omega.{arith}
 use mathlib.Core.Path.{_≡_, refl, ap, sym, _∙_}
 use mathlib.Core.Bool.{Bool, true, false, not, true≢false}
 use mathlib.Core.List.{List, [], _∷_}
-use mathlib.Core.Option.{Option, none, some}
-use lib.Dec.{T, T-not, eqb→eq}
-use borrow.Author.Tests.{eqb-false}
+use mathlib.Core.Option.{none}
+use lib.Dec.{T-not, eqb→eq}
 use denote.Enum.Declared.{tagOf}
 use types.Run.{OneOf, miss}
 use Rattle.bits.specs.Bits.{setBits, bit, Marks, difference}

@@ -99,10 +99,6 @@ pub leads-there : (w : List ℕ) (s : Span) (p : ℕ) → p < s .size → leads 
 unfolding leads
 leads-there w s p h = ap (leadsFrom p) (point-there w (s .base) (s .size) p h)
 
-pub leads-same : (x y : Func) → x .points ≡ y .points → leads x ≡ leads y
-unfolding leads
-leads-same x y e = λ i p. leadsFrom p (getD (e i) p Return)
-
 -- the functions of a task, counted and one by one
 pub length-funcs : (w : List ℕ) (n : ℕ) → length (funcsOf w n) ≡ n
 unfolding funcsOf

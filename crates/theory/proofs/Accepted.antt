@@ -1,5 +1,5 @@
 -- The task of an accepted text is well formed: rows 7 to 13 refuse nothing exactly where their tests hold.
-use Prim.Native.Nat.{ℕ, _-_, _≤_, _<_}
+use Prim.Native.Nat.{ℕ, _-_, _≤_}
 use mathlib.Core.Bool.{Bool}
 use mathlib.Core.List.{List}
 use mathlib.Core.Logic.{_↔_}
@@ -12,12 +12,12 @@ use Rattle.model.specs.declared.Refusal.{Refusal}
 use Rattle.model.specs.declared.Row.the-variants.{Callee, Pairing, Target, LastPoint, Unreachable, Uncalled, Uninitialised}
 use Rattle.model.specs.Limits.{mostBytes}
 use Rattle.model.specs.Rows.{refuse}
-use Rattle.model.specs.Basic.{unless, _orElse_, firstOf, countFrom}
-use Rattle.model.specs.Task.{Task, Judged, refused, task, size, count, func, point, funcLine, pointLine, readText}
+use Rattle.model.specs.Basic.{unless, _orElse_}
+use Rattle.model.specs.Task.{Task, Judged, refused, task, count, func, point, funcLine, pointLine, readText}
 use Rattle.model.specs.Walk.{loaded}
 use Rattle.model.specs.Walk
 use Rattle.model.specs.Figures.{reached}
-use Rattle.model.specs.Refusal.{calleeFits, targetsFit, endFits, isCalled, storedBefore, linkRow, reachRow, callRow, loadRow, firstPoint, linkRows}
+use Rattle.model.specs.Refusal.{calleeFits, targetsFit, endFits, isCalled, storedBefore, linkRow, reachRow, callRow, loadRow, linkRows}
 use Rattle.model.specs.Refusal.{reachRows, callRows, loadRows, taskRows, orTask, withRows, judged, judge}
 use Rattle.model.specs.Refusal
 use Rattle.theory.proofs.Lists.{by-test}

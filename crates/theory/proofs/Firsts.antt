@@ -104,15 +104,6 @@ points-none t row = (
   λ h. below-none (λ f. firstOf (row f) (upTo (size (func t f)))) (count t) .1 (λ f k. below-none (row f) (size (func t f)) .1 (λ p j. h f p k j)),
 )
 
--- the first point that a row refuses
-pub points-found : {r : Refusal} (t : Task) (row : ℕ → ℕ → Option Refusal) (f p : ℕ) → f < count t → p < size (func t f)
-    → ((g q : ℕ) → g < f → q < size (func t g) → row g q ≡ none) → ((q : ℕ) → q < p → row f q ≡ none) → row f p ≡ some r
-    → firstPoint t row ≡ some r
-unfolding firstPoint
-points-found t row f p h k before below e =
-    below-found (λ g. firstOf (row g) (upTo (size (func t g)))) (count t) f h (λ g j. below-none (row g) (size (func t g)) .1 (λ q l. before g q j l))
-    (below-found (row f) (size (func t f)) p k below e)
-
 -- the point that a first refusal comes from
 pub points-some : (t : Task) (row : ℕ → ℕ → Option Refusal) (r : Refusal) → firstPoint t row ≡ some r
     → (f p : ℕ) × (f < count t) × (p < size (func t f)) × (row f p ≡ some r)

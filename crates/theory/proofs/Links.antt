@@ -123,14 +123,6 @@ module _ {t : Task} (w : Linked t) where
       (λ l. ltb→lt q (size (func t f)) (and-holds (ltb q (size (func t f))) (not (isEnsure (func t f) q)) .0 l .0))
       (lead-ends f p q h k m)
 
-  -- only the point before an ensure leads to it
-  pub ensure-from : (f p q : ℕ) → f < count t → q < size (func t f) → List·Memᴰ p (leads (func t f) q) → T (isEnsure (func t f) p) → q ≡ p - 1
-  ensure-from f p q h k m e =
-      ⊎-elim
-      (λ r. omega (arith, r .0))
-      (λ l. absurd (T-not (isEnsure (func t f) p) (and-holds (ltb p (size (func t f))) (not (isEnsure (func t f) p)) .0 l .1) e))
-      (lead-ends f q p h k m)
-
   -- a call goes to a later function of the task
   pub callee-later : (f p g : ℕ) → f < count t → p < size (func t f) → called (point (func t f) p) ≡ some g → (f < g) × (g < count t)
   callee-later f p g h k e =

@@ -1,8 +1,8 @@
 -- The place of a refused text is a line of it, the line after its last, or a length that is known: it fits 16 bits.
 use Prim.Native.Nat.{ℕ, zero, suc, _+_, _-_, _≤_, _<_}
-use mathlib.Core.Path.{_≡_, refl, _∙_}
+use mathlib.Core.Path.{_≡_, refl}
 use mathlib.Core.Bool.{Bool, true, false, not, _&&_, _||_}
-use mathlib.Core.List.{List, [], _∷_, _++_, List·Memᴰ, List·Memᴰ·head, List·Memᴰ·tail}
+use mathlib.Core.List.{List, [], _∷_, _++_}
 use mathlib.Core.Option.{Option, none, some}
 use native.Mathlib.Omega.{arith}
 use lib.ListN.{length, take, length-append}
@@ -11,7 +11,7 @@ use Rattle.model.specs.declared.Line.{Line}
 use Rattle.model.specs.declared.Line.the-variants as line
 use Rattle.model.specs.declared.Refusal.{Refusal}
 use Rattle.model.specs.declared.Row.the-variants.{Callee, Pairing, Target, LastPoint, Unreachable, Uncalled, Uninitialised}
-use Rattle.model.specs.Basic.{unless, _orElse_, firstOf, sumOf, upTo, countFrom}
+use Rattle.model.specs.Basic.{unless, _orElse_, firstOf, sumOf, countFrom}
 use Rattle.model.specs.Text.{linesFrom, linesOf}
 use Rattle.model.specs.Task.{Func, Task, Judged, refused, task, Progress, start, between, inside, Step, stop, goes, readLine, readEnd, readFrom}
 use Rattle.model.specs.Task.{readText, onward, inAll, size, count, func, point, funcLine, pointLine, offsetFits}
@@ -21,7 +21,7 @@ use Rattle.model.specs.Limits.{mostStack, mostFuncs, mostPoints, mostInAll, mos
 use Rattle.model.specs.Rows.{refuse}
 use Rattle.model.specs.Refusal.{judged, withRows, orTask, calleeFits, paired, targetsFit, endFits, storedBefore, isCalled, linkRow, reachRow, loadRow}
 use Rattle.model.specs.Refusal.{callRow, firstPoint, linkRows, reachRows, callRows, taskRows}
-use Rattle.theory.proofs.Lists.{by-test, mem-upTo, mem-countFrom}
+use Rattle.theory.proofs.Lists.{by-test, mem-countFrom}
 use Rattle.model.specs.WellFormed.{Shaped}
 use Rattle.theory.proofs.Firsts.{first-some, points-some}
 use Rattle.theory.proofs.Reading.{read-shaped}

@@ -20,10 +20,9 @@ kills-of-spec =
     tie.close
     (tie.spec
     (λ c. search needs) (λ c. search needs) (λ c κs. search needs) (λ c. search needs) (λ c κs. search needs) (λ c κs. search needs)
-    (λ c. search needs) (λ c κs. search needs) (λ c. search needs) (λ c κs. search needs) (λ c κs. search needs) (λ c. search needs)
+    (λ c. search needs) (λ c κs. search needs) (λ c. search needs) (λ c κs. search needs) (λ c κs. search needs)
     (λ c. rw (c .enum-told .given .1) (λ x k d. d .stores))
     (λ c. rw (c .before .enum-told2 .given .1, c .only-if .ensures) (λ x k d. all-if (d .ensures)))
     level-takes
     (λ c. rw (c .before .enum-told4 .given .1, c .only-if3 .ensures) (λ x k d. all-if (d .ensures)))
-    cut-takes
-    (λ c. rw (c .enum-told6 .given .1) (λ x k d. d .stores)))
+    cut-takes)

@@ -1,5 +1,4 @@
 -- 7 to 10 come before the others, and a task that they accept is linked.
-use mathlib.Core.Path.{sym, _∙_}
 use Rattle.tables.specs.Tables.{taskOf}
 use Rattle.judge.proofs.Laws.{link-first, link-fine, linked}
 use borrow.Author.Needs.{needs}
