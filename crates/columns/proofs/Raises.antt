@@ -5,7 +5,6 @@ use native.Mathlib.Decide.{ℕ-discrete}
 use native.Mathlib.Numerals.{add-one}
 use mathlib.Core.Bool.{Bool, true, false}
 use mathlib.Core.List.{List}
-use mathlib.Core.Option.{Option, none, some}
 use mathlib.Core.Path.{_≡_, refl, ap, sym, _∙_}
 use lib.Dec.{eqb}
 use lib.ListN.{length, set}
@@ -13,13 +12,15 @@ use borrow.Author.Tests.{eq-eqb, ne-eqb}
 use Rattle.model.specs.declared.Point.{Point}
 use Rattle.model.specs.Limits.{mostFuncs}
 use Rattle.model.specs.Walk.{called, is, calls}
+use Rattle.points.specs.Points.{numbered}
+use Rattle.points.proofs.Laws.{is-number}
 use Rattle.tables.specs.declared.Span.{Span}
 use Rattle.tables.specs.Layout.{tablesLength}
 use Rattle.tables.specs.Tables.{item, pointAt, funcIn}
 use Rattle.tables.specs.Valid.{Lies}
 use Rattle.tables.proofs.Laws.{here, elsewhere, point-there}
 use Rattle.columns.specs.Columns.{Changed}
-use Rattle.columns.specs.Values.{raisedBy, numbered, calleeAt, Raised}
+use Rattle.columns.specs.Values.{raisedBy, calleeAt, Raised}
 use Rattle.columns.proofs.Writes.{changed-none, changed-set, changed-agree}
 
 raised-yes : (test : ℕ → Bool) (v : ℕ → ℕ) (p m : ℕ) → test p ≡ true → raisedBy test v (p + 1) m ≡ max (raisedBy test v p m) (v p)
@@ -41,10 +42,6 @@ raising-none a s v w = record { changed = changed-none a mostFuncs w; each = λ 
 
 pub raising-all : {a n : ℕ} {s : Span} {v w₀ w : List ℕ} → n ≡ s .size → Raising a s v n w₀ w → Raised a s v w₀ w
 raising-all e k = let r = rw e at k in record { changed = r .changed; each = r .each }
-
-is-number : (o : Option ℕ) (f g : ℕ) → g ≡ numbered o → f < mostFuncs → is f o ≡ eqb f g
-is-number none f g e h = sym (ne-eqb f g (λ d. omega arith))
-is-number (some n) f g e h = rw e
 
 module _ (a : ℕ) (s : Span) (v : List ℕ) {w₀ : List ℕ} (w : List ℕ) (p g : ℕ) (behind : tablesLength ≤ a) (lies : Lies w₀ s) (h : p < s .size)
     (e : g ≡ calleeAt w s p) (r : Raising a s v p w₀ w) where

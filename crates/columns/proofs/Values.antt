@@ -2,17 +2,11 @@
 use Prim.Native.Nat.{ℕ, _+_, _-_, _≤_, _<_}
 use native.Mathlib.Omega.{arith}
 use mathlib.Core.Bool.{true, false}
-use mathlib.Core.List.{List, [], _∷_}
-use mathlib.Core.Path.{_≡_, refl}
+use mathlib.Core.List.{List}
+use mathlib.Core.Path.{_≡_}
 use lib.Dec.{ltb}
-use denote.Enum.Declared.{tagOf}
-use types.Run.{OneOf, miss}
 use borrow.Author.Tests.{lt-ltb, le-ltb}
-use Rattle.model.proofs.Point as P
-use Rattle.model.specs.declared.Point.{Point}
-use Rattle.model.specs.declared.Point.the-variants.{Load, Store, Call, Ensure, Goto, Either, Return}
 use Rattle.model.specs.Limits.{mostFuncs}
-use Rattle.model.specs.Walk.{called, ensured, present}
 use Rattle.theory.proofs.Lists.{by-test}
 use Rattle.tables.specs.declared.Header.{Header}
 use Rattle.tables.specs.declared.Span.{Span}
@@ -20,26 +14,7 @@ use Rattle.tables.specs.Tables.{item}
 use Rattle.columns.specs.Columns.{longestColumn, shortestColumn, fillColumn, levelColumn}
 use Rattle.prices.specs.declared.Price.{Price}
 use Rattle.prices.specs.Prices.{priceOf}
-use Rattle.columns.specs.Values.{numbered, calleeAt, ensureAt, filledAt, keptAt, cutAt, levelAt, chainedAt}
-
--- a point that is no call, and one that is no ensure
-pub none-called : (x : Point) → OneOf (0 ∷ 1 ∷ 3 ∷ 4 ∷ 5 ∷ 6 ∷ []) (tagOf P.the-type x) → mostFuncs ≡ numbered (called x)
-none-called (Load o) h = refl
-none-called (Store o) h = refl
-none-called (Call g) h = absurd (miss (0 ∷ 1 ∷ 3 ∷ 4 ∷ 5 ∷ 6 ∷ []) 2 tt h)
-none-called (Ensure k) h = refl
-none-called (Goto p) h = refl
-none-called (Either p q) h = refl
-none-called Return h = refl
-
-pub none-ensured : (x : Point) → OneOf (0 ∷ 1 ∷ 2 ∷ 4 ∷ 5 ∷ 6 ∷ []) (tagOf P.the-type x) → false ≡ present (ensured x)
-none-ensured (Load o) h = refl
-none-ensured (Store o) h = refl
-none-ensured (Call g) h = refl
-none-ensured (Ensure k) h = absurd (miss (0 ∷ 1 ∷ 2 ∷ 4 ∷ 5 ∷ 6 ∷ []) 3 tt h)
-none-ensured (Goto p) h = refl
-none-ensured (Either p q) h = refl
-none-ensured Return h = refl
+use Rattle.columns.specs.Values.{calleeAt, ensureAt, filledAt, keptAt, cutAt, levelAt, chainedAt}
 
 -- by the branches
 module _ (w : List ℕ) (h : Header) (s : Span) (p : ℕ) where

@@ -2,12 +2,13 @@
 use Prim.Native.Nat.{ℕ, zero, suc, _+_, _-_, _*_, _≤_, _<_, max}
 use mathlib.Core.Bool.{Bool}
 use mathlib.Core.List.{List}
-use mathlib.Core.Option.{Option, none, some}
+use mathlib.Core.Option.{some}
 use mathlib.Core.Path.{_≡_}
 use lib.Dec.{ltb}
 use Rattle.model.specs.Basic.{if_then_else_}
 use Rattle.model.specs.Limits.{mostFuncs}
 use Rattle.model.specs.Walk.{called, ensured, present, calls}
+use Rattle.points.specs.Points.{numbered}
 use Rattle.tables.specs.declared.Header.{Header}
 use Rattle.tables.specs.declared.Span.{Span}
 use Rattle.tables.specs.Tables.{item, pointAt, funcIn}
@@ -21,11 +22,7 @@ use Rattle.columns.specs.Columns.{highColumn, fillColumn, longestColumn,
 abbrev pub mostChain : ℕ
 mostChain = mostPrice * (mostFuncs - 1)
 
--- the function that a point calls, and mostFuncs where it calls none
-abbrev pub numbered : Option ℕ → ℕ
-numbered none = mostFuncs
-numbered (some g) = g
-
+-- the function that point p of s calls, and mostFuncs where it calls none; and whether it is an ensure
 abbrev pub calleeAt : List ℕ → Span → ℕ → ℕ
 calleeAt w s p = numbered (called (pointAt w (s .base + p)))
 

@@ -1,19 +1,17 @@
 // The columns of figures behind the tables: where each begins, the numbers that the points of a function are given from the tables and the columns,
 // and the writes into one column.
 ghost use mathlib.Core.Path.{_≡_};
-ghost use Prim.Native.Nat.{_+_, _-_, _<_, _≤_, min, max};
+ghost use Prim.Native.Nat.{_+_, _<_, _≤_};
 ghost use lib.ListN.{length};
 ghost use Rattle.model.specs.Limits.{mostStack, mostFuncs, mostInAll};
-ghost use Rattle.model.specs.Walk.{called, ensured, present};
 ghost use Rattle.tables.specs.Tables.{item};
 ghost use Rattle.tables.specs.Valid.{Lies};
 ghost use Rattle.prices.specs.Prices.{Small};
 ghost use Rattle.problems.specs.Problems.{Filled};
 ghost use Rattle.columns.specs.Columns.{columnsEnd, entryColumn, chainColumn, Funcs, Changed};
-ghost use Rattle.columns.specs.Values.{mostChain, numbered, calleeAt, ensureAt, filledAt, keptAt, cutAt, levelAt, chainedAt, valueAt, Adds};
+ghost use Rattle.columns.specs.Values.{mostChain, calleeAt, ensureAt, filledAt, keptAt, cutAt, levelAt, chainedAt, valueAt, Adds};
 ghost use Rattle.columns.specs.Values.{Put, Raised};
 use model::Limits;
-use model::Point;
 use prices::Price;
 use tables::Header;
 use tables::Span;
@@ -58,76 +56,13 @@ pub enum Value {
     Chained(u32, Price),
 }
 
-pub fn larger(a: u32, b: u32) -> u32
-    ensures { λ r. ⌜ r ≡ max a b ⌝ }
-{
-    if a < b {
-        return b;
-    }
-    a
-}
-
-pub fn smaller(a: u32, b: u32) -> u32
-    ensures { λ r. ⌜ r ≡ min a b ⌝ }
-{
-    if a < b {
-        return a;
-    }
-    b
-}
-
-// What a has above b.
-pub fn above(a: u32, b: u32) -> u32
-    ensures { λ r. ⌜ r ≡ a - b ⌝ }
-{
-    if a < b {
-        return 0;
-    }
-    a - b
-}
-
-fn wide(x: u32) -> usize
-    ensures { λ r. ⌜ r ≡ x ⌝ }
-{
-    x as usize
-}
-
-// The function that a point calls, FUNCS where it calls none.
-fn callee_of(x: Point) -> usize
-    ensures { λ r. ⌜ r ≡ numbered (called x) ⌝ }
-{
-    if let Point::Call(g) = x {
-        return wide(g);
-    }
-    Limits::FUNCS
-}
-
-fn is_ensure(x: Point) -> bool
-    ensures { λ r. ⌜ r ≡ present (ensured x) ⌝ }
-{
-    if let Point::Ensure(_) = x {
-        return true;
-    }
-    false
-}
-
-// The point before p, and 0 for 0.
-fn earlier(p: usize) -> usize
-    ensures { λ r. ⌜ r ≡ p - 1 ⌝ }
-{
-    if p == 0 {
-        return 0;
-    }
-    p - 1
-}
-
 // The function that point p of s calls, FUNCS where it calls none.
 pub fn callee_at(work: &[u32], s: Span, p: usize) -> usize
     requires { ⌜ Lies (now work) s × (p < s .size) ⌝ }
     ensures { λ r. ⌜ r ≡ calleeAt (now (work .entry)) s p ⌝ }
 {
     let base = s.base;
-    callee_of(tables::point_at(work, base + p))
+    points::callee_of(tables::point_at(work, base + p))
 }
 
 fn ensure_at(work: &[u32], s: Span, p: usize) -> bool
@@ -135,7 +70,7 @@ fn ensure_at(work: &[u32], s: Span, p: usize) -> bool
     ensures { λ r. ⌜ r ≡ ensureAt (now (work .entry)) s p ⌝ }
 {
     let base = s.base;
-    is_ensure(tables::point_at(work, base + p))
+    points::is_ensure(tables::point_at(work, base + p))
 }
 
 // What a column of the points has for point p of s.
@@ -155,9 +90,9 @@ fn fill_at(work: &[u32], h: Header, s: Span, p: usize) -> u32
     if !ensure_at(work, s, p) {
         return 0;
     }
-    let g = callee_at(work, s, earlier(p));
+    let g = callee_at(work, s, numbers::above_usize(p, 1));
     if g < Limits::FUNCS {
-        return above(s.frame, above(h.stack, work[Columns::LONGEST + g]));
+        return numbers::above(s.frame, numbers::above(h.stack, work[Columns::LONGEST + g]));
     }
     0
 }
@@ -167,7 +102,7 @@ fn kept_at(work: &[u32], s: Span, p: usize) -> u32
     requires { ⌜ Lies (now work) s × (p < s .size) × (columnsEnd ≤ length (now work)) ⌝ }
     ensures { λ r. ⌜ r ≡ keptAt (now (work .entry)) s p ⌝ }
 {
-    above(s.frame, figure_at(work, Columns::FILL, s, p))
+    numbers::above(s.frame, figure_at(work, Columns::FILL, s, p))
 }
 
 // What the callee at point p of s leaves of the cache.
@@ -177,7 +112,7 @@ fn cut_at(work: &[u32], h: Header, s: Span, p: usize) -> u32
 {
     let g = callee_at(work, s, p);
     if g < Limits::FUNCS {
-        return above(h.stack, work[Columns::SHORTEST + g]);
+        return numbers::above(h.stack, work[Columns::SHORTEST + g]);
     }
     0
 }
@@ -269,7 +204,7 @@ pub fn raise(work: &mut [u32], s: Span, at: usize, values: &[u32])
         p += 1;
         if g < Limits::FUNCS {
             let old = work[at + g];
-            work[at + g] = larger(old, v);
+            work[at + g] = numbers::larger(old, v);
         }
     }
 }

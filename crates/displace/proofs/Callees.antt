@@ -17,7 +17,8 @@ use Rattle.tables.specs.declared.Span.{Span}
 use Rattle.tables.specs.Tables.{item, pointAt, pointsOf}
 use Rattle.tables.proofs.Laws.{length-points, point-there}
 use Rattle.columns.specs.Columns.{longestColumn, shortestColumn}
-use Rattle.columns.specs.Values.{numbered, calleeAt, CallFits}
+use Rattle.points.specs.Points.{numbered}
+use Rattle.columns.specs.Values.{calleeAt, CallFits}
 use Rattle.displace.specs.Bounds.{nonempty, BoundedBy}
 
 -- the functions that the points of s from p on call

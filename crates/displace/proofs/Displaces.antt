@@ -28,7 +28,8 @@ use Rattle.tables.proofs.Laws.{func-is, count-is, length-points, point-there, h
 use Rattle.tables.proofs.Valid.{settled-fits}
 use Rattle.problems.specs.Problems.{Filled, Blocks, lowestLevel}
 use Rattle.columns.specs.Columns.{columnsEnd, highColumn, longestColumn, shortestColumn, levelColumn, Funcs, OnlyColumns}
-use Rattle.columns.specs.Values.{numbered, levelAt, CallFits}
+use Rattle.points.specs.Points.{numbered}
+use Rattle.columns.specs.Values.{levelAt, CallFits}
 use Rattle.columns.specs.Displaced.{Ready, Displaced}
 use Rattle.columns.proofs.Values.{level-call, level-past}
 use Rattle.columns.proofs.Writes.{changed-none, changed-set, changed-on, changed-wider, funcs-kept}

@@ -34,7 +34,7 @@ fn least_with(some: bool, a: u32, b: u32) -> u32
     ensures { λ r. ⌜ r ≡ (if some then min a b else a) ⌝ }
 {
     if some {
-        return columns::smaller(a, b);
+        return numbers::smaller(a, b);
     }
     a
 }
@@ -52,7 +52,7 @@ fn callee_bounds(work: &[u32], s: Span) -> CalleeBounds
         p -= 1;
         let g = columns::callee_at(work, s, p);
         if g < Limits::FUNCS {
-            most = columns::larger(work[Columns::LONGEST + g], most);
+            most = numbers::larger(work[Columns::LONGEST + g], most);
             least = least_with(some, work[Columns::SHORTEST + g], least);
             some = true;
         }

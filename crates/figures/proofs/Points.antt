@@ -27,7 +27,8 @@ use Rattle.problems.proofs.Laws.{filled-as}
 use Rattle.prices.specs.declared.Price.{Price}
 use Rattle.prices.specs.Prices.{priceOf}
 use Rattle.columns.specs.Columns.{columnsEnd, longestColumn, shortestColumn, fillColumn, entryColumn, Funcs}
-use Rattle.columns.specs.Values.{numbered, ensureAt, filledAt, keptAt, cutAt, chainedAt}
+use Rattle.points.specs.Points.{numbered}
+use Rattle.columns.specs.Values.{ensureAt, filledAt, keptAt, cutAt, chainedAt}
 use Rattle.columns.specs.Displaced.{Ready}
 use Rattle.columns.proofs.Values.{kept-low, cut-stack}
 use Rattle.columns.proofs.Within.{callee-in}

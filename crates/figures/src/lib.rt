@@ -75,7 +75,7 @@ fn high_figures(
     ensures { λ r. ⌜ Figures High (taskOf (now (work .entry)) h) f (s .size) (now (out .entry)) (now (out .exit)) ⌝ }
 {
     columns::value_points(Value::Cut, work, h, s, cuts);
-    let start = columns::smaller(h.stack, work[Columns::ENTRY + f] + s.frame);
+    let start = numbers::smaller(h.stack, work[Columns::ENTRY + f] + s.frame);
     problems::high_points(work, s, start, cuts, gens, kills, sets, state, out);
 }
 

@@ -67,7 +67,7 @@ pub fn largest_within(work: &[u32], m: usize, n: usize, level: u32) -> u32
     while m < g {
         g -= 1;
         if work[Columns::LEVEL + g] <= level {
-            most = columns::larger(work[Columns::SHORTEST + g], most);
+            most = numbers::larger(work[Columns::SHORTEST + g], most);
         }
     }
     most

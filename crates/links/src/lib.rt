@@ -6,7 +6,6 @@ ghost use Prim.Native.Nat.{_-_, _<_};
 ghost use lib.Dec.{ltb};
 ghost use Rattle.model.specs.Rows.{rowVerdict};
 ghost use Rattle.model.specs.Task.{point};
-ghost use Rattle.model.specs.Walk.{called, ensured, present};
 ghost use Rattle.model.specs.Refusal.{ensureFits, targetFits, linkRow, linkRows};
 ghost use Rattle.tables.specs.Tables.{spanAt, funcIn, taskOf};
 ghost use Rattle.tables.specs.Valid.{Holds, Lies};
@@ -17,34 +16,6 @@ use model::Row;
 use model::Verdict;
 use tables::Header;
 use tables::Span;
-
-fn is_call(x: Point) -> bool
-    ensures { λ r. ⌜ r ≡ present (called x) ⌝ }
-{
-    match x {
-        Point::Load(_) => false,
-        Point::Store(_) => false,
-        Point::Call(_) => true,
-        Point::Ensure(_) => false,
-        Point::Goto(_) => false,
-        Point::Either(_, _) => false,
-        Point::Return => false,
-    }
-}
-
-fn is_ensure(x: Point) -> bool
-    ensures { λ r. ⌜ r ≡ present (ensured x) ⌝ }
-{
-    match x {
-        Point::Load(_) => false,
-        Point::Store(_) => false,
-        Point::Call(_) => false,
-        Point::Ensure(_) => true,
-        Point::Goto(_) => false,
-        Point::Either(_, _) => false,
-        Point::Return => false,
-    }
-}
 
 // Point p of a function. Past the end it is a return.
 fn point_in(work: &[u32], s: Span, p: usize) -> Point
@@ -76,7 +47,7 @@ fn ensure_fits(work: &[u32], s: Span, p: usize, k: u32) -> bool
     if p == 0 {
         return false;
     }
-    is_call(point_in(work, s, p - 1)) & (k == s.frame)
+    points::is_call(point_in(work, s, p - 1)) & (k == s.frame)
 }
 
 // 9: a target is a point of the function and no ensure.
@@ -85,7 +56,7 @@ fn target_fits(work: &[u32], s: Span, target: u32) -> bool
     ensures { λ r. ⌜ r ≡ targetFits (funcIn (now (work .entry)) s) target ⌝ }
 {
     let q = target as usize;
-    (q < s.size) & !is_ensure(point_in(work, s, q))
+    (q < s.size) & !points::is_ensure(point_in(work, s, q))
 }
 
 // Both targets of an either. The second is looked at only where the first fits.
@@ -118,7 +89,7 @@ fn kind_row(work: &[u32], funcs: usize, f: usize, s: Span, p: usize, line: u32, 
         Point::Store(_) => last,
         Point::Call(g) => {
             let pairing = refuse_unless(
-                is_ensure(point_in(work, s, p + 1)),
+                points::is_ensure(point_in(work, s, p + 1)),
                 Row::Pairing,
                 line,
                 last,

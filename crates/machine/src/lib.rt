@@ -2,7 +2,7 @@
 // many blocks it moves.
 ghost use mathlib.Core.Path.{_≡_};
 ghost use mathlib.Core.List.{List};
-ghost use Prim.Native.Nat.{ℕ, _+_, _%_, _-_, _<_, _≤_, min, max};
+ghost use Prim.Native.Nat.{ℕ, _+_, _%_, _-_, _<_, _≤_, max};
 ghost use lib.ListN.{length, replicate};
 ghost use Rattle.model.specs.Core as core;
 ghost use Rattle.model.specs.declared.Eviction.the-variants.{Eager};
@@ -37,25 +37,6 @@ pub struct Preempted {
 
 // ---- the rules on numbers: s blocks in the cache, n of them occupied, m of them to be written back
 
-fn lesser(a: usize, b: usize) -> usize
-    ensures { λ r. ⌜ r ≡ min a b ⌝ }
-{
-    if a < b { a } else { b }
-}
-
-fn greater(a: usize, b: usize) -> usize
-    ensures { λ r. ⌜ r ≡ max a b ⌝ }
-{
-    if a < b { b } else { a }
-}
-
-// How far a lies above b, 0 where it does not.
-fn excess(a: usize, b: usize) -> usize
-    ensures { λ r. ⌜ r ≡ a - b ⌝ }
-{
-    if b < a { a - b } else { 0 }
-}
-
 // How many are written back when they leave the cache, of n that are cached and m below LP.
 fn written(lazy: usize, n: usize, m: usize) -> usize
     requires { ⌜ m ≤ n ⌝ }
@@ -68,44 +49,44 @@ fn reserved(s: usize, k: usize, n: usize) -> usize
     requires { ⌜ n + k ≤ mostAddress ⌝ }
     ensures { λ r. ⌜ r ≡ core.reserved s k n ⌝ }
 {
-    lesser(s, n + k)
+    numbers::smaller_usize(s, n + k)
 }
 
 fn reserve_moves(s: usize, k: usize, n: usize) -> usize
     requires { ⌜ n ≤ s ⌝ }
     ensures { λ r. ⌜ r ≡ core.reserveMoves s k n ⌝ }
 {
-    excess(k, s - n)
+    numbers::above_usize(k, s - n)
 }
 
 fn freed(k: usize, n: usize) -> usize
     ensures { λ r. ⌜ r ≡ core.freed k n ⌝ }
 {
-    excess(n, k)
+    numbers::above_usize(n, k)
 }
 
 fn ensured_to(k: usize, n: usize) -> usize
     ensures { λ r. ⌜ r ≡ core.ensuredTo k n ⌝ }
 {
-    greater(n, k)
+    numbers::larger_usize(n, k)
 }
 
 fn ensure_moves(k: usize, n: usize) -> usize
     ensures { λ r. ⌜ r ≡ core.ensureMoves k n ⌝ }
 {
-    excess(k, n)
+    numbers::above_usize(k, n)
 }
 
 fn saved_from(dead: usize, n: usize) -> usize
     ensures { λ r. ⌜ r ≡ core.savedFrom dead n ⌝ }
 {
-    lesser(n, dead)
+    numbers::smaller_usize(n, dead)
 }
 
 fn resumed(dead: usize, need: usize, n: usize) -> usize
     ensures { λ r. ⌜ r ≡ core.resumed dead need n ⌝ }
 {
-    lesser(n, greater(dead, need))
+    numbers::smaller_usize(n, numbers::larger_usize(dead, need))
 }
 
 fn resume_moves(dead: usize, need: usize, n: usize) -> usize
@@ -312,7 +293,7 @@ impl Machine {
             st: self.st,
             top: self.top,
             occupancy: self.occupancy,
-            pointer: greater(o as usize + 1, self.pointer),
+            pointer: numbers::larger_usize(o as usize + 1, self.pointer),
             lazy: self.lazy,
         }
     }
@@ -325,7 +306,8 @@ impl Machine {
         let st = self.st;
         let live = saved_from(dead as usize, self.occupancy);
         let lazy = self.lazy;
-        let blocks = greater(written(lazy, self.occupancy, self.pointer), live) - live;
+        let blocks = numbers::larger_usize(written(lazy, self.occupancy, self.pointer), live)
+            - live;
         spill(&mut memory[st..], cache, self.top, live, blocks);
         Moved {
             machine: self,

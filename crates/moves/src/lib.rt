@@ -37,7 +37,7 @@ pub fn call_step(
     ensures { λ r. ⌜ ((v : ℕ) → StepsIn price (now (work .entry)) h x (Call g) v (now (cache .entry)) (now (memory .entry))
         r (now (work .exit)) (now (cache .entry)) (now (memory .exit))) × Stays (now (work .entry)) (now (work .exit)) ⌝ }
 {
-    let f = steps::wide(g);
+    let f = numbers::wide(g);
     let callee = tables::span_at(work, f);
     let bound = work[Bounds::SPILL + f];
     steps::put_caller(work, x.depth - 1, x.f, x.p + 1);

@@ -2,21 +2,8 @@
 // The functions go through a slice of the array, since that tells the proof that there are ten places.
 ghost use mathlib.Core.Path.{_≡_};
 ghost use mathlib.Core.List.{[], _∷_};
-ghost use Prim.Native.Nat.{min, max};
 ghost use Rattle.ranks.specs.Ranks.{Falling, sunk, best};
 use model::Limits;
-
-fn higher_of(a: u64, b: u64) -> u64
-    ensures { λ r. ⌜ r ≡ max a b ⌝ }
-{
-    if a < b { b } else { a }
-}
-
-fn lower_of(a: u64, b: u64) -> u64
-    ensures { λ r. ⌜ r ≡ min a b ⌝ }
-{
-    if a < b { a } else { b }
-}
 
 // Each place keeps the higher of its rank and of the one that comes to it; the lower goes on to the next place, and past the last one it is dropped.
 fn sink(ranks: &mut [u64; Limits::DEAREST], rank: u64)
@@ -27,8 +14,8 @@ fn sink(ranks: &mut [u64; Limits::DEAREST], rank: u64)
     let mut i: usize = 0;
     while i < Limits::DEAREST {
         let here = places[i];
-        places[i] = higher_of(here, sinking);
-        sinking = lower_of(here, sinking);
+        places[i] = numbers::larger_u64(here, sinking);
+        sinking = numbers::smaller_u64(here, sinking);
         i += 1;
     }
 }

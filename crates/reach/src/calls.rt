@@ -24,11 +24,9 @@ fn mark(x: Point, marks: &mut [bool])
     requires { ⌜ mostFuncs ≤ length (now marks) ⌝ }
     ensures { λ r. ⌜ ((f : ℕ) → f < mostFuncs → markOf (now (marks .exit)) f ≡ (markOf (now (marks .entry)) f || is f (called x))) ⌝ }
 {
-    if let Point::Call(number) = x {
-        let callee = number as usize;
-        if callee < Limits::FUNCS {
-            marks[callee] = true;
-        }
+    let callee = points::callee_of(x);
+    if callee < Limits::FUNCS {
+        marks[callee] = true;
     }
 }
 

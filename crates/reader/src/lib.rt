@@ -4,7 +4,7 @@ ghost use Prim.Native.Nat.{_+_, _-_, _<_, _≤_, min};
 ghost use lib.ListN.{length};
 ghost use Rattle.model.specs.declared.Line.the-variants.{At};
 ghost use Rattle.model.specs.Limits.{mostFuncs, mostPoints, mostInAll, mostBytes};
-ghost use Rattle.model.specs.Task.{readText, offsetFits};
+ghost use Rattle.model.specs.Task.{readText};
 ghost use Rattle.tables.specs.Layout.{tablesLength};
 ghost use Rattle.tables.specs.Tables.{putFunc};
 ghost use Rattle.tables.specs.Valid.{Holds};
@@ -38,31 +38,13 @@ enum FuncRead {
     Refused(Refusal),
 }
 
-// The offset of a load or store is below the frame k.
-fn offset_fits(k: u32, x: Point) -> bool
-    ensures { λ r. ⌜ r ≡ offsetFits k x ⌝ }
-{
-    match x {
-        Point::Load(o) => o < k,
-        Point::Store(o) => o < k,
-        Point::Call(_) => true,
-        Point::Ensure(_) => true,
-        Point::Goto(_) => true,
-        Point::Either(_, _) => true,
-        Point::Return => true,
-    }
-}
-
 // How many points a function may have after those of other functions.
 fn most_points(points: usize) -> usize
     requires { ⌜ points ≤ mostInAll ⌝ }
     ensures { λ r. ⌜ r ≡ min mostPoints (mostInAll - points) ⌝ }
 {
     let left = Limits::IN_ALL - points;
-    if left < Limits::POINTS {
-        return left;
-    }
-    Limits::POINTS
+    numbers::smaller_usize(Limits::POINTS, left)
 }
 
 // Point m of the function after those of h, on line n, where the function may have most points.
@@ -79,7 +61,7 @@ fn take_point(
     requires { ⌜ most ≡ min mostPoints (mostInAll - h .points) ⌝ }
     ensures { λ r. ⌜ pointAs r (now (work .entry)) (now (work .exit)) h k m n (At x) ⌝ }
 {
-    if !offset_fits(k, x) {
+    if !points::offset_fits(k, x) {
         return Verdict::Refused(Refusal {
             row: Row::Offset,
             place: n,

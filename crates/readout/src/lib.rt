@@ -40,7 +40,7 @@ fn price_above(price: Price, a: u32, b: u32) -> u32
     requires { ⌜ Small price × (a - b ≤ mostStack) ⌝ }
     ensures { λ r. ⌜ (r ≡ priceOf price (a - b)) × (r ≤ mostPrice) ⌝ }
 {
-    price.of_move(columns::above(a, b))
+    price.of_move(numbers::above(a, b))
 }
 
 fn cost_of(save: u32, reload: u32, later: u32, chain: u32) -> u32

@@ -84,8 +84,8 @@ fn once_of(x: PointFigures) -> u32
     ensures { λ r. ⌜ r ≡ onceOf (figuredOf x) ⌝ }
 {
     let delayed = x.later + x.chain;
-    let missing = columns::above(x.high, columns::larger(x.dead, x.need));
-    x.save + x.reload + columns::smaller(delayed, missing)
+    let missing = numbers::above(x.high, numbers::larger(x.dead, x.need));
+    x.save + x.reload + numbers::smaller(delayed, missing)
 }
 
 // The numbers of the line of point p with once.

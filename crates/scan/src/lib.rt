@@ -53,10 +53,7 @@ fn most(v: u32, n: usize) -> usize
     if v == 0 {
         return 1;
     }
-    if n < DIGITS {
-        return n;
-    }
-    DIGITS
+    numbers::smaller_usize(n, DIGITS)
 }
 
 // The number that s begins with: a 0 alone, or up to DIGITS digits. A digit too many is left.

@@ -12,6 +12,7 @@ ghost use Rattle.steps.specs.Frames.{framesEnd, placesIn, putCaller, fra
 ghost use Rattle.steps.specs.Steps.{PlainStep, Reaches, Leaves};
 use bounds::Bounds;
 use machine::Machine;
+use numbers::wide;
 
 // Where the callers begin in the working space: two numbers for each, its function and its point.
 pub struct Frames;
@@ -35,12 +36,6 @@ pub struct State {
 pub struct Turned {
     pub state: State,
     pub answer: u32,
-}
-
-pub fn wide(x: u32) -> usize
-    ensures { λ r. ⌜ r ≡ x ⌝ }
-{
-    x as usize
 }
 
 // ---- the callers in the working space

@@ -121,20 +121,14 @@ pub fn put_point(work: &mut [u32], i: usize, p: Point)
     work[Layout::SECOND + i] = second_argument(p);
 }
 
-fn wide(x: u32) -> usize
-    ensures { λ r. ⌜ r ≡ x ⌝ }
-{
-    x as usize
-}
-
 // Function f of the task.
 pub fn span_at(work: &[u32], f: usize) -> Span
     requires { ⌜ (f < mostFuncs) × (tablesLength ≤ length (now work)) ⌝ }
     ensures { λ r. ⌜ r ≡ spanAt (now (work .entry)) f ⌝ }
 {
     let frame = work[Layout::FRAME + f];
-    let base = wide(work[Layout::BASE + f]);
-    let size = wide(work[Layout::SIZE + f]);
+    let base = numbers::wide(work[Layout::BASE + f]);
+    let size = numbers::wide(work[Layout::SIZE + f]);
     Span { frame, base, size }
 }
 

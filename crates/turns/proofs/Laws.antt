@@ -1,17 +1,11 @@
--- A step at a point that is known, a start, and a point that is no either.
+-- A step at a point that is known, and a start.
 use Prim.Native.Nat.{ℕ, _≤_, _<_}
 use mathlib.Core.List.{List, [], _∷_}
 use mathlib.Core.Path.{_≡_, refl, ap, sym, _∙_}
-use mathlib.Core.Bool.{false}
 use native.Mathlib.Omega.{arith}
-use types.Run.{OneOf, miss}
-use denote.Enum.Declared.{tagOf}
-use Rattle.model.proofs.Point as P
 use Rattle.model.specs.declared.Eviction.{Eviction}
 use Rattle.model.specs.declared.Eviction.the-variants.{Eager, Lazy}
 use Rattle.model.specs.declared.Point.{Point}
-use Rattle.model.specs.declared.Point.the-variants.{Load, Store, Call, Ensure, Goto, Either, Return}
-use Rattle.model.specs.Refusal.{isEither}
 use Rattle.model.specs.Task.{count, func}
 use Rattle.model.specs.Core.{reserve, idle}
 use Rattle.model.specs.Figures.{longest}
@@ -93,13 +87,3 @@ unfolding evictionOf
 number-lazy x e = rw e refl
 
 -- ---- rows
-
--- a point that is no either
-pub not-either : (y : Point) → OneOf (0 ∷ 1 ∷ 2 ∷ 3 ∷ 4 ∷ 6 ∷ []) (tagOf P.the-type y) → false ≡ isEither y
-not-either (Load o) h = refl
-not-either (Store o) h = refl
-not-either (Call g) h = refl
-not-either (Ensure k) h = refl
-not-either (Goto q) h = refl
-not-either (Either q r) h = absurd (miss (0 ∷ 1 ∷ 2 ∷ 3 ∷ 4 ∷ 6 ∷ []) 5 tt h)
-not-either Return h = refl

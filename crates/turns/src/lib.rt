@@ -3,7 +3,7 @@ ghost use mathlib.Core.Path.{_≡_};
 ghost use Prim.Native.Nat.{_<_, _≤_};
 ghost use Rattle.model.specs.Rows.{rowVerdict};
 ghost use Rattle.model.specs.Figures.{longest};
-ghost use Rattle.model.specs.Refusal.{isEither, eventRows};
+ghost use Rattle.model.specs.Refusal.{eventRows};
 ghost use Rattle.model.specs.Run.{runningPlace};
 ghost use Rattle.tables.specs.Tables.{taskOf};
 ghost use Rattle.tables.specs.Valid.{Settled};
@@ -80,15 +80,6 @@ pub fn start(work: &[u32], h: Header, eviction: Eviction, length: usize) -> Stat
     }
 }
 
-fn is_either(y: Point) -> bool
-    ensures { λ r. ⌜ r ≡ isEither y ⌝ }
-{
-    if let Point::Either(_, _) = y {
-        return true;
-    }
-    false
-}
-
 // 22, 20, 21 at event i. The point is looked at only where the value is no choice.
 pub fn event_row(work: &[u32], h: Header, x: State, i: u32, kind: u32, value: u32) -> Verdict
     requires { ⌜ Placed (now work) h x ⌝ }
@@ -115,7 +106,7 @@ pub fn event_row(work: &[u32], h: Header, x: State, i: u32, kind: u32, value: u3
     }
     let s = tables::span_at(work, x.f);
     let base = s.base;
-    if is_either(tables::point_at(work, base + x.p)) {
+    if points::is_either(tables::point_at(work, base + x.p)) {
         return Verdict::Refused(Refusal {
             row: Row::Choice,
             place: i,

@@ -27,18 +27,12 @@ pub fn put(state: &mut [u8], points: &mut [u8], count: usize, q: usize) -> usize
     count + 1
 }
 
-fn wide(x: u8) -> usize
-    ensures { λ r. ⌜ r ≡ x ⌝ }
-{
-    x as usize
-}
-
 // Its last point.
 pub fn last(points: &[u8], count: usize) -> usize
     requires { ⌜ (0 < count) × (count ≤ length (now points)) ⌝ }
     ensures { λ r. ⌜ r ≡ item (now (points .entry)) (count - 1) ⌝ }
 {
-    wide(points[count - 1])
+    numbers::wide_u8(points[count - 1])
 }
 
 // Its last point p is taken, and waits no longer. A caller has p at hand, with no load; points is lent for the contract alone.

@@ -3,7 +3,7 @@ use mathlib.Core.Path.{ap, _∙_}
 use borrow.Author.Needs.{needs}
 use Rattle.model.specs.Walk.{called}
 use Rattle.model.specs.declared.Point.{Point}
-use Rattle.columns.specs.Values.{numbered}
+use Rattle.points.specs.Points.{numbered}
 use Rattle.columns.proofs.callee_at.Statement.{statement}
 use Rattle.columns.proofs.callee_at.Tie as tie
 

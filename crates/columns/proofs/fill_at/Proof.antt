@@ -18,14 +18,14 @@ returns-2 c =
     let a = c .before .before .before .before .before .before .before .before .before .args in
     fill-call _ _ _ _ (sym (c .before .before .before .before .before .before .before .ensure-at .ensures) ∙ not-false _
     (c .before .before .before .before .before .before .if1 .left)) (c .before .before .before .before .callee-at .ensures ∙ ap (λ (q : ℕ). calleeAt
-    (a .work .now) (a .s) q) (c .before .before .before .before .before .earlier .ensures)) (omega arith) (c .before .above .ensures)
+    (a .work .now) (a .s) q) (c .before .before .before .before .before .above-usize .ensures)) (omega arith) (c .before .above .ensures)
     (c .above2 .ensures)
 
 returns-3 : tie.Need-returns-3
 returns-3 c =
     let a = c .before .before .before .before .before .before .args in
     fill-past _ _ _ _ (sym (c .before .before .before .before .ensure-at .ensures) ∙ not-false _ (c .before .before .before .if1 .left))
-    (c .before .callee-at .ensures ∙ ap (λ (q : ℕ). calleeAt (a .work .now) (a .s) q) (c .before .before .earlier .ensures)) (omega arith)
+    (c .before .callee-at .ensures ∙ ap (λ (q : ℕ). calleeAt (a .work .now) (a .s) q) (c .before .before .above-usize .ensures)) (omega arith)
 
 pub fill-at-spec : {M : Type 1} → statement M
 fill-at-spec =

@@ -19,7 +19,7 @@ returns c =
     let w = q .before in
     let s = w .before .before .before .before in
     let a = s .args in
-    let moved = above-lowest _ _ _ (w .written .ensures .0) (w .before .saved-from .ensures) (q .greater .ensures) in
+    let moved = above-lowest _ _ _ (w .written .ensures .0) (w .before .saved-from .ensures) (q .larger-usize .ensures) in
     does _ _ _ _ refl refl refl refl refl
     (area-back (a .cache .now) (a .memory .now) _ _ _ (s .pre .0 .top) _ _ _ _
     (w .before .saved-from .ensures) moved (p .spill .ensures))

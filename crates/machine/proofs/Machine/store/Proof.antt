@@ -17,7 +17,7 @@ returns c =
     let a = s .args in
     let o = s .pre .0 in
     let b = top-after _ _ _ _ _ (o .top) (c .before .block-after .ensures .0) in
-    let p : c .greater .result ≡ max (suc (a .o)) (a .self .pointer) = omega arith in (
+    let p : c .larger-usize .result ≡ max (suc (a .o)) (a .self .pointer) = omega arith in (
       λ memory i. record {
         st = a .self .st;
         occupancy = a .self .occupancy;

@@ -1,8 +1,8 @@
 -- Each arm is one case of the definition.
 use mathlib.Core.Path.{refl}
 use borrow.Author.Needs.{needs}
-use Rattle.reader.proofs.offset_fits.Statement.{statement}
-use Rattle.reader.proofs.offset_fits.Tie as tie
+use Rattle.points.proofs.offset_fits.Statement.{statement}
+use Rattle.points.proofs.offset_fits.Tie as tie
 
 pub offset-fits-spec : {M : Type 1} → statement M
 offset-fits-spec =
