@@ -16,8 +16,8 @@ use Rattle.model.specs.Limits.{mostFuncs, mostPoints, mostDearest}
 use Rattle.model.specs.Basic.{joined, smallerFirst, countFrom, upTo, sorted}
 use Rattle.model.specs.Text.{bytes}
 use Rattle.model.specs.Task.{Task, size, count, func}
-use Rattle.model.specs.Sheet.{Sheet, Record, recordAt, recordsIn, recordsOf, row}
-use Rattle.model.specs.Dearest.{placedBefore, dearer, dearest, dearRow, dearestWith}
+use Rattle.model.specs.Sheet.{Sheet, Record, recordAt, recordsIn, recordsOf, lineText}
+use Rattle.model.specs.Dearest.{placedBefore, dearer, dearest, dearText, dearestWith}
 use Rattle.theory.proofs.Lists.{same-test, mem-map, map-joined, joined-map, upTo-next, joined-next, length-upTo}
 use Rattle.theory.proofs.Between.{mem-getD}
 use Rattle.theory.proofs.Sorting.{first-holds, map-first}
@@ -30,10 +30,10 @@ use Rattle.readout.specs.Sheet.{sheetIn}
 use Rattle.readout.specs.Readable.{Readable}
 use Rattle.readout.proofs.Limits.{records-low}
 use Rattle.print.proofs.Laws.{none-length}
-use Rattle.print.proofs.Digits.{taken, digits-row}
+use Rattle.print.proofs.Digits.{taken, digits-line}
 use Rattle.ranks.specs.Ranks.{higher, best}
 use Rattle.ranks.proofs.Laws.{best-append, best-zeros, length-best}
-use Rattle.dearest.specs.Ranking.{rankOf, rankAt, pointRanks, funcRanks, ranksIn, rankedFunc, rankedPoint, rankedCost, rankRow, lineAt}
+use Rattle.dearest.specs.Ranking.{rankOf, rankAt, pointRanks, funcRanks, ranksIn, rankedFunc, rankedPoint, rankedCost, rankText, lineAt}
 use Rattle.dearest.specs.Ranking.{saveEnd, costEnd, rankEnd, mostLine, ListingIn, listed}
 
 -- ---- an order of digits
@@ -117,24 +117,24 @@ module _ (x y : Record) (i : Fits x) (j : Fits y) where
       ∙ sym (first-last (rankOf y) (rankOf x))
 
 -- it says the record's line
-pub rank-row : (x : Record) → Fits x → rankRow (rankOf x) ≡ dearRow x
-unfolding rankRow rankOf dearRow
-rank-row x i =
+pub rank-text : (x : Record) → Fits x → rankText (rankOf x) ≡ dearText x
+unfolding rankText rankOf dearText
+rank-text x i =
     let r = rankOf x in
     let f : rankedFunc r ≡ x .fn = omega (arith, i .fn, i .at) in
     let p : rankedPoint r ≡ x .at = omega (arith, i .at) in
     let c : rankedCost r ≡ x .figures .cost = omega (arith, i .save, i .fn, i .at) in
-    λ z. row (bytes "(dear") (f z ∷ p z ∷ c z ∷ [])
+    λ z. lineText (bytes "(dear") (f z ∷ p z ∷ c z ∷ [])
 
 pub rank-low : (x : Record) → Fits x → x .figures .cost < costEnd → rankOf x < rankEnd
 unfolding rankOf
 rank-low x i h = omega (arith, i .save, i .fn, i .at)
 
 -- a line is short
-pub line-most : (r : ℕ) → r < rankEnd → length (rankRow r) ≤ mostLine
-unfolding rankRow taken
+pub line-most : (r : ℕ) → r < rankEnd → length (rankText r) ≤ mostLine
+unfolding rankText taken
 line-most r h =
-    omega (arith, digits-row (bytes "(dear") (rankedFunc r ∷ rankedPoint r ∷ rankedCost r ∷ []) (2 ∷ 3 ∷ 7 ∷ []) (omega arith))
+    omega (arith, digits-line (bytes "(dear") (rankedFunc r ∷ rankedPoint r ∷ rankedCost r ∷ []) (2 ∷ 3 ∷ 7 ∷ []) (omega arith))
 
 -- ---- the ranks of a task's points
 
@@ -209,9 +209,9 @@ module _ (t : Task) (s : Sheet) (ranked : (x : Record) → List·Memᴰ x (recor
       ∙ sym (map-first rankOf dearer higher Fits rank-order mostDearest (recordsOf t s) (λ x m. ranked x m .0))
 
   -- and their lines are the list
-  listed-lines : joined rankRow (map rankOf (dearest (recordsOf t s))) ≡ dearestWith t s
+  listed-lines : joined rankText (map rankOf (dearest (recordsOf t s))) ≡ dearestWith t s
   unfolding dearestWith
-  listed-lines = joined-map rankRow rankOf dearRow (dearest (recordsOf t s)) (λ x m. rank-row x (listed-ranked x m .0))
+  listed-lines = joined-map rankText rankOf dearText (dearest (recordsOf t s)) (λ x m. rank-text x (listed-ranked x m .0))
 
   listed-low : (r : ℕ) → List·Memᴰ r (map rankOf (dearest (recordsOf t s))) → r < rankEnd
   listed-low r m =
@@ -252,7 +252,7 @@ listing {price} {w} {h} ranks n k e m =
             rw (← getD-take n ranks i 0 l) (listed-low t s ranked (getD (take n ranks) i 0) (subst (λ q. List·Memᴰ (getD (take n ranks) i 0) q) top g));
       };
       text =
-          sym (joined-map rankRow (λ i. getD ranks i 0) (lineAt ranks) (upTo n) (λ i l. refl))
-          ∙ ap (joined rankRow) (first-numbers ranks n (omega arith) ∙ top)
+          sym (joined-map rankText (λ i. getD ranks i 0) (lineAt ranks) (upTo n) (λ i l. refl))
+          ∙ ap (joined rankText) (first-numbers ranks n (omega arith) ∙ top)
           ∙ listed-lines t s ranked;
     }

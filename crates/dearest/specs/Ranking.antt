@@ -7,7 +7,7 @@ use Rattle.model.specs.Limits.{mostFuncs, mostPoints, mostDearest}
 use Rattle.model.specs.Basic.{joined, upTo}
 use Rattle.model.specs.Text.{bytes}
 use Rattle.model.specs.Task.{Task, size, func}
-use Rattle.model.specs.Sheet.{Sheet, Record, recordAt, row}
+use Rattle.model.specs.Sheet.{Sheet, Record, recordAt, lineText}
 use Rattle.model.specs.Dearest.{dearestWith}
 use Rattle.tables.specs.declared.Header.{Header}
 use Rattle.tables.specs.Tables.{taskOf}
@@ -54,11 +54,11 @@ abbrev pub rankedCost : ℕ → ℕ
 rankedCost r = r / mostPoints / mostFuncs / saveEnd
 
 -- the line of a rank, and the lines of the first n of these ranks
-unfoldable pub rankRow : ℕ → List ℕ
-rankRow r = row (bytes "(dear") (rankedFunc r ∷ rankedPoint r ∷ rankedCost r ∷ [])
+unfoldable pub rankText : ℕ → List ℕ
+rankText r = lineText (bytes "(dear") (rankedFunc r ∷ rankedPoint r ∷ rankedCost r ∷ [])
 
 abbrev pub lineAt : List ℕ → ℕ → List ℕ
-lineAt ranks i = rankRow (getD ranks i 0)
+lineAt ranks i = rankText (getD ranks i 0)
 
 abbrev pub listText : List ℕ → ℕ → List ℕ
 listText ranks n = joined (lineAt ranks) (upTo n)

@@ -5,13 +5,13 @@ ghost use Prim.Native.Nat.{_+_, _<_, _≤_};
 ghost use lib.ListN.{length, replicate};
 ghost use Rattle.model.specs.Limits.{mostFuncs, mostPoints, mostDearest};
 ghost use Rattle.model.specs.Text.{bytes};
-ghost use Rattle.model.specs.Sheet.{row};
+ghost use Rattle.model.specs.Sheet.{lineText};
 ghost use Rattle.model.specs.Services.{over};
 ghost use Rattle.readout.specs.Sheet.{sheetIn};
 ghost use Rattle.readout.specs.Readable.{Readable, InFunc};
 ghost use Rattle.ranks.specs.Ranks.{Falling, best};
 ghost use Rattle.print.specs.Print.{Wrote};
-ghost use Rattle.dearest.specs.Ranking.{saveEnd, rankWith, rankAt, pointRanks, ranksIn, rankRow, listText, rankEnd, mostLine, mostList};
+ghost use Rattle.dearest.specs.Ranking.{saveEnd, rankWith, rankAt, pointRanks, ranksIn, rankText, listText, rankEnd, mostLine, mostList};
 ghost use Rattle.dearest.specs.Ranking.{Printable, ListingIn, listed as listed·spec};
 use model::Limits;
 use prices::Price;
@@ -106,7 +106,7 @@ pub fn rank_task(ranks: &mut [u64; Limits::DEAREST], work: &[u32], h: Header, pr
 // The numbers of the line of a rank: function, point and cost.
 fn rank_numbers(rank: u64) -> [u32; 3]
     requires { ⌜ rank < rankEnd ⌝ }
-    ensures { λ r. ⌜ (row (bytes "(dear") r ≡ rankRow rank) × (length r ≡ 3) ⌝ }
+    ensures { λ r. ⌜ (lineText (bytes "(dear") r ≡ rankText rank) × (length r ≡ 3) ⌝ }
 {
     let rest = rank / Rank::POINTS;
     let func = Rank::FUNCS - 1 - rest % Rank::FUNCS;
@@ -118,17 +118,17 @@ fn rank_numbers(rank: u64) -> [u32; 3]
 // How many bytes the line has.
 fn line_length(rank: u64) -> usize
     requires { ⌜ rank < rankEnd ⌝ }
-    ensures { λ r. ⌜ (r ≡ length (rankRow rank)) × (r ≤ mostLine) ⌝ }
+    ensures { λ r. ⌜ (r ≡ length (rankText rank)) × (r ≤ mostLine) ⌝ }
 {
-    print::row_length(b"(dear", &rank_numbers(rank))
+    print::line_length(b"(dear", &rank_numbers(rank))
 }
 
 // Writes the line from byte at on, and returns where it ends.
 fn put_line(out: &mut [u8], at: usize, rank: u64) -> usize
-    requires { ⌜ (rank < rankEnd) × (at + length (rankRow rank) ≤ length (now out)) ⌝ }
-    ensures { λ r. ⌜ Wrote at (rankRow rank) (now (out .entry)) r (now (out .exit)) ⌝ }
+    requires { ⌜ (rank < rankEnd) × (at + length (rankText rank) ≤ length (now out)) ⌝ }
+    ensures { λ r. ⌜ Wrote at (rankText rank) (now (out .entry)) r (now (out .exit)) ⌝ }
 {
-    print::put_row(out, at, b"(dear", &rank_numbers(rank))
+    print::put_line(out, at, b"(dear", &rank_numbers(rank))
 }
 
 // How many bytes the lines of the first n ranks have.

@@ -19,7 +19,7 @@ use Rattle.tables.proofs.Laws.{length-points, point-there}
 use Rattle.columns.specs.Columns.{longestColumn, shortestColumn}
 use Rattle.points.specs.Points.{numbered}
 use Rattle.columns.specs.Values.{calleeAt, CallFits}
-use Rattle.displace.specs.Bounds.{nonempty, BoundedBy}
+use Rattle.displace.specs.Range.{nonempty, RangeOf}
 
 -- the functions that the points of s from p on call
 unfoldable pub calledFrom : List ℕ → Span → ℕ → List ℕ
@@ -85,6 +85,6 @@ module _ (w : List ℕ) (s : Span) where
         by-option none f e l = refl
         by-option (some n) f e l = absurd (omega (arith, f n refl))
 
-  pub seen-all : {p most least : ℕ} {any : Bool} → p ≡ 0 → Seen w s p most least any → BoundedBy w s record { most = most; least = least; some = any }
+  pub seen-all : {p most least : ℕ} {any : Bool} → p ≡ 0 → Seen w s p most least any → RangeOf w s record { most = most; least = least; some = any }
   unfolding calledFrom callees
   seen-all e j = let k = rw e at j in record { most = k .largest-is; least = k .smallest-is; some = k .some-is }

@@ -34,9 +34,9 @@ use Rattle.columns.specs.Displaced.{Ready, Displaced}
 use Rattle.columns.proofs.Values.{level-call, level-past}
 use Rattle.columns.proofs.Writes.{changed-none, changed-set, changed-on, changed-wider, funcs-kept}
 use Rattle.columns.proofs.Within.{within-ready, within-task, callee-in}
-use Rattle.displace.specs.declared.CalleeBounds.{CalleeBounds}
-use Rattle.displace.specs.Bounds.{nonempty, BoundedBy}
-use Rattle.levels.specs.Levels.{levelAmong, largestWithin, shortestIn, levelIn, Room, SmallLevels, Levelled, Placed}
+use Rattle.displace.specs.declared.CalleeRange.{CalleeRange}
+use Rattle.displace.specs.Range.{nonempty, RangeOf}
+use Rattle.levels.specs.Levels.{levelAmong, largestWithin, shortestIn, levelIn, Room, SmallLevels, Levelled, Inserted}
 use Rattle.displace.specs.Ordered.{Ordered}
 use Rattle.levels.proofs.Laws.{level-low, within-cong}
 use Rattle.displace.proofs.Minimax.{level-met, met-level, minimax-is}
@@ -131,7 +131,7 @@ module _ {w : List ℕ} {h : Header} {f : ℕ} (o : Ordered w h (f + 1)) (l : f 
         let i = calls-later (ready .settled .formed) f g in-count (subst (λ (x : Func). List·Memᴰ g (model.callees x)) (sym this-func) m) in
         (i .0, rw (count-is w h) at (i .1))
 
-    pub longest-here : {b : CalleeBounds} → BoundedBy w s b → s .frame + b .most ≡ model.longest (taskOf w h) f
+    pub longest-here : {b : CalleeRange} → RangeOf w s b → s .frame + b .most ≡ model.longest (taskOf w h) f
     longest-here k =
         ap (λ (m : ℕ). s .frame + m) (k .most ∙ largest-cong (model.callees (funcIn w s))
         (λ g m. let i = callee-past g m in o .displacing .away .longest .each g (omega arith) (i .1)))
@@ -151,7 +151,7 @@ module _ {w : List ℕ} {h : Header} {f : ℕ} (o : Ordered w h (f + 1)) (l : f 
         (shortest-is (taskOf w h) (calls-later (ready .settled .formed)) f in-count))
 
     -- d of a function that calls nothing
-    pub leaf-here : {b : CalleeBounds} → BoundedBy w s b → not (b .some) ≡ true → s .frame ≡ model.shortest (taskOf w h) f
+    pub leaf-here : {b : CalleeRange} → RangeOf w s b → not (b .some) ≡ true → s .frame ≡ model.shortest (taskOf w h) f
     leaf-here k e =
         let none = empty-is (ap not (sym (k .some)) ∙ e) in
         by-return d (funcIn w s) closed-here some-point (λ n. s .frame ≡ n)
@@ -249,7 +249,7 @@ module _ {w : List ℕ} {h : Header} {f : ℕ} (o : Ordered w h (f + 1)) (l : f 
     )
 
     -- and its level
-    pub ordered-more : {w′ : List ℕ} → Placed f (h .funcs) written w′ → Ordered w′ h f × OnlyColumns w w′
+    pub ordered-more : {w′ : List ℕ} → Inserted f (h .funcs) written w′ → Ordered w′ h f × OnlyColumns w w′
     ordered-more {w′} q =
         let c : OnlyColumns w w′ = changed-on only-columns (changed-wider highColumn _ (omega arith) (omega arith) (q .changed)) in
         let t : taskOf w h ≡ taskOf w′ h = sym (within-task c ready) in (

@@ -12,7 +12,7 @@ ghost use Rattle.tables.specs.Valid.{Lies};
 ghost use Rattle.columns.specs.Columns.{columnsEnd, OnlyColumns};
 ghost use Rattle.columns.specs.Values.{CallFits};
 ghost use Rattle.columns.specs.Displaced.{Ready, Displacing};
-ghost use Rattle.displace.specs.Bounds.{BoundedBy};
+ghost use Rattle.displace.specs.Range.{RangeOf};
 ghost use Rattle.levels.specs.Levels.{largestWithin, shortestIn, levelIn, Room};
 ghost use Rattle.displace.specs.Ordered.{Ordered};
 use bits::Set;
@@ -23,7 +23,7 @@ use tables::Header;
 use tables::Span;
 
 // The largest D and the smallest d of the functions that a function calls, and whether it calls some.
-struct CalleeBounds {
+struct CalleeRange {
     most: u32,
     least: u32,
     some: bool,
@@ -40,9 +40,9 @@ fn least_with(some: bool, a: u32, b: u32) -> u32
 }
 
 // The bounds of the functions that s calls, from its last point to its first.
-fn callee_bounds(work: &[u32], s: Span) -> CalleeBounds
+fn callee_range(work: &[u32], s: Span) -> CalleeRange
     requires { ⌜ Lies (now work) s × (columnsEnd ≤ length (now work)) × ((p : ℕ) → p < s .size → CallFits (now work) s p) ⌝ }
-    ensures { λ r. ⌜ BoundedBy (now (work .entry)) s r ⌝ }
+    ensures { λ r. ⌜ RangeOf (now (work .entry)) s r ⌝ }
 {
     let mut most: u32 = 0;
     let mut least: u32 = 0;
@@ -57,7 +57,7 @@ fn callee_bounds(work: &[u32], s: Span) -> CalleeBounds
             some = true;
         }
     }
-    CalleeBounds { most, least, some }
+    CalleeRange { most, least, some }
 }
 
 // What the calls of a function displace at least: by the lowest level of its walks to a return, and least where no walk comes to a return.
@@ -79,13 +79,13 @@ fn shortest_of(
     h: Header,
     f: usize,
     s: Span,
-    b: CalleeBounds,
+    b: CalleeRange,
     levels: &mut [u32; Limits::POINTS],
     gens: &mut [u64; Limits::POINTS],
     kills: &mut [u64; Limits::POINTS],
     sets: &mut [u64; Limits::POINTS],
 ) -> u32
-    requires { ⌜ Ordered (now work) h (f + 1) × (f < h .funcs) × (s ≡ spanAt (now work) f) × BoundedBy (now work) s b ⌝ }
+    requires { ⌜ Ordered (now work) h (f + 1) × (f < h .funcs) × (s ≡ spanAt (now work) f) × RangeOf (now work) s b ⌝ }
     ensures { λ r. ⌜ r ≡ shortest (taskOf (now (work .entry)) h) f ⌝ }
 {
     if !b.some {
@@ -110,11 +110,11 @@ fn displace(
     ensures { λ r. ⌜ Ordered (now (work .exit)) h f × OnlyColumns (now (work .entry)) (now (work .exit)) ⌝ }
 {
     let s = tables::span_at(work, f);
-    let b = callee_bounds(work, s);
+    let b = callee_range(work, s);
     let d = shortest_of(work, h, f, s, b, levels, gens, kills, sets);
     work[Columns::LONGEST + f] = s.frame + b.most;
     work[Columns::SHORTEST + f] = d;
-    levels::place(work, f, h.funcs);
+    levels::insert(work, f, h.funcs);
 }
 
 // D and d of every function, from the last to the first: calls lead to later functions.

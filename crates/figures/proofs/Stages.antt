@@ -24,7 +24,7 @@ use Rattle.figures.specs.declared.Figure.{Figure}
 use Rattle.figures.specs.declared.Figure.the-variants.{High, Dead, Need, Next, Fill}
 use Rattle.columns.specs.Displaced.{Ready, Displaced, Displacing}
 use Rattle.figures.specs.Figured.{Figured}
-use Rattle.figures.specs.Steps.{figureOf, placeOf, columnOf, pointColumns, Figures, Gathered, chainFigure, ChainedTo, FiguredTo, Worked, Done}
+use Rattle.figures.specs.Steps.{figureOf, indexOf, columnOf, pointColumns, Figures, Gathered, chainFigure, ChainedTo, FiguredTo, Worked, Done}
 use Rattle.figures.specs.Steps.{OnlyPoints, Working, WorkingOn}
 use Rattle.figures.proofs.Limits.{chain-low}
 use Rattle.figures.proofs.Filed.{filed}
@@ -32,14 +32,14 @@ use Rattle.columns.proofs.Within.{within-ready, within-task}
 use Rattle.figures.proofs.Gathers.{gathered-none, gathered-kept, gathered-more, chain-of, entry-of}
 use Rattle.figures.proofs.Points.{chained-is}
 
-pub place-low : (which : Figure) → placeOf which < pointColumns
-place-low High = omega arith
-place-low Dead = omega arith
-place-low Need = omega arith
-place-low Next = omega arith
-place-low Fill = omega arith
+pub index-low : (which : Figure) → indexOf which < pointColumns
+index-low High = omega arith
+index-low Dead = omega arith
+index-low Need = omega arith
+index-low Next = omega arith
+index-low Fill = omega arith
 
--- a figure is known by its place
+-- a figure is known by its index
 figureAt : ℕ → Figure
 figureAt zero = High
 figureAt (suc zero) = Dead
@@ -47,13 +47,13 @@ figureAt (suc (suc zero)) = Need
 figureAt (suc (suc (suc zero))) = Next
 figureAt (suc (suc (suc (suc n)))) = Fill
 
-at-place : (which : Figure) → figureAt (placeOf which) ≡ which
+at-index : (which : Figure) → figureAt (indexOf which) ≡ which
 unfolding figureAt
-at-place High = refl
-at-place Dead = refl
-at-place Need = refl
-at-place Next = refl
-at-place Fill = refl
+at-index High = refl
+at-index Dead = refl
+at-index Need = refl
+at-index Next = refl
+at-index Fill = refl
 
 -- D and d that are as they were
 displaced-kept : {t : Task} {n : ℕ} {w w′ : List ℕ} → n ≤ mostFuncs → ((i : ℕ) → highColumn + mostInAll * pointColumns ≤ i → i < entryColumn
@@ -81,7 +81,7 @@ done-none {price} {w} {v} {w′} {h} small d c x b y =
                 (displaced-kept few (λ i l k. b .before i k ∙ c .before i (omega arith)) (d .away));
             entry = gathered-none _ _ _ _ _ few y;
             below = λ which. record { each = λ f p l k. absurd (omega arith) };
-            own = λ which l. absurd (omega (arith, place-low which));
+            own = λ which l. absurd (omega (arith, index-low which));
           };
         };
         chained = gathered-none _ _ _ _ _ few (funcs-kept (λ f l k. b .behind (chainColumn + f) (omega arith)) x);
@@ -100,13 +100,13 @@ chained-kept price {w} {w′} {h} {f} r c x =
     (gathered-kept (λ g l. c .behind (chainColumn + g) (omega arith)) x)
 
 -- the column of one figure is written
-module _ {w w′ v : List ℕ} {h : Header} {f : ℕ} (which : Figure) (x : Worked w h f (suc (placeOf which))) (l : f < h .funcs)
+module _ {w w′ v : List ℕ} {h : Header} {f : ℕ} (which : Figure) (x : Worked w h f (suc (indexOf which))) (l : f < h .funcs)
     (put : Put (columnOf which + baseAt w f) (sizeAt w f) v w w′) where
   in-column : baseAt w f + sizeAt w f ≤ mostInAll
   in-column = omega (arith, stacked-within (x .ready .settled .holds .stacked) f l, x .ready .settled .holds .all)
 
   put-points : OnlyPoints w w′
-  put-points = changed-wider highColumn _ (omega arith) (omega (arith, in-column, place-low which)) (put .changed)
+  put-points = changed-wider highColumn _ (omega arith) (omega (arith, in-column, index-low which)) (put .changed)
 
   put-within : OnlyColumns w w′
   put-within = points-columns put-points
@@ -115,18 +115,18 @@ module _ {w w′ v : List ℕ} {h : Header} {f : ℕ} (which : Figure) (x : Work
   other-column : (other : Figure) (g p : ℕ) → g < f → p < sizeAt w g → item w′ (columnOf other + baseAt w g + p) ≡ item w (columnOf other + baseAt w g + p)
   other-column other g p m i =
       let o = stacked-order (x .ready .settled .holds .stacked) g f m l in
-      elim (decLe (placeOf other) (placeOf which)) [
+      elim (decLe (indexOf other) (indexOf which)) [
         | yes e ↦ put .changed .before _ (omega (arith, o))
         | no e ↦ put .changed .behind _ (omega (arith, in-column))
       ]
 
-  own-column : (other : Figure) → placeOf which < placeOf other → (p : ℕ) → item w′ (columnOf other + baseAt w f + p) ≡ item w (columnOf other + baseAt w f + p)
+  own-column : (other : Figure) → indexOf which < indexOf other → (p : ℕ) → item w′ (columnOf other + baseAt w f + p) ≡ item w (columnOf other + baseAt w f + p)
   own-column other e p = put .changed .behind _ (omega (arith, in-column))
 
   behind-points : (i : ℕ) → highColumn + mostInAll * pointColumns ≤ i → item w′ i ≡ item w i
-  behind-points i m = put .changed .behind i (omega (arith, in-column, place-low which))
+  behind-points i m = put .changed .behind i (omega (arith, in-column, index-low which))
 
-  pub worked-more : ((p : ℕ) → p < sizeAt w f → item v p ≡ figureOf which (taskOf w h) f p) → Worked w′ h f (placeOf which) × OnlyPoints w w′
+  pub worked-more : ((p : ℕ) → p < sizeAt w f → item v p ≡ figureOf which (taskOf w h) f p) → Worked w′ h f (indexOf which) × OnlyPoints w w′
   worked-more new =
       let few = x .ready .settled .holds .few in
       let s = x .stands in
@@ -135,17 +135,17 @@ module _ {w w′ v : List ℕ} {h : Header} {f : ℕ} (which : Figure) (x : Work
       let z = a .size f (omega arith) in (
         record {
           ready = within-ready put-within (x .ready);
-          stands = subst (λ (t : Task). FiguredTo t (h .funcs) f (placeOf which) w′) (sym (within-task put-within (x .ready)))
+          stands = subst (λ (t : Task). FiguredTo t (h .funcs) f (indexOf which) w′) (sym (within-task put-within (x .ready)))
               (record {
                 away = displaced-kept few (λ i m n. behind-points i m) (s .away);
                 entry = gathered-kept (λ g m. behind-points _ (omega arith)) (s .entry);
                 below = λ other. points-kept (omega arith) put-within (omega arith) (other-column other) (s .below other);
                 own = λ other m p i.
                     ap (λ (n : ℕ). item w′ (columnOf other + n + p)) b
-                    ∙ elim (ℕ-discrete (placeOf other) (placeOf which)) [
+                    ∙ elim (ℕ-discrete (indexOf other) (indexOf which)) [
                       | yes e ↦
                           subst (λ (y : Figure). item w′ (columnOf y + baseAt w f + p) ≡ figureOf y (taskOf w h) f p)
-                          (sym (at-place which) ∙ (ap figureAt (sym e) ∙ at-place other))
+                          (sym (at-index which) ∙ (ap figureAt (sym e) ∙ at-index other))
                           (put .each p (omega (arith, z)) ∙ new p (omega (arith, z)))
                       | no e ↦ own-column other (omega arith) p ∙ s .own other (omega arith) p (omega (arith, z))
                     ];
@@ -157,9 +157,9 @@ module _ {w w′ v : List ℕ} {h : Header} {f : ℕ} (which : Figure) (x : Work
 pub turn-of : {w : List ℕ} {h : Header} {f k : ℕ} {s : Span} → Working w h f k → s ≡ spanAt w f → WorkingOn w h f k s
 turn-of x e = record { begun = x; same = e }
 
-pub worked-put : (which : Figure) {w w′ v v₀ : List ℕ} {h : Header} {f column : ℕ} {s : Span} → WorkingOn w h f (suc (placeOf which)) s
+pub worked-put : (which : Figure) {w w′ v v₀ : List ℕ} {h : Header} {f column : ℕ} {s : Span} → WorkingOn w h f (suc (indexOf which)) s
     → column ≡ columnOf which → Figures which (taskOf w h) f (s .size) v₀ v → Put (column + s .base) (s .size) v w w′
-    → Working w′ h f (placeOf which) × OnlyPoints w w′
+    → Working w′ h f (indexOf which) × OnlyPoints w w′
 worked-put which {w} {w′} {v} {f = f} {s = s} x n y put =
     let r = worked-more which (x .begun .worked) (x .begun .below)
     (subst (λ (s : Span). Put (columnOf which + s .base) (s .size) v w w′) (x .same) (subst (λ (m : ℕ). Put (m + s .base) (s .size) v w w′) n put))
@@ -190,7 +190,7 @@ module _ (price : Price) {w v w′ c e : List ℕ} {h : Header} {f : ℕ} (x : W
   point-cell : (which : Figure) (g p : ℕ) → g < f + 1 → p < sizeAt w g → item w′ (columnOf which + baseAt w g + p) ≡ item w (columnOf which + baseAt w g + p)
   point-cell which g p m i =
       before-raised _ (omega
-      (arith, place-low which, stacked-within (x .ready .settled .holds .stacked) g (omega arith), x .ready .settled .holds .all))
+      (arith, index-low which, stacked-within (x .ready .settled .holds .stacked) g (omega arith), x .ready .settled .holds .all))
 
   -- the chains are no numbers that E is raised from
   entry-raised : (g : ℕ) → g < mostFuncs → item w′ (entryColumn + g) ≡ raisedBy (calls (funcOf w f) g) (item e) (sizeAt w f) (item w (entryColumn + g))
@@ -218,7 +218,7 @@ module _ (price : Price) {w v w′ c e : List ℕ} {h : Header} {f : ℕ} (x : W
                   away = displaced-kept few (λ i m n. before-raised i n) (s .away);
                   entry = gathered-more r e l entry-raised (λ p g m q. z .each p m ∙ s .own High (omega arith) p m) (s .entry);
                   below = λ which. points-kept (omega arith) raise-within (omega arith) (point-cell which) (points-all which);
-                  own = λ which m. absurd (omega (arith, place-low which));
+                  own = λ which m. absurd (omega (arith, index-low which));
                 });
           };
           chained = subst (λ (t : Task). Gathered t (chainFigure price t) chainColumn (h .funcs) (f + 1) w′) same

@@ -18,7 +18,7 @@ use Rattle.columns.specs.Values.{raisedBy}
 use Rattle.figures.specs.declared.Figure.{Figure}
 use Rattle.figures.specs.declared.Figure.the-variants.{High, Dead, Need, Next, Fill}
 
--- a figure of the points; the place of its column among those of the points, and how many these are
+-- a figure of the points; the index of its column among those of the points, and how many these are
 abbrev pub figureOf : Figure → Task → ℕ → ℕ → ℕ
 figureOf High t f p = model.high t f p
 figureOf Dead t f p = model.dead (func t f) p
@@ -26,18 +26,18 @@ figureOf Need t f p = model.need (func t f) p
 figureOf Next t f p = model.keptNext t f p
 figureOf Fill t f p = model.fill t f p
 
-abbrev pub placeOf : Figure → ℕ
-placeOf High = 0
-placeOf Dead = 1
-placeOf Need = 2
-placeOf Next = 3
-placeOf Fill = 4
+abbrev pub indexOf : Figure → ℕ
+indexOf High = 0
+indexOf Dead = 1
+indexOf Need = 2
+indexOf Next = 3
+indexOf Fill = 4
 
 abbrev pub pointColumns : ℕ
 pointColumns = 5
 
 abbrev pub columnOf : Figure → ℕ
-columnOf which = highColumn + mostInAll * placeOf which
+columnOf which = highColumn + mostInAll * indexOf which
 
 -- the first n numbers of l′ are the figure of the points of function f, and the others are those of l
 pub record Figures (which : Figure) (t : Task) (f n : ℕ) (l l′ : List ℕ) : Type 0 where
@@ -60,12 +60,12 @@ chainFigure price t f p = model.chain (priceOf price) t f + priceOf price (model
 abbrev pub ChainedTo : Price → List ℕ → Header → ℕ → Type 0
 ChainedTo price w h f = Gathered (taskOf w h) (chainFigure price (taskOf w h)) chainColumn (h .funcs) f w
 
--- of the n functions of t, those below f have all figures but the chain, and function f has those whose place is k or more
+-- of the n functions of t, those below f have all figures but the chain, and function f has those whose index is k or more
 pub record FiguredTo (t : Task) (n f k : ℕ) (w : List ℕ) : Type 0 where
   pub away : Displaced t 0 n w
   pub entry : Gathered t (model.high t) entryColumn n f w
   pub below : (which : Figure) → Points (figureOf which t) (columnOf which) f w
-  pub own : (which : Figure) → k ≤ placeOf which → (p : ℕ) → p < sizeAt w f → item w (columnOf which + baseAt w f + p) ≡ figureOf which t f p
+  pub own : (which : Figure) → k ≤ indexOf which → (p : ℕ) → p < sizeAt w f → item w (columnOf which + baseAt w f + p) ≡ figureOf which t f p
 
 pub record Worked (w : List ℕ) (h : Header) (f k : ℕ) : Type 0 where
   pub ready : Ready w h
@@ -93,4 +93,4 @@ pub record WorkingOn (w : List ℕ) (h : Header) (f k : ℕ) (s : Span) : Type 0
 
 -- this figure is the next
 abbrev pub Due : Figure → List ℕ → Header → ℕ → Span → Type 0
-Due which w h f s = WorkingOn w h f (suc (placeOf which)) s
+Due which w h f s = WorkingOn w h f (suc (indexOf which)) s

@@ -10,7 +10,7 @@ ghost use Rattle.columns.specs.Columns.{columnsEnd, OnlyColumns};
 ghost use Rattle.figures.specs.declared.Figure.the-variants.{Next, High};
 ghost use Rattle.columns.specs.Displaced.{Ready};
 ghost use Rattle.figures.specs.Figured.{Figured};
-ghost use Rattle.figures.specs.Steps.{placeOf, columnOf, pointColumns, Figures, Working, Due, ChainedTo, Done, OnlyPoints};
+ghost use Rattle.figures.specs.Steps.{indexOf, columnOf, pointColumns, Figures, Working, Due, ChainedTo, Done, OnlyPoints};
 use columns::Columns;
 use columns::Value;
 use model::Limits;
@@ -118,8 +118,8 @@ fn write_figure(
     state: &mut [u8; Limits::POINTS],
     out: &mut [u32; Limits::POINTS],
 )
-    requires { ⌜ Working (now work) h f (suc (placeOf which)) ⌝ }
-    ensures { λ r. ⌜ Working (now (work .exit)) h f (placeOf which) × OnlyPoints (now (work .entry)) (now (work .exit)) ⌝ }
+    requires { ⌜ Working (now work) h f (suc (indexOf which)) ⌝ }
+    ensures { λ r. ⌜ Working (now (work .exit)) h f (indexOf which) × OnlyPoints (now (work .entry)) (now (work .exit)) ⌝ }
 {
     let s = tables::span_at(work, f);
     figure_points(which, work, h, f, s, values, gens, kills, sets, state, out);
@@ -147,11 +147,11 @@ fn raise_callees(
     columns::raise(work, s, Columns::ENTRY, out);
 }
 
-// The figure whose column has this place among those of the points.
-fn figure_in(place: usize) -> Figure
-    ensures { λ r. ⌜ (place < pointColumns → placeOf r ≡ place) ⌝ }
+// The figure whose column has this index among those of the points.
+fn figure_in(index: usize) -> Figure
+    ensures { λ r. ⌜ (index < pointColumns → indexOf r ≡ index) ⌝ }
 {
-    match place {
+    match index {
         0 => Figure::High,
         1 => Figure::Dead,
         2 => Figure::Need,
@@ -175,10 +175,10 @@ fn write_figures(
     requires { ⌜ Working (now work) h f pointColumns ⌝ }
     ensures { λ r. ⌜ Working (now (work .exit)) h f 0 × OnlyPoints (now (work .entry)) (now (work .exit)) ⌝ }
 {
-    let mut place = Columns::OF_POINTS;
-    while 0 < place {
-        place -= 1;
-        let which = figure_in(place);
+    let mut index = Columns::OF_POINTS;
+    while 0 < index {
+        index -= 1;
+        let which = figure_in(index);
         write_figure(which, work, h, f, values, gens, kills, sets, state, out);
     }
 }

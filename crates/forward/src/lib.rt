@@ -13,7 +13,7 @@ ghost use Rattle.forward.specs.Visits.{progressOf, addedWith, LastThere,
 use flow::Next;
 use model::Limits;
 use tables::Span;
-use worklist::State;
+use worklist::Visit;
 
 // The last point of the worklist, and its set.
 struct Last {
@@ -86,13 +86,13 @@ fn merge(
     let s = state[q];
     let old = sets[q];
     let new = bits::union_of(old, m);
-    if s == State::UNSEEN {
+    if s == Visit::UNSEEN {
         return add_to_list(sets, state, points, count, q, new);
     }
     if new == old {
         return count;
     }
-    if s == State::WAITING {
+    if s == Visit::WAITING {
         sets[q] = new;
         return count;
     }

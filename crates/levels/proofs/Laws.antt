@@ -16,7 +16,7 @@ use Rattle.theory.proofs.Between.{largest-cong}
 use Rattle.tables.proofs.Laws.{here, elsewhere}
 use Rattle.columns.specs.Columns.{shortestColumn, levelColumn, Funcs}
 use Rattle.columns.proofs.Writes.{changed-none, changed-set}
-use Rattle.levels.specs.Levels.{levelAmong, largestWithin, shortestIn, levelIn, Levelled, Lifted, Placed}
+use Rattle.levels.specs.Levels.{levelAmong, largestWithin, shortestIn, levelIn, Levelled, Lifted, Inserted}
 
 -- the functions from m on, and those behind m
 behind : {m n : ℕ} → m < n → n - m ≡ suc (n - (m + 1))
@@ -143,9 +143,9 @@ pub lifting-all : {m g n v : ℕ} {w w′ : List ℕ} → n ≤ g → Lifting m 
 lifting-all h l = record { changed = l .lifted .changed; each = λ k i j. l .lifted .each k i (omega arith) }
 
 -- function f among the functions behind it
-pub placed : (f n : ℕ) {w w′ : List ℕ} {level : ℕ} → f < mostFuncs → levelColumn + f < length w′ → level ≡ levelAmong (shortestIn w) (f + 1) n (shortestIn w f)
-    → Lifted (f + 1) n (shortestIn w f) w w′ → Placed f n w (set w′ (levelColumn + f) level)
-placed f n {w} {w′} {level} few room e l =
+pub inserted : (f n : ℕ) {w w′ : List ℕ} {level : ℕ} → f < mostFuncs → levelColumn + f < length w′ → level ≡ levelAmong (shortestIn w) (f + 1) n (shortestIn w f)
+    → Lifted (f + 1) n (shortestIn w f) w w′ → Inserted f n w (set w′ (levelColumn + f) level)
+inserted f n {w} {w′} {level} few room e l =
     record {
       changed = changed-set levelColumn mostFuncs w′ (levelColumn + f) level (omega arith) (omega arith) (l .changed);
       levelled = λ d own behind. record {

@@ -45,6 +45,6 @@ pub record Lifted (m n v : ℕ) (w w′ : List ℕ) : Type 0 where
   pub each : (g : ℕ) → m ≤ g → g < n → levelIn w′ g ≡ (if ltb v (shortestIn w g) then suc (levelIn w g) else levelIn w g)
 
 -- function f has found its level among those behind it, whatever d is
-pub record Placed (f n : ℕ) (w w′ : List ℕ) : Type 0 where
+pub record Inserted (f n : ℕ) (w w′ : List ℕ) : Type 0 where
   pub changed : Changed levelColumn mostFuncs w w′
   pub levelled : (d : ℕ → ℕ) → Funcs d shortestColumn f n w → Levelled d (f + 1) n w → Levelled d f n w′

@@ -4,7 +4,7 @@ ghost use Prim.Native.Nat.{suc, _+_, _≤_};
 ghost use lib.Dec.{ltb};
 ghost use Rattle.model.specs.Basic.{if_then_else_};
 ghost use Rattle.model.specs.Limits.{mostFuncs};
-ghost use Rattle.levels.specs.Levels.{levelAmong, largestWithin, shortestIn, levelIn, Room, SmallLevels, Lifted, Placed};
+ghost use Rattle.levels.specs.Levels.{levelAmong, largestWithin, shortestIn, levelIn, Room, SmallLevels, Lifted, Inserted};
 use columns::Columns;
 
 // One level more where a is below b.
@@ -47,9 +47,9 @@ fn lift_levels(work: &mut [u32], m: usize, n: usize, v: u32)
 }
 
 // Gives function f, which has its d, its level among the functions behind it.
-pub fn place(work: &mut [u32], f: usize, n: usize)
+pub fn insert(work: &mut [u32], f: usize, n: usize)
     requires { ⌜ Room (f + 1) n (now work) × SmallLevels (f + 1) n (now work) ⌝ }
-    ensures { λ r. ⌜ Placed f n (now (work .entry)) (now (work .exit)) ⌝ }
+    ensures { λ r. ⌜ Inserted f n (now (work .entry)) (now (work .exit)) ⌝ }
 {
     let d = work[Columns::SHORTEST + f];
     let level = level_among(work, f + 1, n, d);

@@ -9,7 +9,7 @@ use Rattle.model.specs.Limits.{mostDearest}
 use Rattle.model.specs.Basic.{joined, smallerFirst, largerFirst, sorted}
 use Rattle.model.specs.Text.{bytes}
 use Rattle.model.specs.Task.{Task}
-use Rattle.model.specs.Sheet.{Sheet, pricedSheet, Record, recordsOf, row}
+use Rattle.model.specs.Sheet.{Sheet, pricedSheet, Record, recordsOf, lineText}
 
 -- the order of the report: by function, then by point
 abbrev pub placedBefore : Record → Record → Bool
@@ -27,11 +27,11 @@ dearer x y = largerFirst (x .figures .cost) (y .figures .cost) (savedBefore x y)
 unfoldable pub dearest : List Record → List Record
 dearest l = take mostDearest (sorted dearer l)
 
-unfoldable pub dearRow : Record → List ℕ
-dearRow x = row (bytes "(dear") (x .fn ∷ x .at ∷ x .figures .cost ∷ [])
+unfoldable pub dearText : Record → List ℕ
+dearText x = lineText (bytes "(dear") (x .fn ∷ x .at ∷ x .figures .cost ∷ [])
 
 unfoldable pub dearestWith : Task → Sheet → List ℕ
-dearestWith t s = joined dearRow (dearest (recordsOf t s))
+dearestWith t s = joined dearText (dearest (recordsOf t s))
 
 abbrev pub dearestText : (ℕ → ℕ) → Task → List ℕ
 dearestText price t = dearestWith t (pricedSheet price t)

@@ -22,8 +22,8 @@ unfolding Basic.firstOf Basic.any Basic.select Basic.joined Basic.sumOf Basic.la
     Figures.need Figures.callees Figures.minimax Figures.shortestBy Figures.longestTo Figures.shortestTo Figures.longest Figures.shortest Figures.fill
     Figures.afterWith Figures.highFromWith Figures.callPoints Figures.overCalls Figures.entryTo Figures.entryWith Figures.highWith Figures.spillWith
     Figures.chainTo Figures.chain Figures.firstEnsure Figures.keptNext Sheet.movePrice Sheet.costed Sheet.onceOf Sheet.recordsIn Sheet.recordsOf Sheet.decimalTo
-    Sheet.decimal Sheet.row
-    Sheet.funcRow Sheet.pointRow Sheet.totalOf Sheet.totalRow Sheet.funcRows Sheet.reportWith Dearest.dearer Dearest.dearest Dearest.dearRow Dearest.dearestWith
+    Sheet.decimal Sheet.lineText
+    Sheet.headText Sheet.pointText Sheet.totalOf Sheet.totalText Sheet.funcText Sheet.reportWith Dearest.dearer Dearest.dearest Dearest.dearText Dearest.dearestWith
     Refusal.linkRow Refusal.reachRow Refusal.loadRow Refusal.callRow Refusal.firstPoint Refusal.taskRows Refusal.judged Refusal.workRow
     Refusal.priceRow Refusal.judge Refusal.outputRows Refusal.runRows Refusal.eventRows
     Plain.act Plain.eventsOf Plain.afterEvent Plain.answerOf Plain.plainFrom Run.turn Run.ranFrom Run.eventBound Run.allowedFrom

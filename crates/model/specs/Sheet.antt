@@ -137,12 +137,12 @@ unfoldable pub decimal : ℕ → List ℕ
 decimal m = decimalTo (suc m) m
 
 -- a line: a word, numbers with a space before each, a closing bracket
-unfoldable pub row : List ℕ → List ℕ → List ℕ
-row word numbers = word ++ (joined (λ m. bytes " " ++ decimal m) numbers ++ bytes ")\n")
+unfoldable pub lineText : List ℕ → List ℕ → List ℕ
+lineText word numbers = word ++ (joined (λ m. bytes " " ++ decimal m) numbers ++ bytes ")\n")
 
-unfoldable pub funcRow : Task → Sheet → ℕ → List ℕ
-funcRow t s f =
-    row
+unfoldable pub headText : Task → Sheet → ℕ → List ℕ
+headText t s f =
+    lineText
     (bytes "  (func")
     (f
     ∷ func t f .frame
@@ -158,9 +158,9 @@ onceField true x = onceOf x ∷ []
 onceField false x = []
 
 -- the line of a record: all of it but the function, whose line stands above. once: it has that field
-unfoldable pub pointRow : Bool → Record → List ℕ
-pointRow once x =
-    row
+unfoldable pub pointText : Bool → Record → List ℕ
+pointText once x =
+    lineText
     (bytes "  (at")
     (x .at
     ∷ x .figures .high
@@ -178,16 +178,16 @@ pointRow once x =
 unfoldable pub totalOf : List Record → ℕ
 totalOf l = sumOf (λ x. x .figures .cost) l
 
-unfoldable pub totalRow : List Record → List ℕ
-totalRow l = row (bytes "  (total") (totalOf l ∷ [])
+unfoldable pub totalText : List Record → List ℕ
+totalText l = lineText (bytes "  (total") (totalOf l ∷ [])
 
 -- a function's lines, and the report: the foot line sums the records whose lines are printed. once: the lines of the points have that field
-unfoldable pub funcRows : Bool → Task → Sheet → ℕ → List ℕ
-funcRows once t s f = funcRow t s f ++ joined (pointRow once) (recordsIn t s f)
+unfoldable pub funcText : Bool → Task → Sheet → ℕ → List ℕ
+funcText once t s f = headText t s f ++ joined (pointText once) (recordsIn t s f)
 
 unfoldable pub reportWith : Bool → Task → Sheet → List ℕ
 reportWith once t s =
-    bytes "(report\n" ++ (joined (funcRows once t s) (upTo (count t)) ++ (totalRow (recordsOf t s) ++ bytes ")\n"))
+    bytes "(report\n" ++ (joined (funcText once t s) (upTo (count t)) ++ (totalText (recordsOf t s) ++ bytes ")\n"))
 
 abbrev pub reportText : Bool → (ℕ → ℕ) → Task → List ℕ
 reportText once price t = reportWith once t (pricedSheet price t)

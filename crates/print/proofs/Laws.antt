@@ -1,4 +1,4 @@
--- Laws of a buffer that bytes are written into, and of the lengths of a number in decimal and of a row of them.
+-- Laws of a buffer that bytes are written into, and of the lengths of a number in decimal and of a line of them.
 use Prim.Native.Nat.{ℕ, zero, suc, _+_, _*_, _/_, _%_, _^_, _≤_, _<_, zero-le}
 use mathlib.Core.Path.{_≡_, refl, sym, ap, _∙_}
 use mathlib.Core.List.{List, [], _∷_, _++_, append-assoc}
@@ -10,7 +10,7 @@ use lib.ListN.{length, getD, take, drop, set, length-append, length-set, take-ap
 use lib.Seq.{length-take-le, take-length, take-suc, append-snoc, take-at, drop-at, take-set-le, drop-drop, set-split, paste}
 use Rattle.model.specs.Basic.{joined, countFrom, upTo}
 use Rattle.model.specs.Text.{bytes}
-use Rattle.model.specs.Sheet.{decimal, row}
+use Rattle.model.specs.Sheet.{decimal, lineText}
 use Rattle.model.specs.Services.{over}
 use Rattle.theory.proofs.Lists.{joined-append, joined-snoc, joined-next, length-joined, sum-room}
 use Rattle.theory.proofs.Decimal.{decimal-small, decimal-large, length-small, length-large}
@@ -202,21 +202,21 @@ module _ (g : ℕ → List ℕ) where
   pub next-room : (k n : ℕ) → k < n → length (joined g (upTo k)) + length (g k) ≤ length (joined g (upTo n))
   next-room k n h = omega (arith, length-joined g (upTo k), length-joined g (upTo n), sum-room (λ i. length (g i)) k n h)
 
--- a row of the report
+-- a line of the report
 
-pub row-parts : (w l : List ℕ) → row w l ≡ w ++ spaced l ++ bytes ")\n"
-unfolding row
-row-parts w l = sym (append-assoc w (spaced l) (bytes ")\n"))
+pub line-parts : (w l : List ℕ) → lineText w l ≡ w ++ spaced l ++ bytes ")\n"
+unfolding lineText
+line-parts w l = sym (append-assoc w (spaced l) (bytes ")\n"))
 
-pub length-row : (w l : List ℕ) → length (row w l) ≡ length w + length (spaced l) + 2
-length-row w l = omega (arith, ap length (row-parts w l), length-append (w ++ spaced l) (bytes ")\n"), length-append w (spaced l))
+pub length-line : (w l : List ℕ) → length (lineText w l) ≡ length w + length (spaced l) + 2
+length-line w l = omega (arith, ap length (line-parts w l), length-append (w ++ spaced l) (bytes ")\n"), length-append w (spaced l))
 
--- a number of 32 bits takes at most eleven bytes of a row
+-- a number of 32 bits takes at most eleven bytes of a line
 pub spaced-most : (l : List ℕ) → ((i : ℕ) → getD l i 0 < 2 ^ 32) → length (spaced l) ≤ 11 * length l
 unfolding joined
 spaced-most [] h = zero-le
 spaced-most (a ∷ l) h =
     omega (arith, length-append (bytes " " ++ decimal a) (spaced l), decimal-most a (h 0), spaced-most l (λ i. h (suc i)))
 
-pub row-most : (w l : List ℕ) → ((i : ℕ) → getD l i 0 < 2 ^ 32) → length (row w l) ≤ length w + 11 * length l + 2
-row-most w l h = omega (arith, length-row w l, spaced-most l h)
+pub line-most : (w l : List ℕ) → ((i : ℕ) → getD l i 0 < 2 ^ 32) → length (lineText w l) ≤ length w + 11 * length l + 2
+line-most w l h = omega (arith, length-line w l, spaced-most l h)

@@ -16,6 +16,6 @@ pub record Wrote (at : ℕ) (w out : List ℕ) (r : ℕ) (out′ : List ℕ) : T
   pub end : r ≡ at + length w
   pub buffer : out′ ≡ pasted at w out
 
--- numbers in decimal with a space before each, as a row of the report has them
+-- numbers in decimal with a space before each, as a line of the report has them
 abbrev pub spaced : List ℕ → List ℕ
 spaced l = joined (λ m. bytes " " ++ decimal m) l

@@ -1,8 +1,8 @@
-// Words, decimal numbers and rows of them, written into a lent buffer at a place.
+// Words, decimal numbers and lines of them, written into a lent buffer from a byte on.
 ghost use mathlib.Core.Path.{_≡_};
 ghost use Prim.Native.Nat.{_+_, _*_, _≤_};
 ghost use lib.ListN.{length};
-ghost use Rattle.model.specs.Sheet.{decimal, row};
+ghost use Rattle.model.specs.Sheet.{decimal, lineText};
 ghost use Rattle.print.specs.Print.{Wrote, spaced};
 
 // Writes the bytes w from byte at on, and returns where they end.
@@ -86,20 +86,20 @@ fn put_numbers(out: &mut [u8], at: usize, numbers: &[u32]) -> usize
     end
 }
 
-// Writes a row of the report from byte at on, and returns where it ends.
-pub fn put_row(out: &mut [u8], at: usize, word: &[u8], numbers: &[u32]) -> usize
-    requires { ⌜ at + length (row (now word) (now numbers)) ≤ length (now out) ⌝ }
-    ensures { λ r. ⌜ Wrote at (row (now (word .entry)) (now (numbers .entry))) (now (out .entry)) r (now (out .exit)) ⌝ }
+// Writes a line of the report from byte at on, and returns where it ends.
+pub fn put_line(out: &mut [u8], at: usize, word: &[u8], numbers: &[u32]) -> usize
+    requires { ⌜ at + length (lineText (now word) (now numbers)) ≤ length (now out) ⌝ }
+    ensures { λ r. ⌜ Wrote at (lineText (now (word .entry)) (now (numbers .entry))) (now (out .entry)) r (now (out .exit)) ⌝ }
 {
     let first = put(out, at, word);
     let end = put_numbers(out, first, numbers);
     put(out, end, b")\n")
 }
 
-// How many bytes a row has: at most 11 for each number.
-pub fn row_length(word: &[u8], numbers: &[u32]) -> usize
+// How many bytes a line has: at most 11 for each number.
+pub fn line_length(word: &[u8], numbers: &[u32]) -> usize
     requires { ⌜ (length (now word) ≤ 16) × (length (now numbers) ≤ 16) ⌝ }
-    ensures { λ r. ⌜ (r ≡ length (row (now (word .entry)) (now (numbers .entry))))
+    ensures { λ r. ⌜ (r ≡ length (lineText (now (word .entry)) (now (numbers .entry))))
         × (r ≤ length (now (word .entry)) + 11 * length (now (numbers .entry)) + 2) ⌝ }
 {
     let mut n = word.len() + 2;

@@ -9,7 +9,7 @@ use lib.ListN.{length, length-append}
 use Rattle.model.specs.Basic.{joined, sumOf, countFrom, upTo}
 use Rattle.model.specs.Text.{bytes}
 use Rattle.model.specs.Task.{count}
-use Rattle.model.specs.Sheet.{PointSheet, countsBlocks, row, recordAt, recordsIn, recordsOf, totalOf, totalRow, funcRow, pointRow, funcRows, reportWith}
+use Rattle.model.specs.Sheet.{PointSheet, countsBlocks, lineText, recordAt, recordsIn, recordsOf, totalOf, totalText, headText, pointText, funcText, reportWith}
 use Rattle.model.specs.Services.{over}
 use Rattle.theory.proofs.Lists.{joined-map, joined-next, sum-joined, sum-next, sum-room}
 use Rattle.theory.proofs.Total.{total-in}
@@ -24,7 +24,7 @@ use Rattle.readout.specs.declared.FuncFigures.{FuncFigures}
 use Rattle.readout.specs.Sheet.{sheetIn}
 use Rattle.readout.specs.Readable.{InFunc, funcFigures}
 use Rattle.report.specs.declared.Lines.{Lines}
-use Rattle.report.specs.Report.{Part, both, firstParts, showsOnce, pointNumbers, pointLine, pointsPart, headPart, funcPart, funcsPart, footText, reportIn, endsText}
+use Rattle.report.specs.Report.{Part, both, firstParts, showsOnce, pointNumbers, atText, pointsPart, headPart, funcPart, funcsPart, footText, reportIn, endsText}
 use Rattle.report.specs.Report.{Room, Counts, Adds}
 
 -- ---- parts that are counted or written one after the other
@@ -94,18 +94,18 @@ module _ (part : ℕ → Part) where
 -- ---- the parts of the report
 
 -- the line of a point by its figures, and the line that opens a function
-pub point-row : {x y : PointSheet} (price : Price) (f p : ℕ) → x ≡ y → pointLine price p x ≡ pointRow (showsOnce price) (record { fn = f; at = p; figures = y })
-unfolding pointRow
-point-row price f p e = ap (λ (z : PointSheet). pointLine price p z) e
+pub point-text : {x y : PointSheet} (price : Price) (f p : ℕ) → x ≡ y → atText price p x ≡ pointText (showsOnce price) (record { fn = f; at = p; figures = y })
+unfolding pointText
+point-text price f p e = ap (λ (z : PointSheet). atText price p z) e
 
 -- by whether it has once
-pub shown-row : (price : Price) (p : ℕ) (x : PointSheet) (b : Bool) {numbers : List ℕ} → showsOnce price ≡ b → numbers ≡ pointNumbers b p x
-    → row (bytes "  (at") numbers ≡ pointLine price p x
-shown-row price p x b e k = ap (row (bytes "  (at")) k ∙ ap (λ (c : Bool). row (bytes "  (at") (pointNumbers c p x)) (sym e)
+pub shown-text : (price : Price) (p : ℕ) (x : PointSheet) (b : Bool) {numbers : List ℕ} → showsOnce price ≡ b → numbers ≡ pointNumbers b p x
+    → lineText (bytes "  (at") numbers ≡ atText price p x
+shown-text price p x b e k = ap (lineText (bytes "  (at")) k ∙ ap (λ (c : Bool). lineText (bytes "  (at") (pointNumbers c p x)) (sym e)
 
 pub shown-wrote : (price : Price) (p : ℕ) (x : PointSheet) (b : Bool) {numbers : List ℕ} {at r : ℕ} {out out′ : List ℕ} → showsOnce price ≡ b
-    → numbers ≡ pointNumbers b p x → Wrote at (row (bytes "  (at") numbers) out r out′ → Wrote at (pointLine price p x) out r out′
-shown-wrote price p x b e k w = rw (← shown-row price p x b e k) w
+    → numbers ≡ pointNumbers b p x → Wrote at (lineText (bytes "  (at") numbers) out r out′ → Wrote at (atText price p x) out r out′
+shown-wrote price p x b e k w = rw (← shown-text price p x b e k) w
 
 -- start and each, by their tests
 pub start-counts : (start each : ℕ) → (start ≡ 0 → ⊥) → false ≡ countsBlocks start each
@@ -118,20 +118,20 @@ start-counts start each h = go (eqb start 0) refl
 pub each-counts : (start each : ℕ) → start ≡ 0 → eqb each 1 ≡ countsBlocks start each
 each-counts start each e = rw e refl
 
-pub func-row : (price : Price) (w : List ℕ) (h : Header) (f : ℕ) (r : FuncFigures) → r ≡ funcFigures price w h f
-    → row (bytes "  (func") (f ∷ r .frame ∷ r .shortest ∷ r .longest ∷ r .spill ∷ r .chain ∷ []) ≡ headPart price w h f .text
-unfolding funcRow funcFigures
-func-row price w h f r e = ap (λ (x : FuncFigures). row (bytes "  (func") (f ∷ x .frame ∷ x .shortest ∷ x .longest ∷ x .spill ∷ x .chain ∷ [])) e
+pub head-text : (price : Price) (w : List ℕ) (h : Header) (f : ℕ) (r : FuncFigures) → r ≡ funcFigures price w h f
+    → lineText (bytes "  (func") (f ∷ r .frame ∷ r .shortest ∷ r .longest ∷ r .spill ∷ r .chain ∷ []) ≡ headPart price w h f .text
+unfolding headText funcFigures
+head-text price w h f r e = ap (λ (x : FuncFigures). lineText (bytes "  (func") (f ∷ x .frame ∷ x .shortest ∷ x .longest ∷ x .spill ∷ x .chain ∷ [])) e
 
 -- the lines of a function: the one that opens it, and those of its points
 module _ (price : Price) (w : List ℕ) (h : Header) (f : ℕ) (l : f < h .funcs) where
   func-lines : funcPart price w h f .text ≡ headPart price w h f .text ++ pointsPart price w h f (sizeAt w f) .text
-  unfolding funcRows recordsIn
+  unfolding funcText recordsIn
   func-lines =
       let t = taskOf w h in
       ap
       (λ (r : List ℕ). headPart price w h f .text ++ r)
-      (joined-map (pointRow (showsOnce price)) (recordAt (sheetIn price w h) f) _ _ (λ p m. refl) ∙ ap (λ (n : ℕ). pointsPart price w h f n .text) (size-is w h f l))
+      (joined-map (pointText (showsOnce price)) (recordAt (sheetIn price w h) f) _ _ (λ p m. refl) ∙ ap (λ (n : ℕ). pointsPart price w h f n .text) (size-is w h f l))
 
   func-cost : funcPart price w h f .cost ≡ 0 + pointsPart price w h f (sizeAt w f) .cost
   func-cost =
@@ -181,9 +181,9 @@ module _ (price : Price) (w : List ℕ) (h : Header) where
       )
 
   -- the foot line, by the sum of the costs of all functions
-  pub foot-row : (n : ℕ) → n ≡ 0 + funcsPart price w h (h .funcs) .cost → row (bytes "  (total") (n ∷ []) ≡ footText price w h
-  unfolding totalRow
-  foot-row n e = ap (λ (m : ℕ). row (bytes "  (total") (m ∷ [])) (omega (arith, e, total-all))
+  pub foot-text : (n : ℕ) → n ≡ 0 + funcsPart price w h (h .funcs) .cost → lineText (bytes "  (total") (n ∷ []) ≡ footText price w h
+  unfolding totalText
+  foot-text n e = ap (λ (m : ℕ). lineText (bytes "  (total") (m ∷ [])) (omega (arith, e, total-all))
 
   -- the report, written line after line
   pub report-wrote : {e r y z : ℕ} {out o o′ o″ o‴ : List ℕ} → Wrote 0 (bytes "(report\n") out e o

@@ -11,7 +11,7 @@ use Rattle.model.specs.Limits.{mostStack, mostFuncs, mostPoints}
 use Rattle.model.specs.Text.{bytes}
 use Rattle.model.specs.Task.{func}
 use Rattle.model.specs.Figures as model
-use Rattle.model.specs.Sheet.{PointSheet, movePrice, onceOf, Record, recordAt, recordsOf, totalOf, pointRow, funcRow, totalRow}
+use Rattle.model.specs.Sheet.{PointSheet, movePrice, onceOf, Record, recordAt, recordsOf, totalOf, pointText, headText, totalText}
 use Rattle.theory.proofs.Lists.{and-holds, sum-most}
 use Rattle.theory.proofs.Prices.{moves-blocks}
 use Rattle.theory.proofs.Total.{records-count}
@@ -26,7 +26,7 @@ use Rattle.readout.specs.Readable.{Readable, InFunc}
 use Rattle.readout.proofs.Limits.{Low, figures-within, figures-low, spill-low, chain-low, records-low}
 use Rattle.readout.proofs.Read.{there, size-low}
 use Rattle.print.proofs.Laws.{none-length, next-length}
-use Rattle.print.proofs.Digits.{Within, taken, digits-row}
+use Rattle.print.proofs.Digits.{Within, taken, digits-line}
 use Rattle.report.specs.declared.Lines.{Lines}
 use Rattle.report.specs.Report.{Part, Sums, showsOnce, pointNumbers, pointPart, pointsPart, headPart, funcPart, funcsPart, footText, reportIn, Room, mostTotal}
 use Rattle.report.specs.Report.{mostPointText, mostHeadText, mostFootText, mostLength, mostReport}
@@ -71,18 +71,18 @@ once-digits p x m l =
 
 module _ {price : Price} {w : List ℕ} {h : Header} (k : Readable price w h) (f : ℕ) (l : f < h .funcs) where
   point-most : (p : ℕ) → p < sizeAt w f → length (pointPart price w h f p .text) ≤ mostPointText
-  unfolding pointRow taken
+  unfolding pointText taken
   point-most p m = go (showsOnce price) refl
     where
       few : p < mostPoints
       few = omega (arith, size-low (there k l refl))
 
-      go : (b : Bool) → showsOnce price ≡ b → length (pointRow b (recordAt (sheetIn price w h) f p)) ≤ mostPointText
+      go : (b : Bool) → showsOnce price ≡ b → length (pointText b (recordAt (sheetIn price w h) f p)) ≤ mostPointText
       go true e =
           let low = figures-within k f l mostStack (λ n i. omega (arith, price-blocks price (rw e tt) n)) p m in
-          omega (arith, digits-row (bytes "  (at") (pointNumbers true p (sheetIn price w h .at f p)) onceDigits (once-digits p _ few low))
+          omega (arith, digits-line (bytes "  (at") (pointNumbers true p (sheetIn price w h .at f p)) onceDigits (once-digits p _ few low))
       go false e =
-          omega (arith, digits-row (bytes "  (at") (pointNumbers false p (sheetIn price w h .at f p)) pointDigits (point-digits p _ few (figures-low k f l p m)))
+          omega (arith, digits-line (bytes "  (at") (pointNumbers false p (sheetIn price w h .at f p)) pointDigits (point-digits p _ few (figures-low k f l p m)))
 
   -- the first line of a function
   head-digits : Within (headNumbers price w h f) headDigits
@@ -100,8 +100,8 @@ module _ {price : Price} {w : List ℕ} {h : Header} (k : Readable price w h) (f
       )
 
   head-most : length (headPart price w h f .text) ≤ mostHeadText
-  unfolding funcRow taken
-  head-most = omega (arith, digits-row (bytes "  (func") (headNumbers price w h f) headDigits head-digits)
+  unfolding headText taken
+  head-most = omega (arith, digits-line (bytes "  (func") (headNumbers price w h f) headDigits head-digits)
 
   -- the lines of its first n points, and all its lines
   points-most : (n : ℕ) → n ≤ sizeAt w f → length (pointsPart price w h f n .text) ≤ mostPointText * n
@@ -146,10 +146,10 @@ module _ {price : Price} {w : List ℕ} {h : Header} (k : Readable price w h) wh
 
   -- the foot line
   foot-most : length (footText price w h) ≤ mostFootText
-  unfolding totalRow taken
+  unfolding totalText taken
   foot-most =
       let n = totalOf (recordsOf (taskOf w h) (sheetIn price w h)) in
-      omega (arith, digits-row (bytes "  (total") (n ∷ []) (10 ∷ []) (omega (arith, total-low)))
+      omega (arith, digits-line (bytes "  (total") (n ∷ []) (10 ∷ []) (omega (arith, total-low)))
 
   -- a report
   pub report-most : length (reportIn price w h) ≤ mostLength h

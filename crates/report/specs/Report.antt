@@ -7,7 +7,7 @@ use lib.ListN.{length}
 use Rattle.model.specs.Limits.{mostFuncs, mostInAll}
 use Rattle.model.specs.Basic.{joined, sumOf, upTo}
 use Rattle.model.specs.Text.{bytes}
-use Rattle.model.specs.Sheet.{PointSheet, countsBlocks, onceField, recordAt, recordsIn, recordsOf, totalOf, row, funcRow, pointRow, totalRow, funcRows, reportWith}
+use Rattle.model.specs.Sheet.{PointSheet, countsBlocks, onceField, recordAt, recordsIn, recordsOf, totalOf, lineText, headText, pointText, totalText, funcText, reportWith}
 use Rattle.tables.specs.declared.Header.{Header}
 use Rattle.prices.specs.declared.Price.{Price}
 use Rattle.prices.specs.Prices.{mostPrice}
@@ -33,8 +33,8 @@ pub record Sums (x : PointSheet) : Type 0 where
   pub chain : x .chain ≤ mostPrice * mostFuncs
 
 -- the line of point p with these figures, at this price
-abbrev pub pointLine : Price → ℕ → PointSheet → List ℕ
-pointLine price p x = row (bytes "  (at") (pointNumbers (showsOnce price) p x)
+abbrev pub atText : Price → ℕ → PointSheet → List ℕ
+atText price p x = lineText (bytes "  (at") (pointNumbers (showsOnce price) p x)
 
 -- ---- the parts of the report, of the task and the sheet in the working space w
 
@@ -52,24 +52,24 @@ firstParts part n = record { text = joined (λ i. part i .text) (upTo n); cost =
 
 -- the line of point p of function f, and those of its first n points
 abbrev pub pointPart : Price → List ℕ → Header → ℕ → ℕ → Part
-pointPart price w h f p = record { text = pointRow (showsOnce price) (recordAt (sheetIn price w h) f p); cost = sheetIn price w h .at f p .cost }
+pointPart price w h f p = record { text = pointText (showsOnce price) (recordAt (sheetIn price w h) f p); cost = sheetIn price w h .at f p .cost }
 
 abbrev pub pointsPart : Price → List ℕ → Header → ℕ → ℕ → Part
 pointsPart price w h f n = firstParts (pointPart price w h f) n
 
 -- the line that opens function f, all its lines, and those of the first n functions
 abbrev pub headPart : Price → List ℕ → Header → ℕ → Part
-headPart price w h f = record { text = funcRow (taskOf w h) (sheetIn price w h) f; cost = 0 }
+headPart price w h f = record { text = headText (taskOf w h) (sheetIn price w h) f; cost = 0 }
 
 abbrev pub funcPart : Price → List ℕ → Header → ℕ → Part
-funcPart price w h f = record { text = funcRows (showsOnce price) (taskOf w h) (sheetIn price w h) f; cost = totalOf (recordsIn (taskOf w h) (sheetIn price w h) f) }
+funcPart price w h f = record { text = funcText (showsOnce price) (taskOf w h) (sheetIn price w h) f; cost = totalOf (recordsIn (taskOf w h) (sheetIn price w h) f) }
 
 abbrev pub funcsPart : Price → List ℕ → Header → ℕ → Part
 funcsPart price w h n = firstParts (funcPart price w h) n
 
 -- the foot line
 abbrev pub footText : Price → List ℕ → Header → List ℕ
-footText price w h = totalRow (recordsOf (taskOf w h) (sheetIn price w h))
+footText price w h = totalText (recordsOf (taskOf w h) (sheetIn price w h))
 
 -- the whole report
 abbrev pub reportIn : Price → List ℕ → Header → List ℕ

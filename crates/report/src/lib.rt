@@ -6,11 +6,11 @@ ghost use lib.ListN.{length};
 ghost use Rattle.model.specs.Limits.{mostFuncs, mostPoints, mostInAll};
 ghost use Rattle.model.specs.Text.{bytes};
 ghost use mathlib.Core.Bool.{true, false};
-ghost use Rattle.model.specs.Sheet.{row, onceOf};
+ghost use Rattle.model.specs.Sheet.{lineText, onceOf};
 ghost use Rattle.model.specs.Services.{over};
 ghost use Rattle.readout.specs.Readable.{Readable, InFunc, figuredOf};
 ghost use Rattle.print.specs.Print.{Wrote};
-ghost use Rattle.report.specs.Report.{showsOnce, pointNumbers, pointLine, Sums, pointPart, pointsPart, headPart, funcPart, funcsPart, reportIn};
+ghost use Rattle.report.specs.Report.{showsOnce, pointNumbers, atText, Sums, pointPart, pointsPart, headPart, funcPart, funcsPart, reportIn};
 ghost use Rattle.report.specs.Report.{mostTotal, mostLength, mostReport, Room, Counts, Adds};
 use prices::Price;
 use readout::PointFigures;
@@ -112,23 +112,23 @@ fn once_numbers(p: usize, x: PointFigures) -> [u32; 11]
 // How many bytes the line of point p with these figures has.
 fn line_length(price: Price, p: usize, x: PointFigures) -> usize
     requires { ⌜ (p < mostPoints) × Sums (figuredOf x) ⌝ }
-    ensures { λ r. ⌜ r ≡ length (pointLine price p (figuredOf x)) ⌝ }
+    ensures { λ r. ⌜ r ≡ length (atText price p (figuredOf x)) ⌝ }
 {
     if shows_once(price) {
-        return print::row_length(b"  (at", &once_numbers(p, x));
+        return print::line_length(b"  (at", &once_numbers(p, x));
     }
-    print::row_length(b"  (at", &point_numbers(p, x))
+    print::line_length(b"  (at", &point_numbers(p, x))
 }
 
 // Writes it from byte at on, and returns where it ends.
 fn put_line(out: &mut [u8], at: usize, price: Price, p: usize, x: PointFigures) -> usize
-    requires { ⌜ (p < mostPoints) × Sums (figuredOf x) × (at + length (pointLine price p (figuredOf x)) ≤ length (now out)) ⌝ }
-    ensures { λ r. ⌜ Wrote at (pointLine price p (figuredOf x)) (now (out .entry)) r (now (out .exit)) ⌝ }
+    requires { ⌜ (p < mostPoints) × Sums (figuredOf x) × (at + length (atText price p (figuredOf x)) ≤ length (now out)) ⌝ }
+    ensures { λ r. ⌜ Wrote at (atText price p (figuredOf x)) (now (out .entry)) r (now (out .exit)) ⌝ }
 {
     if shows_once(price) {
-        return print::put_row(out, at, b"  (at", &once_numbers(p, x));
+        return print::put_line(out, at, b"  (at", &once_numbers(p, x));
     }
-    print::put_row(out, at, b"  (at", &point_numbers(p, x))
+    print::put_line(out, at, b"  (at", &point_numbers(p, x))
 }
 
 // Counts the line of point p of function f, which is s.
@@ -211,7 +211,7 @@ fn put_points(
 // The numbers of the line that opens function f.
 fn func_numbers(work: &[u32], h: Header, price: Price, f: usize) -> [u32; 6]
     requires { ⌜ Readable price (now work) h × (f < h .funcs) ⌝ }
-    ensures { λ r. ⌜ (row (bytes "  (func") r ≡ headPart price (now (work .entry)) h f .text) × (length r ≡ 6) ⌝ }
+    ensures { λ r. ⌜ (lineText (bytes "  (func") r ≡ headPart price (now (work .entry)) h f .text) × (length r ≡ 6) ⌝ }
 {
     let x = readout::func_figures(work, h, price, f);
     [f as u32, x.frame, x.shortest, x.longest, x.spill, x.chain]
@@ -223,7 +223,7 @@ fn count_func(lines: Lines, work: &[u32], h: Header, price: Price, f: usize) -> 
     ensures { λ r. ⌜ Counts lines (funcPart price (now (work .entry)) h f) r ⌝ }
 {
     let s = tables::span_at(work, f);
-    let length = print::row_length(b"  (func", &func_numbers(work, h, price, f));
+    let length = print::line_length(b"  (func", &func_numbers(work, h, price, f));
     let opened = and_line(lines, lines.end + length, 0);
     count_points(opened, work, h, price, f, s)
 }
@@ -234,7 +234,7 @@ fn put_func(out: &mut [u8], lines: Lines, work: &[u32], h: Header, price: Price,
     ensures { λ r. ⌜ Adds lines (funcPart price (now (work .entry)) h f) (now (out .entry)) r (now (out .exit)) ⌝ }
 {
     let s = tables::span_at(work, f);
-    let end = print::put_row(out, lines.end, b"  (func", &func_numbers(work, h, price, f));
+    let end = print::put_line(out, lines.end, b"  (func", &func_numbers(work, h, price, f));
     let opened = and_line(lines, end, 0);
     put_points(out, opened, work, h, price, f, s)
 }
@@ -289,7 +289,7 @@ pub fn report_length(work: &[u32], h: Header, price: Price) -> usize
         total: 0,
     };
     let lines = count_funcs(opened, work, h, price);
-    let foot = print::row_length(b"  (total", &[lines.total]);
+    let foot = print::line_length(b"  (total", &[lines.total]);
     lines.end + foot + b")\n".len()
 }
 
@@ -305,6 +305,6 @@ pub fn put_report(output: &mut [u8], work: &[u32], h: Header, price: Price) -> u
         total: 0,
     };
     let lines = put_funcs(output, opened, work, h, price);
-    let end = print::put_row(output, lines.end, b"  (total", &[lines.total]);
+    let end = print::put_line(output, lines.end, b"  (total", &[lines.total]);
     print::put(output, end, b")\n")
 }

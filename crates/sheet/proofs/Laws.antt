@@ -14,12 +14,12 @@ use Rattle.model.specs.declared.Verdict.the-variants.{Accepted, Refused}
 use Rattle.model.specs.declared.WriteResult.{WriteResult}
 use Rattle.model.specs.Limits.{workLength}
 use Rattle.model.specs.Task.{Judged, refused, task}
-use Rattle.model.specs.Sheet.{row}
+use Rattle.model.specs.Sheet.{lineText}
 use Rattle.model.specs.Refusal.{judged, withRows, judge, workRow, outputRows}
 use Rattle.model.specs.Services.{AfterWrite, over, cleared, writtenAs, writtenOf, reportOf, blocksReportOf}
 use Rattle.theory.proofs.Prices.{report-blocks}
 use Rattle.print.specs.Print.{Wrote}
-use Rattle.print.proofs.Laws.{row-most, pasted-start}
+use Rattle.print.proofs.Laws.{line-most, pasted-start}
 use Rattle.sheet.specs.Answer.{refusalLine, blocksReport, answered, answerOf, Answers, mostLine}
 
 -- a row of a word of eight bytes and two numbers of 32 bits
@@ -29,8 +29,8 @@ numbers-small a b h k zero = h
 numbers-small a b h k (suc zero) = k
 numbers-small a b h k (suc (suc i)) = omega arith
 
-pub row-fits : (w : List ℕ) (a b n : ℕ) → length w ≤ 8 → a < 2 ^ 32 → b < 2 ^ 32 → mostLine ≤ n → 0 + length (row w (a ∷ b ∷ [])) ≤ n
-row-fits w a b n l h k m = omega (arith, row-most w (a ∷ b ∷ []) (numbers-small a b h k))
+pub row-fits : (w : List ℕ) (a b n : ℕ) → length w ≤ 8 → a < 2 ^ 32 → b < 2 ^ 32 → mostLine ≤ n → 0 + length (lineText w (a ∷ b ∷ [])) ≤ n
+row-fits w a b n l h k m = omega (arith, line-most w (a ∷ b ∷ []) (numbers-small a b h k))
 
 -- bytes written over the front of a buffer that is long enough leave its length
 pub length-over : (l out : List ℕ) → length l ≤ length out → length (over l out) ≡ length out

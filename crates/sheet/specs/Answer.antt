@@ -8,13 +8,13 @@ use Rattle.model.specs.declared.Refusal.{Refusal}
 use Rattle.model.specs.Rows.{codeOf}
 use Rattle.model.specs.Text.{bytes}
 use Rattle.model.specs.Task.{Task, Judged, refused, task}
-use Rattle.model.specs.Sheet.{row, inBlocks, reportText}
+use Rattle.model.specs.Sheet.{lineText, inBlocks, reportText}
 use Rattle.model.specs.Refusal.{judge, workRow, outputRows}
 use Rattle.model.specs.Services.{over, cleared}
 
 -- the line of a refusal, `(refused CODE PLACE)`
 unfoldable pub refusalLine : Refusal → List ℕ
-refusalLine r = row (bytes "(refused") (codeOf (r .row) ∷ r .place ∷ [])
+refusalLine r = lineText (bytes "(refused") (codeOf (r .row) ∷ r .place ∷ [])
 
 -- the report of document 01, which counts blocks; so the lines of its points have once
 abbrev pub blocksReport : Task → List ℕ

@@ -71,7 +71,7 @@ fn put_refusal(output: &mut [u8], r: Refusal) -> usize
     ensures fits { λ n. ⌜ n ≤ length (now (output .exit)) ⌝ }
 {
     let row = r.row;
-    print::put_row(output, 0, b"(refused", &[codes::code_of(row), r.place])
+    print::put_line(output, 0, b"(refused", &[codes::code_of(row), r.place])
 }
 
 // Puts the report of the text, or the line of its refusal, at the front of the output, and returns its length.

@@ -51,7 +51,7 @@ pub fn put_caller(work: &mut [u32], n: usize, f: usize, p: usize)
 }
 
 // The last of n callers runs, and a task with none has finished.
-fn resumed(work: &[u32], n: usize, machine: Machine, moved: u64, allowed: u64) -> State
+fn caller_runs(work: &[u32], n: usize, machine: Machine, moved: u64, allowed: u64) -> State
     requires { ⌜ (framesEnd ≤ length (now work)) × (n ≤ mostFuncs) ⌝ }
     ensures { λ r. ⌜ (framesOf (now (work .entry)) r ≡ placesIn (now (work .entry)) n) × (r .machine ≡ machine) × (r .moved ≡ moved)
         × (r .allowed ≡ allowed) ⌝ }
@@ -152,6 +152,6 @@ pub fn return_step(work: &[u32], x: State, cache: &[u32], frame: u32) -> Turned
 {
     let machine = x.machine;
     let freed = machine.free(cache, frame);
-    let state = resumed(work, x.depth - 1, freed, x.moved, x.allowed);
+    let state = caller_runs(work, x.depth - 1, freed, x.moved, x.allowed);
     Turned { state, answer: 0 }
 }

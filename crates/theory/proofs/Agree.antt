@@ -12,8 +12,8 @@ use Rattle.model.specs.Text.{bytes}
 use Rattle.model.specs.Task.{Task, count, size, func, point}
 use Rattle.model.specs.Walk.{leads, called}
 use Rattle.model.specs.Core.{Core, effective, reserve, preempt, saveMoves, resumeMoves, filledWith}
-use Rattle.model.specs.Sheet.{PointSheet, Sheet, recordAt, recordsIn, recordsOf, funcRow, pointRow, totalRow, funcRows, reportWith}
-use Rattle.model.specs.Dearest.{dearRow, dearest, dearestWith}
+use Rattle.model.specs.Sheet.{PointSheet, Sheet, recordAt, recordsIn, recordsOf, headText, pointText, totalText, funcText, reportWith}
+use Rattle.model.specs.Dearest.{dearText, dearest, dearestWith}
 use Rattle.model.specs.Refusal.{eventRows}
 use Rattle.model.specs.Plain.{Event, Act, takes, preempted, act, Frame, running, afterEvent, mainFrames}
 use Rattle.model.specs.Run.{State, Turn, runningPlace, onwards, turn, orRan, ranFrom, ran, stepBound, eventBound, orBound, allowedFrom, allowed}
@@ -39,23 +39,23 @@ module _ {t : Task} {s r : Sheet} (a : Agree t s r) where
   unfolding recordsOf
   records-agree = joined-same (recordsIn t s) (recordsIn t r) (upTo (count t)) (λ f m. records-in f (mem-upTo (count t) .0 m))
 
-  rows-agree : (once : Bool) (f : ℕ) → f < count t → funcRows once t s f ≡ funcRows once t r f
-  unfolding funcRows funcRow
+  rows-agree : (once : Bool) (f : ℕ) → f < count t → funcText once t s f ≡ funcText once t r f
+  unfolding funcText headText
   rows-agree once f h =
-      let head : funcRow t s f ≡ funcRow t r f = rw (a .spill f h, a .chain f h) refl in
-      λ i. head i ++ joined (pointRow once) (records-in f h i)
+      let head : headText t s f ≡ headText t r f = rw (a .spill f h, a .chain f h) refl in
+      λ i. head i ++ joined (pointText once) (records-in f h i)
 
   -- the same report
   pub report-agree : (once : Bool) → reportWith once t s ≡ reportWith once t r
   unfolding reportWith
   report-agree once =
-      let lines = joined-same (funcRows once t s) (funcRows once t r) (upTo (count t)) (λ f m. rows-agree once f (mem-upTo (count t) .0 m)) in
-      λ i. bytes "(report\n" ++ (lines i ++ (totalRow (records-agree i) ++ bytes ")\n"))
+      let lines = joined-same (funcText once t s) (funcText once t r) (upTo (count t)) (λ f m. rows-agree once f (mem-upTo (count t) .0 m)) in
+      λ i. bytes "(report\n" ++ (lines i ++ (totalText (records-agree i) ++ bytes ")\n"))
 
   -- and the same list of the dearest points
   pub dearest-agree : dearestWith t s ≡ dearestWith t r
   unfolding dearestWith
-  dearest-agree = λ i. joined dearRow (dearest (records-agree i))
+  dearest-agree = λ i. joined dearText (dearest (records-agree i))
 
   -- the same turn at frames of the task
   turn-agree : (fs : List Frame) (c : Core) (e : Act) → Standing t fs

@@ -16,7 +16,7 @@ use Rattle.model.specs.Text.{bytes}
 use Rattle.model.specs.Task.{Task, count, without, Judged, task}
 use Rattle.model.specs.Core.{Core, idle}
 use Rattle.model.specs.Figures.{longest, longestTo}
-use Rattle.model.specs.Sheet.{Sheet, movePrice, countsBlocks, pricedSheet, decimal, row, Record, recordsOf, totalOf, totalRow, funcRows, reportWith, reportText}
+use Rattle.model.specs.Sheet.{Sheet, movePrice, countsBlocks, pricedSheet, decimal, lineText, Record, recordsOf, totalOf, totalText, funcText, reportWith, reportText}
 use Rattle.model.specs.Dearest.{dearestText}
 use Rattle.model.specs.Refusal.{workRow, pricedRows, outputRows, runRows, judged, judge, noRows, orTask, withRows}
 use Rattle.model.specs.Plain.{Event, eventsOf, plain}
@@ -78,18 +78,18 @@ unfolding opened
 empty-report once price = refl
 
 -- no report has fewer bytes
-total-least : (l : List Record) → 12 ≤ length (totalRow l)
-unfolding totalRow row joined
+total-least : (l : List Record) → 12 ≤ length (totalText l)
+unfolding totalText lineText joined
 total-least l = omega (arith, decimal-some (totalOf l), length-append (decimal (totalOf l) ++ []) (bytes ")\n"), length-append (decimal (totalOf l)) [])
 
 pub report-least : (once : Bool) (t : Task) (s : Sheet) → length emptyReport ≤ length (reportWith once t s)
 unfolding reportWith
 report-least once t s =
-    let foot = totalRow (recordsOf t s) in
+    let foot = totalText (recordsOf t s) in
     omega (
       arith,
       total-least (recordsOf t s),
-      length-append (joined (funcRows once t s) (upTo (count t))) (foot ++ bytes ")\n"),
+      length-append (joined (funcText once t s) (upTo (count t))) (foot ++ bytes ")\n"),
       length-append foot (bytes ")\n"),
     )
 

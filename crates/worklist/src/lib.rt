@@ -6,9 +6,9 @@ ghost use Rattle.tables.specs.Tables.{item};
 ghost use Rattle.worklist.specs.Worklist.{worklistOf, added, taken, Distinct, Absent, Ends};
 
 // The state of a point: no walk has come to it; one has; one has, and the point is in the worklist.
-pub struct State;
+pub struct Visit;
 
-impl State {
+impl Visit {
     pub const UNSEEN: u8 = 0;
 
     pub const SEEN: u8 = 1;
@@ -22,7 +22,7 @@ pub fn put(state: &mut [u8], points: &mut [u8], count: usize, q: usize) -> usize
     ensures { λ r. ⌜ (worklistOf (now (state .exit)) (now (points .exit)) r ≡ added q (worklistOf (now (state .entry)) (now (points .entry)) count))
         × Distinct (worklistOf (now (state .exit)) (now (points .exit)) r) ⌝ }
 {
-    state[q] = State::WAITING;
+    state[q] = Visit::WAITING;
     points[count] = q as u8;
     count + 1
 }
@@ -41,6 +41,6 @@ pub fn take(state: &mut [u8], points: &[u8], count: usize, p: usize) -> usize
     ensures { λ r. ⌜ (worklistOf (now (state .exit)) (now (points .entry)) r ≡ taken (worklistOf (now (state .entry)) (now (points .entry)) count))
         × Distinct (worklistOf (now (state .exit)) (now (points .entry)) r) ⌝ }
 {
-    state[p] = State::SEEN;
+    state[p] = Visit::SEEN;
     count - 1
 }

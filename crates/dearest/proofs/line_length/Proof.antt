@@ -10,7 +10,7 @@ use Rattle.dearest.proofs.line_length.Tie as tie
 returns : tie.Need-returns
 returns c =
     let start = c .before .before .before .before in
-    let e = c .row-length .ensures .0 ∙ ap length (c .before .before .rank-numbers .ensures .0) in
+    let e = c .line-length .ensures .0 ∙ ap length (c .before .before .rank-numbers .ensures .0) in
     (e, omega (arith, e, line-most (start .args .rank) (start .pre)))
 
 pub line-length-spec : {M : Type 1} → statement M

@@ -6,11 +6,11 @@ use borrow.Author.Needs.{needs}
 use Rattle.dearest.proofs.put_line.Statement.{statement}
 use Rattle.dearest.proofs.put_line.Tie as tie
 
-put-row-requires : tie.Need-put-row-requires
-put-row-requires c κs = omega (arith, ap length (c .before .rank-numbers .ensures .0))
+put-line-requires : tie.Need-put-line-requires
+put-line-requires c κs = omega (arith, ap length (c .before .rank-numbers .ensures .0))
 
 returns : tie.Need-returns
-returns c = rw (c .before .before .before .before .rank-numbers .ensures .0) at (c .before .before .put-row .ensures)
+returns c = rw (c .before .before .before .before .rank-numbers .ensures .0) at (c .before .before .put-line .ensures)
 
 pub put-line-spec : {M : Type 1} → statement M
 put-line-spec =
@@ -19,6 +19,6 @@ put-line-spec =
     (λ c. search needs)
     (λ c κs. search needs)
     (λ c. search needs)
-    put-row-requires
+    put-line-requires
     (λ c. search needs)
     returns)

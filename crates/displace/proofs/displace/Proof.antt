@@ -7,8 +7,8 @@ use Rattle.displace.proofs.Displaces.{ordered-few, ordered-calls, longe
 use Rattle.displace.proofs.displace.Statement.{statement}
 use Rattle.displace.proofs.displace.Tie as tie
 
-callee-bounds-requires : tie.Need-callee-bounds-requires
-callee-bounds-requires c κs =
+callee-range-requires : tie.Need-callee-range-requires
+callee-range-requires c κs =
     let a = c .before .before .before .before .pre in
     ordered-calls (a .0) (a .1) (c .before .span-at .ensures)
 
@@ -16,7 +16,7 @@ shortest-of-requires : tie.Need-shortest-of-requires
 shortest-of-requires c κs =
     let b = c .before .before .before .before .before in
     let a = b .before .before .before .before .before .pre in
-    (a .0, a .1, b .before .before .span-at .ensures, b .callee-bounds .ensures)
+    (a .0, a .1, b .before .before .span-at .ensures, b .callee-range .ensures)
 
 add-work : tie.Need-add-work
 add-work c =
@@ -24,7 +24,7 @@ add-work c =
     let a = b .before .before .before .before .before .pre in
     omega (
       arith,
-      longest-here (a .0) (a .1) (b .before .before .span-at .ensures) (b .callee-bounds .ensures),
+      longest-here (a .0) (a .1) (b .before .before .span-at .ensures) (b .callee-range .ensures),
       longest-low (a .0 .displacing .ready .settled .formed .shaped) (b .before .before .before .before .before .args .f),
     )
 
@@ -62,19 +62,19 @@ place-requires : tie.Need-place-requires
 place-requires c κs =
     let b = c .before .before .before .before .before .before .before .before .before in
     let a = b .before .before .before .before .before .pre in
-    let e = longest-here (a .0) (a .1) (b .before .before .span-at .ensures) (b .callee-bounds .ensures) in
+    let e = longest-here (a .0) (a .1) (b .before .before .span-at .ensures) (b .callee-range .ensures) in
     written-room (a .0) (a .1) _ _ e (c .before .before .before .shortest-of .ensures)
 
 returns : tie.Need-returns
 returns c =
     let b = c .before .before .before .before .before .before .before .before .before .before .before .before in
     let a = b .before .before .before .before .before .pre in
-    let e = longest-here (a .0) (a .1) (b .before .before .span-at .ensures) (b .callee-bounds .ensures) in
-    ordered-more (a .0) (a .1) _ _ e (c .before .before .before .before .before .before .shortest-of .ensures) (c .before .before .place .ensures)
+    let e = longest-here (a .0) (a .1) (b .before .before .span-at .ensures) (b .callee-range .ensures) in
+    ordered-more (a .0) (a .1) _ _ e (c .before .before .before .before .before .before .shortest-of .ensures) (c .before .before .insert .ensures)
 
 pub displace-spec : {M : Type 1} → statement M
 displace-spec =
     tie.close
     (tie.spec
-    (λ c κs. search needs) callee-bounds-requires shortest-of-requires add-work add-work-2 mul-work slice-write-work add-work-3 mul-work-2
+    (λ c κs. search needs) callee-range-requires shortest-of-requires add-work add-work-2 mul-work slice-write-work add-work-3 mul-work-2
     slice-write-work-2 place-requires (λ c. returns c .1 .size) returns)

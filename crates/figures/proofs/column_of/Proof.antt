@@ -1,4 +1,4 @@
--- Each arm is one place.
+-- Each arm is one index.
 use borrow.Author.Needs.{needs}
 use Rattle.figures.proofs.column_of.Statement.{statement}
 use Rattle.figures.proofs.column_of.Tie as tie

@@ -2,7 +2,7 @@
 use native.Mathlib.Omega.{arith}
 use borrow.Author.Needs.{needs}
 use Rattle.figures.proofs.Points.{turn-fits, turn-room}
-use Rattle.figures.proofs.Stages.{place-low, turn-of, worked-put}
+use Rattle.figures.proofs.Stages.{index-low, turn-of, worked-put}
 use Rattle.figures.proofs.write_figure.Statement.{statement}
 use Rattle.figures.proofs.write_figure.Tie as tie
 
@@ -10,14 +10,14 @@ add-put-column : tie.Need-add-put-column
 add-put-column c =
     let c10 = c .before .before .before .before .before .before .before .before .before .before in
     let i = turn-fits (turn-of (c10 .before .before .before .pre) (c10 .span-at .ensures)) in
-    omega (arith, c .column-of .ensures, place-low (c10 .before .before .before .args .which), i .lies .within)
+    omega (arith, c .column-of .ensures, index-low (c10 .before .before .before .args .which), i .lies .within)
 
 put-column-requires : tie.Need-put-column-requires
 put-column-requires c κs =
     let c10 = c .before .before .before .before .before .before .before .before .before .before in
     let a = turn-of (c10 .before .before .before .before .before .pre) (c10 .before .before .span-at .ensures) in
     let n = c .before .before .column-of .ensures in
-    let low = place-low (c10 .before .before .before .before .before .args .which) in
+    let low = index-low (c10 .before .before .before .before .before .args .which) in
     (omega (arith, n, low, turn-fits a .lies .within, a .begun .worked .ready .room), turn-room a (omega arith))
 
 returns : tie.Need-returns

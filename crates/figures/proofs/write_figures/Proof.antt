@@ -11,15 +11,15 @@ use Rattle.figures.proofs.write_figures.Statement.{statement}
 use Rattle.figures.proofs.write_figures.Tie as tie
 
 abbrev Inv-loop : tie.InvT-loop
-Inv-loop work₀ h f values₀ gens₀ kills₀ sets₀ state₀ out₀ place₀ work values gens kills sets state out place =
-    (place ≤ pointColumns) × Working work h f place × OnlyPoints work₀ work
+Inv-loop work₀ h f values₀ gens₀ kills₀ sets₀ state₀ out₀ index₀ work values gens kills sets state out index =
+    (index ≤ pointColumns) × Working work h f index × OnlyPoints work₀ work
 
 abbrev μ-loop : tie.MeasureT-loop
-μ-loop work₀ h f values₀ gens₀ kills₀ sets₀ state₀ out₀ place₀ work values gens kills sets state out place = place
+μ-loop work₀ h f values₀ gens₀ kills₀ sets₀ state₀ out₀ index₀ work values gens kills sets state out index = index
 
 -- the figure of the turn is the one before those that are written
-at-place : {place q : ℕ} → 0 < place → place ≤ pointColumns → (place - 1 < pointColumns → q ≡ place - 1) → suc q ≡ place
-at-place h l e = omega (arith, e (omega arith))
+at-index : {index q : ℕ} → 0 < index → index ≤ pointColumns → (index - 1 < pointColumns → q ≡ index - 1) → suc q ≡ index
+at-index h l e = omega (arith, e (omega arith))
 
 working-at : {w : List ℕ} {h : Header} {f n m : ℕ} → n ≡ m → Working w h f n → Working w h f m
 working-at {w} {h} {f} e k = subst (λ (i : ℕ). Working w h f i) e k
@@ -27,7 +27,7 @@ working-at {w} {h} {f} e k = subst (λ (i : ℕ). Working w h f i) e k
 write-figure-requires : tie.Need-write-figure-requires Inv-loop μ-loop
 write-figure-requires c κs =
     let l = c .before .before .before .before .before .before .before .before .before .loop in
-    let e = at-place (omega (arith, c .before .before .before .before .before .before .before .before .loop-test .taken)) (l .inv .0)
+    let e = at-index (omega (arith, c .before .before .before .before .before .before .before .before .loop-test .taken)) (l .inv .0)
     (c .before .before .before .before .before .before .before .figure-in .ensures) in
     working-at (sym e) (l .inv .1)
 
@@ -35,14 +35,14 @@ loop-again : tie.Need-loop-again Inv-loop μ-loop
 loop-again c =
     let c10 = c .before .before .before .before .before .before .before .before .before .before in
     let l = c10 .before .before .loop in
-    let e = at-place (omega (arith, c10 .before .loop-test .taken)) (l .inv .0) (c10 .figure-in .ensures) in
+    let e = at-index (omega (arith, c10 .before .loop-test .taken)) (l .inv .0) (c10 .figure-in .ensures) in
     let d = c .before .before .write-figure .ensures in
     (omega (arith, l .inv .0), working-at (omega (arith, e)) (d .0), changed-on (l .inv .2) (d .1))
 
 returns : tie.Need-returns Inv-loop μ-loop
 returns c =
     let l = c .before .loop in
-    let e : l .place ≡ 0 = omega arith in
+    let e : l .index ≡ 0 = omega arith in
     (working-at e (l .inv .1), l .inv .2)
 
 pub write-figures-spec : {M : Type 1} → statement M

@@ -13,7 +13,7 @@ returns c =
     let start = c .before .before .before .before .before .before .before .before .before in
     let a = start .args in
     let k = there (start .pre .0) (start .pre .1) (c .before .before .before .before .before .before .before .span-at .ensures) in
-    let own = c .before .before .before .row-length .ensures .0 ∙ ap length (c .before .before .before .before .before .func-numbers .ensures .0) in
+    let own = c .before .before .before .line-length .ensures .0 ∙ ap length (c .before .before .before .before .before .func-numbers .ensures .0) in
     let head = line-counted (headPart (a .price) (a .work .now) (a .h) (a .f)) refl own (c .before .and-line .ensures) in
     rw (opened-func k) (counts-both head (c .count-points .ensures))
 
@@ -22,7 +22,7 @@ count-points-requires c κs =
     let start = c .before .before .before .before .before .before .before .before in
     let a = start .args in
     let k = there (start .pre .0) (start .pre .1) (c .before .before .before .before .before .before .span-at .ensures) in
-    let own = c .before .before .row-length .ensures .0 ∙ ap length (c .before .before .before .before .func-numbers .ensures .0) in
+    let own = c .before .before .line-length .ensures .0 ∙ ap length (c .before .before .before .before .func-numbers .ensures .0) in
     let part = headPart (a .price) (a .work .now) (a .h) (a .f) in
     let points = pointsPart (a .price) (a .work .now) (a .h) (a .f) (c .before .before .before .before .before .before .span-at .result .size) in
     (k, room-second part points (rw (opened-func k) at (start .pre .2)) (line-counted part refl own (c .and-line .ensures)))

@@ -6,7 +6,7 @@ use Rattle.model.specs.Sheet.{PointSheet}
 use Rattle.readout.proofs.Read.{size-low}
 use Rattle.report.specs.Report.{pointPart}
 use Rattle.report.proofs.Limits.{sums-read}
-use Rattle.report.proofs.Laws.{point-row, line-counted}
+use Rattle.report.proofs.Laws.{point-text, line-counted}
 use borrow.Author.Needs.{needs}
 use Rattle.report.proofs.count_point.Statement.{statement}
 use Rattle.report.proofs.count_point.Tie as tie
@@ -19,7 +19,7 @@ add-and-line : tie.Need-add-and-line
 add-and-line c =
     let s = c .before .before .before .before in
     let figures = c .before .before .point-figures .ensures in
-    omega (arith, c .before .line-length .ensures, ap length (point-row (s .args .price) (s .args .f) (s .args .p) figures), s .pre .2 .bytes)
+    omega (arith, c .before .line-length .ensures, ap length (point-text (s .args .price) (s .args .f) (s .args .p) figures), s .pre .2 .bytes)
 
 and-line-requires : tie.Need-and-line-requires
 and-line-requires c κs =
@@ -33,7 +33,7 @@ returns c =
     line-counted
     (pointPart (a .price) (a .work .now) (a .h) (a .f) (a .p))
     (ap (λ (x : PointSheet). x .cost) figures)
-    (c .before .before .line-length .ensures ∙ ap length (point-row (a .price) (a .f) (a .p) figures))
+    (c .before .before .line-length .ensures ∙ ap length (point-text (a .price) (a .f) (a .p) figures))
     (c .and-line .ensures)
 
 pub count-point-spec : {M : Type 1} → statement M

@@ -18,11 +18,11 @@ returns c =
     let k = there (start .pre .0) (start .pre .1) span in
     let part = headPart (a .price) (a .work .now) (a .h) (a .f) in
     let own = row .before .before .func-numbers .ensures .0 in
-    let head = line-added part refl own (row .put-row .ensures) (c .before .before .before .before .and-line .ensures) in
+    let head = line-added part refl own (row .put-line .ensures) (c .before .before .before .before .and-line .ensures) in
     rw (opened-func k) (adds-both (room-start (start .pre .2)) head (c .before .before .put-points .ensures))
 
-put-row-requires : tie.Need-put-row-requires
-put-row-requires c κs =
+put-line-requires : tie.Need-put-line-requires
+put-line-requires c κs =
     let span = c .before .before .before .before .span-at in
     let start = c .before .before .before .before .before .before .before in
     let a = start .args in
@@ -42,7 +42,7 @@ put-points-requires c κs =
     let part = headPart (a .price) (a .work .now) (a .h) (a .f) in
     let points = pointsPart (a .price) (a .work .now) (a .h) (a .f) (span .result .size) in
     let own = row .before .before .func-numbers .ensures .0 in
-    let head = line-added part refl own (row .put-row .ensures) (c .before .and-line .ensures) in
+    let head = line-added part refl own (row .put-line .ensures) (c .before .and-line .ensures) in
     let room = room-second part points (rw (opened-func k) at (start .pre .2)) (adds-counts head) in
     (k, record { bytes = omega (arith, room .bytes); sum = room .sum })
 
@@ -54,7 +54,7 @@ put-func-spec =
     (λ c. search needs)
     (λ c κs. search needs)
     (λ c. search needs)
-    put-row-requires
+    put-line-requires
     (λ c κs. search needs)
     put-points-requires
     (λ c. search needs)

@@ -4,18 +4,18 @@ use mathlib.Core.Bool.{true, false}
 use mathlib.Core.Path.{ap, sym, _∙_}
 use lib.ListN.{length}
 use Rattle.readout.specs.Readable.{figuredOf}
-use Rattle.report.proofs.Laws.{shown-row, shown-wrote}
+use Rattle.report.proofs.Laws.{shown-text, shown-wrote}
 use borrow.Author.Needs.{needs}
 use Rattle.report.proofs.put_line.Statement.{statement}
 use Rattle.report.proofs.put_line.Tie as tie
 
-put-row-requires : tie.Need-put-row-requires
-put-row-requires c κs =
+put-line-requires : tie.Need-put-line-requires
+put-line-requires c κs =
     let s = c .before .before .before .before .before in
     let a = s .before .before .args in
     omega (
       arith,
-      ap length (shown-row (a .price) (a .p) (figuredOf (a .x)) true (sym (s .shows-once .ensures) ∙ c .before .before .before .before .if1 .taken) (c .before .once-numbers .ensures)),
+      ap length (shown-text (a .price) (a .p) (figuredOf (a .x)) true (sym (s .shows-once .ensures) ∙ c .before .before .before .before .if1 .taken) (c .before .once-numbers .ensures)),
       s .before .before .pre .2,
     )
 
@@ -26,15 +26,15 @@ returns c =
     shown-wrote (a .price) (a .p) (figuredOf (a .x)) true
     (sym (s .shows-once .ensures) ∙ c .before .before .before .before .before .before .before .if1 .taken)
     (c .before .before .before .before .once-numbers .ensures)
-    (c .before .before .put-row .ensures)
+    (c .before .before .put-line .ensures)
 
-put-row-requires-2 : tie.Need-put-row-requires-2
-put-row-requires-2 c κs =
+put-line-requires-2 : tie.Need-put-line-requires-2
+put-line-requires-2 c κs =
     let s = c .before .before .before .before .before in
     let a = s .before .before .args in
     omega (
       arith,
-      ap length (shown-row (a .price) (a .p) (figuredOf (a .x)) false (sym (s .shows-once .ensures) ∙ c .before .before .before .before .if1 .left) (c .before .point-numbers .ensures)),
+      ap length (shown-text (a .price) (a .p) (figuredOf (a .x)) false (sym (s .shows-once .ensures) ∙ c .before .before .before .before .if1 .left) (c .before .point-numbers .ensures)),
       s .before .before .pre .2,
     )
 
@@ -45,7 +45,7 @@ returns-2 c =
     shown-wrote (a .price) (a .p) (figuredOf (a .x)) false
     (sym (s .shows-once .ensures) ∙ c .before .before .before .before .before .before .before .if1 .left)
     (c .before .before .before .before .point-numbers .ensures)
-    (c .before .before .put-row2 .ensures)
+    (c .before .before .put-line2 .ensures)
 
 pub put-line-spec : {M : Type 1} → statement M
 put-line-spec =
@@ -55,12 +55,12 @@ put-line-spec =
     (λ c. search needs)
     (λ c κs. search needs)
     (λ c. search needs)
-    put-row-requires
+    put-line-requires
     (λ c. search needs)
     returns
     (λ c. search needs)
     (λ c κs. search needs)
     (λ c. search needs)
-    put-row-requires-2
+    put-line-requires-2
     (λ c. search needs)
     returns-2)

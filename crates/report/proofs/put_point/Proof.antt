@@ -6,7 +6,7 @@ use Rattle.model.specs.Sheet.{PointSheet}
 use Rattle.readout.proofs.Read.{size-low}
 use Rattle.report.specs.Report.{pointPart}
 use Rattle.report.proofs.Limits.{sums-read}
-use Rattle.report.proofs.Laws.{point-row, line-added}
+use Rattle.report.proofs.Laws.{point-text, line-added}
 use borrow.Author.Needs.{needs}
 use Rattle.report.proofs.put_point.Statement.{statement}
 use Rattle.report.proofs.put_point.Tie as tie
@@ -17,7 +17,7 @@ put-line-requires c κs =
     let figures = c .before .point-figures .ensures in (
       omega (arith, size-low (s .pre .0)),
       sums-read (s .pre .0) (s .args .p) (s .pre .1) figures,
-      omega (arith, ap length (point-row (s .args .price) (s .args .f) (s .args .p) figures), s .pre .2 .bytes),
+      omega (arith, ap length (point-text (s .args .price) (s .args .f) (s .args .p) figures), s .pre .2 .bytes),
     )
 
 and-line-requires : tie.Need-and-line-requires
@@ -32,7 +32,7 @@ returns c =
     line-added
     (pointPart (a .price) (a .work .now) (a .h) (a .f) (a .p))
     (ap (λ (x : PointSheet). x .cost) figures)
-    (point-row (a .price) (a .f) (a .p) figures)
+    (point-text (a .price) (a .f) (a .p) figures)
     (c .before .before .before .put-line .ensures)
     (c .and-line .ensures)
 

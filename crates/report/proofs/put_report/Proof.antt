@@ -2,7 +2,7 @@
 use native.Mathlib.Omega.{arith}
 use mathlib.Core.Path.{refl, ap}
 use lib.ListN.{length}
-use Rattle.report.proofs.Laws.{report-size, foot-row, report-wrote}
+use Rattle.report.proofs.Laws.{report-size, foot-text, report-wrote}
 use Rattle.report.proofs.Limits.{funcs-room}
 use borrow.Author.Needs.{needs}
 use Rattle.report.proofs.put_report.Statement.{statement}
@@ -16,11 +16,11 @@ put-funcs-requires c κs =
     let start = c .before .before .before .before .before .before .before .before in
     (start .pre .0, funcs-room (start .pre .0) _ _ (omega (arith, start .pre .1)) (c .before .before .before .put .ensures .end) refl)
 
-put-row-requires : tie.Need-put-row-requires
-put-row-requires c κs =
+put-line-requires : tie.Need-put-line-requires
+put-line-requires c κs =
     let a = c .before .before .before .before .before .before .before .before .before .before .before .before .before .before .args in
     let funcs = c .before .before .before .before .before .put-funcs .ensures in
-    let foot = ap length (foot-row (a .price) (a .work .now) (a .h) _ (funcs .total)) in
+    let foot = ap length (foot-text (a .price) (a .work .now) (a .h) _ (funcs .total)) in
     omega (arith, foot, funcs .wrote .end, report-size (a .price) (a .work .now) (a .h))
 
 put-requires-2 : tie.Need-put-requires-2
@@ -28,8 +28,8 @@ put-requires-2 c κs =
     let after = c .before .before .before .before .before .before .before .before .before .before in
     let a = after .before .before .before .before .before .before .before .before .before .args in
     let funcs = after .put-funcs .ensures in
-    let foot = ap length (foot-row (a .price) (a .work .now) (a .h) _ (funcs .total)) in
-    omega (arith, foot, funcs .wrote .end, c .before .before .before .before .put-row .ensures .end, report-size (a .price) (a .work .now) (a .h))
+    let foot = ap length (foot-text (a .price) (a .work .now) (a .h) _ (funcs .total)) in
+    omega (arith, foot, funcs .wrote .end, c .before .before .before .before .put-line .ensures .end, report-size (a .price) (a .work .now) (a .h))
 
 returns : tie.Need-returns
 returns c =
@@ -37,8 +37,8 @@ returns c =
     let funcs = after .put-funcs .ensures in
     let first = after .before .before .before .before in
     let a = first .before .before .before .before .before .args in
-    let row = c .before .before .before .before .before .before .before .put-row .ensures in
-    let foot = rw (foot-row (a .price) (a .work .now) (a .h) _ (funcs .total)) at row in
+    let row = c .before .before .before .before .before .before .before .put-line .ensures in
+    let foot = rw (foot-text (a .price) (a .work .now) (a .h) _ (funcs .total)) at row in
     report-wrote (a .price) (a .work .now) (a .h) (first .put .ensures) (funcs .wrote) foot (c .before .before .put2 .ensures)
 
 pub put-report-spec : {M : Type 1} → statement M
@@ -50,7 +50,7 @@ put-report-spec =
     put-funcs-requires
     (λ c. search needs)
     (λ c. search needs)
-    put-row-requires
+    put-line-requires
     (λ c. search needs)
     put-requires-2
     (λ c. search needs)

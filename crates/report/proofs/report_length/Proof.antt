@@ -3,7 +3,7 @@ use native.Mathlib.Omega.{arith}
 use mathlib.Core.Path.{refl, ap, _∙_}
 use lib.ListN.{length}
 use Rattle.report.specs.Report.{mostReport}
-use Rattle.report.proofs.Laws.{report-size, foot-row}
+use Rattle.report.proofs.Laws.{report-size, foot-text}
 use Rattle.report.proofs.Limits.{report-small, funcs-room}
 use borrow.Author.Needs.{needs}
 use Rattle.report.proofs.report_length.Statement.{statement}
@@ -14,7 +14,7 @@ returns c =
     let start = c .before .before .before .before .before .before .before .before in
     let a = start .args in
     let lines = c .before .before .before .before .before .count-funcs .ensures in
-    let foot = c .before .before .row-length .ensures .0 ∙ ap length (foot-row (a .price) (a .work .now) (a .h) _ (lines .total)) in
+    let foot = c .before .before .line-length .ensures .0 ∙ ap length (foot-text (a .price) (a .work .now) (a .h) _ (lines .total)) in
     let size = report-size (a .price) (a .work .now) (a .h) in
     (omega (arith, size, foot, lines .end), omega (arith, size, foot, lines .end, report-small (start .pre)))
 
@@ -28,14 +28,14 @@ add-result c =
     let start = c .before .before .before .before .before .before .before in
     let a = start .args in
     let lines = c .before .before .before .before .count-funcs .ensures in
-    omega (arith, lines .end, report-size (a .price) (a .work .now) (a .h), report-small (start .pre), c .before .row-length .ensures .1)
+    omega (arith, lines .end, report-size (a .price) (a .work .now) (a .h), report-small (start .pre), c .before .line-length .ensures .1)
 
 add-result-2 : tie.Need-add-result-2
 add-result-2 c =
     let start = c .before .before .before .before .before .before .before .before in
     let a = start .args in
     let lines = c .before .before .before .before .before .count-funcs .ensures in
-    omega (arith, lines .end, report-size (a .price) (a .work .now) (a .h), report-small (start .pre), c .before .before .row-length .ensures .1)
+    omega (arith, lines .end, report-size (a .price) (a .work .now) (a .h), report-small (start .pre), c .before .before .line-length .ensures .1)
 
 pub report-length-spec : {M : Type 1} → statement M
 report-length-spec =

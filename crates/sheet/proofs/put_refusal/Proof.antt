@@ -17,5 +17,5 @@ put-refusal-spec =
     (λ c κs. row-fits _ _ _ _ (omega arith) (omega arith) (omega arith) (omega arith))
     (λ c. search needs)
     (λ c.
-    let p = c .before .before .put-row .ensures in
+    let p = c .before .before .put-line .ensures in
     (rw (c .before .before .before .before .code-of .ensures) at p, rw (p .end) (row-fits _ _ _ _ (omega arith) (omega arith) (omega arith) (omega arith)))))

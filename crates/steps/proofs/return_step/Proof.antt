@@ -10,7 +10,7 @@ use Rattle.steps.proofs.return_step.Tie as tie
 
 returns : tie.Need-returns
 returns c =
-    let r = c .resumed .ensures in
+    let r = c .caller-runs .ensures in
     let f = c .before .before .free .ensures in
     let start = c .before .before .before .before .before .before in
     let x = start .args .x in

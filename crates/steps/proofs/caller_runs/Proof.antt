@@ -2,11 +2,11 @@
 use mathlib.Core.Path.{refl}
 use borrow.Author.Needs.{needs}
 use Rattle.steps.proofs.Laws.{callers-none, caller-runs}
-use Rattle.steps.proofs.resumed.Statement.{statement}
-use Rattle.steps.proofs.resumed.Tie as tie
+use Rattle.steps.proofs.caller_runs.Statement.{statement}
+use Rattle.steps.proofs.caller_runs.Tie as tie
 
-pub resumed-spec : {M : Type 1} → statement M
-resumed-spec =
+pub caller-runs-spec : {M : Type 1} → statement M
+caller-runs-spec =
     tie.close
     (tie.spec
     (λ c. (callers-none _ _ (c .if1 .taken), refl, refl, refl))

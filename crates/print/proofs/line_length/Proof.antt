@@ -1,4 +1,4 @@
--- `print::row_length` meets its contract. The loop's invariant: n has the word, the end and the first k numbers.
+-- `print::line_length` meets its contract. The loop's invariant: n has the word, the end and the first k numbers.
 use Prim.Native.Nat.{_+_, _-_, _≤_}
 use mathlib.Core.Path.{_≡_}
 use native.Mathlib.Omega.{arith}
@@ -6,9 +6,9 @@ use borrow.Author.Needs.{needs}
 use lib.ListN.{length, take}
 use lib.Seq.{take-all}
 use Rattle.print.specs.Print.{spaced}
-use Rattle.print.proofs.Laws.{length-none, length-next, length-room, length-row, spaced-most, row-most}
-use Rattle.print.proofs.row_length.Statement.{statement}
-use Rattle.print.proofs.row_length.Tie as tie
+use Rattle.print.proofs.Laws.{length-none, length-next, length-room, length-line, spaced-most, line-most}
+use Rattle.print.proofs.line_length.Statement.{statement}
+use Rattle.print.proofs.line_length.Tie as tie
 
 abbrev Inv-loop : tie.InvT-loop
 Inv-loop word numbers n₀ k₀ n k = (k ≤ length numbers) × (n ≡ length word + 2 + length (spaced (take k numbers)))
@@ -63,11 +63,11 @@ returns c =
     let l = c .before .loop in
     let a = c .before .before .before .before .args in
     let n = rw (take-all (l .k) (a .numbers .now) (omega arith)) at (l .inv .1) in
-    let most = row-most (a .word .now) (a .numbers .now) (λ k. (c .before .before .shared-slice-known2 .given k) .fits) in
-    omega (arith, length-row (a .word .now) (a .numbers .now))
+    let most = line-most (a .word .now) (a .numbers .now) (λ k. (c .before .before .shared-slice-known2 .given k) .fits) in
+    omega (arith, length-line (a .word .now) (a .numbers .now))
 
-pub row-length-spec : {M : Type 1} → statement M
-row-length-spec =
+pub line-length-spec : {M : Type 1} → statement M
+line-length-spec =
     tie.close
     (tie.spec
     Inv-loop

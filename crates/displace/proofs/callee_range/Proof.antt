@@ -3,8 +3,8 @@ use Prim.Native.Nat.{_-_, _≤_}
 use native.Mathlib.Omega.{arith}
 use borrow.Author.Needs.{needs}
 use Rattle.displace.proofs.Callees.{Seen, seen-none, seen-call, seen-other, seen-all}
-use Rattle.displace.proofs.callee_bounds.Statement.{statement}
-use Rattle.displace.proofs.callee_bounds.Tie as tie
+use Rattle.displace.proofs.callee_range.Statement.{statement}
+use Rattle.displace.proofs.callee_range.Tie as tie
 
 abbrev Inv-loop : tie.InvT-loop
 Inv-loop work s most₀ least₀ some₀ p₀ most least some p =
@@ -33,8 +33,8 @@ loop-again-2 c =
           (omega arith)) (c .before .callee-at .ensures) (omega arith) (l .inv .1),
     )
 
-pub callee-bounds-spec : {M : Type 1} → statement M
-callee-bounds-spec =
+pub callee-range-spec : {M : Type 1} → statement M
+callee-range-spec =
     tie.close
     (tie.spec
     Inv-loop μ-loop (λ c. (omega arith, seen-none _ _)) (λ c. omega arith) (λ c κs. search needs) (λ c. omega arith) (λ c. omega arith)
