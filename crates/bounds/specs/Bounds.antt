@@ -1,26 +1,12 @@
--- What the sheet allows at each event of a run, in columns behind those of the figures; the code has each place as a constant of Bounds.
+-- What the sheet allows at each event of a run, in columns behind those of the figures. Layout of the crate tables says where each begins.
 use Prim.Native.Nat.{ℕ, _-_}
 use mathlib.Core.List.{List}
 use Rattle.tables.specs.declared.Header.{Header}
+pub use Rattle.tables.specs.Layout.{costBounds, fillBounds, spillBounds, boundsEnd}
 use Rattle.prices.specs.declared.Price.{Price}
 use Rattle.columns.specs.Columns.{columnsEnd, Points, Funcs, Changed}
 use Rattle.readout.specs.Sheet.{sheetIn}
 use Rattle.readout.specs.Readable.{Readable}
-
--- of each point, counted over all functions: the cost of a preemption and the fill of an ensure
-abbrev pub costBounds : ℕ
-costBounds = columnsEnd
-
-abbrev pub fillBounds : ℕ
-fillBounds = 9728
-
--- of each function: the spill of a call
-abbrev pub spillBounds : ℕ
-spillBounds = 10752
-
--- the numbers that the tables and all columns take, these too
-abbrev pub boundsEnd : ℕ
-boundsEnd = 10816
 
 -- the columns of figures can be read, and those behind them have what the sheet in them allows in the functions below n
 pub record BoundedTo (price : Price) (w : List ℕ) (h : Header) (n : ℕ) : Type 0 where

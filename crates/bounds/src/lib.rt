@@ -8,24 +8,11 @@ ghost use Rattle.problems.specs.Problems.{Filled};
 ghost use Rattle.readout.specs.Sheet.{sheetIn};
 ghost use Rattle.readout.specs.Readable.{Readable};
 ghost use Rattle.bounds.specs.Bounds.{Bounded, BoundedTo, OnlyBounds};
-use columns::Columns;
 use model::Limits;
 use prices::Price;
+pub use tables::Bounds;
 use tables::Header;
 use tables::Span;
-
-// Where each column begins, behind those of the figures: of each point, counted over all functions, and of each function.
-pub struct Bounds;
-
-impl Bounds {
-    pub const COST: usize = Columns::END;
-
-    pub const FILL: usize = 9728;
-
-    pub const SPILL: usize = 10752;
-    // The numbers that the tables and all columns take, these too.
-    pub const END: usize = 10816;
-}
 
 // The cost and the fill of each point of function f, which is s.
 fn point_bounds(

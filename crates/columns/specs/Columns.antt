@@ -1,47 +1,11 @@
--- Where each column of figures begins in the working space, behind the tables; the code has each place as a constant of Columns. And what a
--- column has.
+-- What a column of figures has. Layout of the crate tables says where each begins.
 use Prim.Native.Nat.{ℕ, _+_, _-_, _≤_, _<_}
 use mathlib.Core.List.{List}
 use mathlib.Core.Path.{_≡_}
 use lib.ListN.{length}
 use Rattle.tables.specs.Tables.{item, baseAt, sizeAt}
-
--- of each point, counted over all functions: high, dead, need, q and fill
-abbrev pub highColumn : ℕ
-highColumn = 3264
-
-abbrev pub deadColumn : ℕ
-deadColumn = 4288
-
-abbrev pub needColumn : ℕ
-needColumn = 5312
-
-abbrev pub nextColumn : ℕ
-nextColumn = 6336
-
-abbrev pub fillColumn : ℕ
-fillColumn = 7360
-
--- of each function: D, d, E and the chain
-abbrev pub longestColumn : ℕ
-longestColumn = 8384
-
-abbrev pub shortestColumn : ℕ
-shortestColumn = 8448
-
-abbrev pub entryColumn : ℕ
-entryColumn = 8512
-
-abbrev pub chainColumn : ℕ
-chainColumn = 8576
-
--- the level of a function: its place by d among the functions from it on
-abbrev pub levelColumn : ℕ
-levelColumn = 8640
-
--- the numbers that the tables and all columns take
-abbrev pub columnsEnd : ℕ
-columnsEnd = 8704
+pub use Rattle.tables.specs.Layout.{highColumn, deadColumn, needColumn, nextColumn, fillColumn, longestColumn, shortestColumn, entryColumn, chainColumn}
+pub use Rattle.tables.specs.Layout.{levelColumn, columnsEnd}
 
 -- the column at a has a figure for each point of the functions below n
 pub record Points (figure : ℕ → ℕ → ℕ) (a n : ℕ) (w : List ℕ) : Type 0 where

@@ -1,4 +1,4 @@
-// The columns of figures behind the tables: where each begins, the numbers that the points of a function are given from the tables and the columns,
+// The columns of figures behind the tables: the numbers that the points of a function are given from the tables and the columns,
 // and the writes into one column.
 ghost use mathlib.Core.Path.{_≡_};
 ghost use Prim.Native.Nat.{_+_, _<_, _≤_};
@@ -13,37 +13,9 @@ ghost use Rattle.columns.specs.Values.{mostChain, calleeAt, ensureAt, fi
 ghost use Rattle.columns.specs.Values.{Put, Raised};
 use model::Limits;
 use prices::Price;
+pub use tables::Columns;
 use tables::Header;
 use tables::Span;
-
-// Where each column begins: of each point, counted over all functions, and of each function.
-pub struct Columns;
-
-impl Columns {
-    pub const HIGH: usize = 3264;
-
-    pub const DEAD: usize = 4288;
-
-    pub const NEED: usize = 5312;
-
-    pub const NEXT: usize = 6336;
-
-    pub const FILL: usize = 7360;
-
-    pub const LONGEST: usize = 8384;
-
-    pub const SHORTEST: usize = 8448;
-
-    pub const ENTRY: usize = 8512;
-
-    pub const CHAIN: usize = 8576;
-
-    pub const LEVEL: usize = 8640;
-    // The numbers that the tables and all columns take.
-    pub const END: usize = 8704;
-    // How many columns are of the points: the first ones.
-    pub const OF_POINTS: usize = 5;
-}
 
 // A number for each point: its fill; what is kept at it; what its callee leaves of the cache; its high; the level of its callee; the chain of its callee,
 // where that of the caller and the price of a move are given. specs/Values.antt says each.

@@ -4,22 +4,13 @@ use Prim.Native.Nat.{ℕ, zero, suc, _+_, _*_}
 use mathlib.Core.List.{List, [], _∷_}
 use lib.ListN.{set}
 use Rattle.model.specs.declared.Eviction.{Eviction}
-use Rattle.model.specs.Limits.{mostFuncs}
 use Rattle.model.specs.Run as run
 use Rattle.model.specs.Run.{Place}
 use Rattle.tables.specs.Tables.{item}
-use Rattle.bounds.specs.Bounds.{boundsEnd}
+pub use Rattle.tables.specs.Layout.{framesAt, framesEnd}
 use Rattle.machine.specs.Moves.{evictionOf, coreOf}
 use Rattle.steps.specs.declared.State.{State}
 use Rattle.steps.specs.declared.Turned.{Turned}
-
--- where the callers begin, and where there are no more: two numbers for each, its function and its point. The code has the first as a constant of
--- Frames
-abbrev pub framesAt : ℕ
-framesAt = boundsEnd
-
-abbrev pub framesEnd : ℕ
-framesEnd = framesAt + 2 * mostFuncs
 
 -- caller n of the working space, the space with another one there, and the first n callers, the last called one first
 abbrev pub callerAt : List ℕ → ℕ → Place

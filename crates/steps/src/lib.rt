@@ -10,16 +10,9 @@ ghost use Rattle.model.specs.Task.{Task, func};
 ghost use Rattle.machine.specs.Moves.{OnCache};
 ghost use Rattle.steps.specs.Frames.{framesEnd, placesIn, putCaller, framesOf, plainTurn};
 ghost use Rattle.steps.specs.Steps.{PlainStep, Reaches, Leaves};
-use bounds::Bounds;
 use machine::Machine;
 use numbers::wide;
-
-// Where the callers begin in the working space: two numbers for each, its function and its point.
-pub struct Frames;
-
-impl Frames {
-    pub const AT: usize = Bounds::END;
-}
+use tables::Frames;
 
 // How many frames there are, function and point of the running one, where the stack stands, and what was moved and what the sheet allows so far: both
 // as prices. A finished task has no frames. A step that moves nothing touches neither total.

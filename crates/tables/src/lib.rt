@@ -6,24 +6,13 @@ ghost use lib.ListN.{length};
 ghost use Rattle.model.specs.Limits.{mostFuncs, mostInAll};
 ghost use Rattle.tables.specs.Layout.{tablesLength};
 ghost use Rattle.tables.specs.Tables.{pointOf, isAccess, pointAt, putPoint, kindOf, firstArgument, secondArgument, putFunc, spanAt, openingLine, lineIn};
+pub use layout::Bounds;
+pub use layout::Columns;
+pub use layout::Frames;
+pub use layout::Layout;
 use model::Point;
 
-// Where each table begins. The kinds of the points begin at 0.
-pub struct Layout;
-
-impl Layout {
-    pub const FIRST: usize = 1024;
-
-    pub const SECOND: usize = 2048;
-
-    pub const FRAME: usize = 3072;
-
-    pub const BASE: usize = 3136;
-
-    pub const SIZE: usize = 3200;
-    // The numbers that all tables take.
-    pub const LENGTH: usize = 3264;
-}
+mod layout;
 
 // What is known of a task beside its tables: the cache blocks, how many functions, and how many points in all.
 pub struct Header {
