@@ -1,4 +1,4 @@
-// The smaller and the larger of two numbers, what one has above another, and a number as a place. A name without a type is of u32.
+// The smaller and the larger of two numbers, what one has above another, and a number as an index. A name without a type is of u32.
 ghost use mathlib.Core.Path.{_≡_};
 ghost use Prim.Native.Nat.{_-_, min, max};
 
@@ -51,7 +51,7 @@ pub fn above_usize(a: usize, b: usize) -> usize
     if b < a { a - b } else { 0 }
 }
 
-// The same number as a place in an array.
+// The same number as an index.
 pub fn wide(x: u32) -> usize
     ensures { λ r. ⌜ r ≡ x ⌝ }
 {

@@ -1,5 +1,5 @@
 -- Where each part of the working space begins, and each table and column in it: the tables, the columns of figures, the bounds of a run and its callers.
--- The code has each place as a constant of Layout, Columns, Bounds and Frames.
+-- The code has each as a constant of Layout, Columns, Bounds and Frames.
 use Prim.Native.Nat.{ℕ, _+_, _*_}
 use Rattle.model.specs.Limits.{mostFuncs, mostInAll}
 
@@ -57,7 +57,7 @@ entryColumn = shortestColumn + mostFuncs
 abbrev pub chainColumn : ℕ
 chainColumn = entryColumn + mostFuncs
 
--- the level of a function: its place by d among the functions from it on
+-- the level of a function: its rank by d among the functions from it on
 abbrev pub levelColumn : ℕ
 levelColumn = chainColumn + mostFuncs
 
