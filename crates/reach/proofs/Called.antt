@@ -1,26 +1,25 @@
 -- Laws of refusal 12: the calls of a task, the marks that they leave, and the first function without a mark.
-use Prim.Native.Nat.{ℕ, _+_, _-_, _≤_, _<_}
+use Prim.Native.Nat.{ℕ, _+_, _-_, _<_}
 use native.Mathlib.Omega.{arith}
 use native.Mathlib.Decide.{ℕ-discrete}
 use native.Mathlib.Numerals.{add-one}
 use mathlib.Core.Path.{_≡_, refl, ap, sym, _∙_}
 use mathlib.Core.Bool.{Bool, true, false, not, _||_, or-false, or-true}
 use mathlib.Core.List.{List}
+use mathlib.Core.Option.{Option}
 use lib.ListN.{length, set}
 use lib.Seq.{getD-set-same, getD-set-other}
 use borrow.Author.Tests.{not-true, not-false, eq-eqb, ne-eqb}
 use Rattle.model.specs.declared.Point.{Point}
+use Rattle.model.specs.declared.Point.the-variants.{Call}
 use Rattle.model.specs.declared.Row.the-variants.{Uncalled}
 use Rattle.model.specs.declared.Verdict.the-variants.{Accepted, Refused}
 use Rattle.model.specs.Basic.{firstOf, any, countFrom, upTo}
-use Rattle.model.specs.Limits.{mostFuncs}
 use Rattle.model.specs.Refusal.{isCalled, callRow, callRows}
 use Rattle.model.specs.Rows.{refuse, rowVerdict}
 use Rattle.model.specs.Task.{Func, size, func}
 use Rattle.model.specs.Walk.{called, is, calls}
 use Rattle.theory.proofs.Search.{Rest, any-add, any-last, any-same, any-shift}
-use Rattle.points.specs.Points.{numbered}
-use Rattle.points.proofs.Laws.{is-number}
 use Rattle.tables.specs.declared.Header.{Header}
 use Rattle.tables.specs.Tables.{pointAt, baseAt, sizeAt, funcOf, taskOf, openingLine, Stacked, none, more}
 use Rattle.tables.specs.Valid.{Holds}
@@ -59,18 +58,21 @@ called-is {w} {h} k f =
     by : Func → Bool
     by x = any (calls x f) (upTo (size x))
 
--- the mark of function f, after the function that x calls is marked; g is its number
-module _ (l : List Bool) (f : ℕ) (x : Point) {g : ℕ} (d : g ≡ numbered (called x)) (k : f < mostFuncs) where
+-- the mark of function f, after the function that x calls is marked
+module _ (l : List Bool) (f : ℕ) {x : Point} {g : ℕ} (d : x ≡ Call g) where
   pub mark-set : g < length l → markOf (set l g true) f ≡ (markOf l f || is f (called x))
   mark-set h =
-      rw (is-number (called x) f g d k)
+      rw d
       (elim (ℕ-discrete f g) [
         | yes e ↦ rw (e, eq-eqb g g refl, or-true) (getD-set-same l g true false h)
         | no e ↦ rw (ne-eqb f g e, or-false) (getD-set-other l g f true false e)
       ])
 
-  pub mark-kept : mostFuncs ≤ g → markOf l f ≡ (markOf l f || is f (called x))
-  mark-kept h = rw (is-number (called x) f g d k, ne-eqb f g (λ e. omega arith), or-false)
+  pub mark-kept : f < g → markOf l f ≡ (markOf l f || is f (called x))
+  mark-kept h = rw (d, ne-eqb f g (λ e. omega arith), or-false)
+
+pub mark-none : (l : List Bool) (f : ℕ) (x : Point) → called x ≡ Option.none → markOf l f ≡ (markOf l f || is f (called x))
+mark-none l f x e = rw (e, or-false)
 
 -- no point yet, and one more
 pub mark-start : (w : List ℕ) (f : ℕ) {b : Bool} → b ≡ false → b ≡ any (callsAt w f) (upTo 0)

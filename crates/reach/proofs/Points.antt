@@ -14,7 +14,7 @@ use Rattle.model.proofs.Point as P
 use Rattle.model.specs.declared.Point.{Point}
 use Rattle.model.specs.declared.Point.the-variants.{Load, Store, Call, Ensure, Goto, Either, Return}
 use Rattle.model.specs.Task.{point}
-use Rattle.model.specs.Walk.{leadsFrom, leads, loaded, stored, is}
+use Rattle.model.specs.Walk.{leadsFrom, leads, loaded, stored, called, is}
 use Rattle.tables.specs.declared.Span.{Span}
 use Rattle.tables.specs.Tables.{isAccess, pointAt, funcIn}
 use Rattle.tables.proofs.Laws.{point-there, leads-there}
@@ -41,6 +41,15 @@ not-store (Ensure k) h = refl
 not-store (Goto p) h = refl
 not-store (Either p q) h = refl
 not-store Return h = refl
+
+pub not-call : (x : Point) → OneOf (0 ∷ 1 ∷ 3 ∷ 4 ∷ 5 ∷ 6 ∷ []) (tagOf P.the-type x) → called x ≡ none
+not-call (Load o) h = refl
+not-call (Store o) h = refl
+not-call (Call g) h = absurd (miss (0 ∷ 1 ∷ 3 ∷ 4 ∷ 5 ∷ 6 ∷ []) 2 tt h)
+not-call (Ensure k) h = refl
+not-call (Goto p) h = refl
+not-call (Either p q) h = refl
+not-call Return h = refl
 
 -- a load or a store leads to the next point
 pub access-next : (p : ℕ) (x : Point) → isAccess x ≡ true → leadsFrom p x ≡ suc p ∷ []

@@ -24,9 +24,11 @@ fn mark(x: Point, marks: &mut [bool])
     requires { ⌜ mostFuncs ≤ length (now marks) ⌝ }
     ensures { λ r. ⌜ ((f : ℕ) → f < mostFuncs → markOf (now (marks .exit)) f ≡ (markOf (now (marks .entry)) f || is f (called x))) ⌝ }
 {
-    let callee = points::callee_of(x);
-    if callee < Limits::FUNCS {
-        marks[callee] = true;
+    if let Point::Call(number) = x {
+        let callee = number as usize;
+        if callee < Limits::FUNCS {
+            marks[callee] = true;
+        }
     }
 }
 
