@@ -4,6 +4,7 @@ use Prim.Native.String.{String}
 use mathlib.Core.Bool.{true, false}
 use mathlib.Core.Path.{_≡_, refl}
 use mathlib.Core.List.{List, [], _∷_, _++_}
+use mathlib.Core.Option.{none, some}
 use lib.ListN.{replicate}
 use Rattle.model.specs.declared.Row.the-variants.{WorkTooSmall, PriceRange, TextTooLong, Form, StackSize, FrameSize, Offset, TooMany, Callee, Pairing}
 use Rattle.model.specs.declared.Row.the-variants.{Target, LastPoint, Unreachable, Uncalled, Uninitialised, AnswersTooSmall}
@@ -12,6 +13,7 @@ use Rattle.model.specs.declared.Eviction.the-variants.{Eager, Lazy}
 use Rattle.model.specs.declared.Verdict.the-variants as verdict
 use Rattle.model.specs.declared.Ending.the-variants.{AllDone, Refused}
 use Rattle.model.specs.declared.RunResult.{RunResult}
+use Rattle.model.specs.Limits.{workLength}
 use Rattle.model.specs.Text.{bytes}
 use Rattle.model.specs.Task.{Task, without, Judged, refused, task}
 use Rattle.model.specs.Figures.{shortest}
@@ -22,7 +24,7 @@ use Rattle.model.specs.Refusal.{judged, workRow, pricedRows, judge, noRo
 use Rattle.model.specs.Plain.{eventsOf, plain}
 use Rattle.model.specs.Run.{Place, allowed}
 use Rattle.model.specs.Preemptions.{preemptions, spillsAndFills}
-use Rattle.model.specs.Services.{reportOf, dearestOf, runOf}
+use Rattle.model.specs.Services.{cleared, afterWrite, writtenBy, reportOf, dearestOf, runOf, called, exported}
 use Rattle.model.specs.Opened.{opened}
 use Rattle.model.specs.Examples.{lines, sample, sevenSteps, withPreemption}
 
@@ -122,7 +124,7 @@ pub orders :
     ≡ refused (refuse Pairing 3))
     × (judged (lines ("(stack 4)" ∷ "(func 5" ∷ "  (load 7)" ∷ "x" ∷ [])) ≡ refused (refuse FrameSize 2))
     × (judged (lines ("(stack 65)" ∷ "x" ∷ [])) ≡ refused (refuse StackSize 1))
-    × (judge (workRow 16383) noRows (lines ("x" ∷ [])) ≡ refused (refuse WorkTooSmall 16384))
+    × (judge (workRow workLength 16383) noRows (lines ("x" ∷ [])) ≡ refused (refuse WorkTooSmall 16384))
 unfolding opened lines sample
 orders = (refl, refl, refl, refl, refl, refl, refl, refl, refl)
 
@@ -206,16 +208,31 @@ shares = refl
 
 -- 23 for a start above 255 and for each 0 or above 255, after 15 and before 1; the ends of both ranges pass
 pub priceRows :
-    (judge (pricedRows 16384 256 1) noRows sample ≡ refused (refuse PriceRange 0))
-    × (judge (pricedRows 16384 0 0) noRows sample ≡ refused (refuse PriceRange 0))
-    × (judge (pricedRows 16384 0 256) noRows sample ≡ refused (refuse PriceRange 0))
-    × (judge (pricedRows 16383 256 0) noRows sample ≡ refused (refuse WorkTooSmall 16384))
-    × (judge (pricedRows 16384 256 1) noRows (replicate 32769 0) ≡ refused (refuse PriceRange 0))
-    × (judge (pricedRows 16384 255 1) noRows (replicate 32769 0) ≡ refused (refuse TextTooLong 0))
-    × (judge (pricedRows 16384 255 255) noRows sample ≡ judged sample)
-    × (judge (pricedRows 16384 0 1) noRows sample ≡ judged sample)
+    (judge (pricedRows workLength 16384 256 1) noRows sample ≡ refused (refuse PriceRange 0))
+    × (judge (pricedRows workLength 16384 0 0) noRows sample ≡ refused (refuse PriceRange 0))
+    × (judge (pricedRows workLength 16384 0 256) noRows sample ≡ refused (refuse PriceRange 0))
+    × (judge (pricedRows workLength 16383 256 0) noRows sample ≡ refused (refuse WorkTooSmall 16384))
+    × (judge (pricedRows workLength 16384 256 1) noRows (replicate 32769 0) ≡ refused (refuse PriceRange 0))
+    × (judge (pricedRows workLength 16384 255 1) noRows (replicate 32769 0) ≡ refused (refuse TextTooLong 0))
+    × (judge (pricedRows workLength 16384 255 255) noRows sample ≡ judged sample)
+    × (judge (pricedRows workLength 16384 0 1) noRows sample ≡ judged sample)
 unfolding opened lines sample
 priceRows = (refl, refl, refl, refl, refl, refl, refl, refl)
+
+-- a service that asks for another length: 15 gives that length, and so many numbers become 0. Rows of a service come after those of the text and before 14.
+-- As C calls it: the numbers of what it returns over the first of the result, or nothing where the result has fewer
+pub buffers :
+    (judge (workRow 262144 16384) noRows sample ≡ refused (refuse WorkTooSmall 262144))
+    × (cleared 2 (3 ∷ 3 ∷ 3 ∷ []) ≡ 0 ∷ 0 ∷ 3 ∷ [])
+    × (cleared 4 (3 ∷ 3 ∷ 3 ∷ []) ≡ 3 ∷ 3 ∷ 3 ∷ [])
+    × (writtenBy 2 none (λ t. some (refuse Choice 6)) (λ t. 1 ∷ []) sample (3 ∷ 3 ∷ 3 ∷ []) []
+    ≡ afterWrite (record { verdict = verdict.Refused (refuse Choice 6); written = 0 }) (0 ∷ 0 ∷ 3 ∷ []) [])
+    × (writtenBy 2 none noRows (λ t. 1 ∷ []) sample (3 ∷ 3 ∷ 3 ∷ []) []
+    ≡ afterWrite (record { verdict = verdict.Refused (refuse OutputTooSmall 1); written = 0 }) (0 ∷ 0 ∷ 3 ∷ []) [])
+    × (exported {A = ℕ} (7 ∷ 8 ∷ []) 1 0 (9 ∷ 9 ∷ 9 ∷ []) ≡ called 1 (7 ∷ 8 ∷ 9 ∷ []) 1)
+    × (exported {A = ℕ} (7 ∷ 8 ∷ []) 1 0 (9 ∷ []) ≡ called 0 (9 ∷ []) 0)
+unfolding opened lines sample
+buffers = (refl, refl, refl, refl, refl, refl, refl)
 
 -- document 02, request 5, on the example of document 01: its total in blocks and at a price, and what the service returns and leaves of an output that has
 -- room for all but the last byte

@@ -28,6 +28,6 @@ unfolding Basic.firstOf Basic.any Basic.select Basic.joined Basic.sumOf Basic.la
     Refusal.priceRow Refusal.judge Refusal.outputRows Refusal.runRows Refusal.eventRows
     Plain.act Plain.eventsOf Plain.afterEvent Plain.answerOf Plain.plainFrom Run.turn Run.ranFrom Run.eventBound Run.allowedFrom
     Preemptions.preemptedAt Preemptions.preemptionsFrom
-    Services.cleared Services.over Services.verdictOf Services.checkOf Services.checkNumber Services.writtenOf
-    Services.writeNumbers Services.runJudged Services.runWith Services.runNumbers
+    Services.cleared Services.over Services.verdictOf Services.checkOf Services.checkNumber Services.writtenBy
+    Services.runJudged Services.runWith Services.exported
 opened = tt

@@ -1,7 +1,7 @@
 -- The rows of the table that a read task, the buffers and an event may meet, and their order.
 use Prim.Native.Nat.{ℕ, suc, _-_, _/_, _%_}
 use mathlib.Core.Bool.{Bool, true, false, not, _&&_, _||_}
-use mathlib.Core.List.{List, []}
+use mathlib.Core.List.{List}
 use mathlib.Core.Option.{Option, none, some}
 use lib.ListN.{length}
 use lib.Dec.{leb, ltb, eqb}
@@ -11,7 +11,7 @@ use Rattle.model.specs.declared.Refusal.{Refusal}
 use Rattle.model.specs.declared.Row.the-variants.{WorkTooSmall, PriceRange, TextTooLong, Callee, Pairing, Target, LastPoint, Unreachable, Uncalled}
 use Rattle.model.specs.declared.Row.the-variants.{Uninitialised, OutputTooSmall, EventList, AnswersTooSmall, CacheSize, MemoryTooSmall}
 use Rattle.model.specs.declared.Row.the-variants.{AfterFinish, Kind, Choice}
-use Rattle.model.specs.Limits.{mostBytes, workLength, mostEventNumbers, mostStart, mostEach}
+use Rattle.model.specs.Limits.{mostBytes, mostEventNumbers, mostStart, mostEach}
 use Rattle.model.specs.Rows.{refuse}
 use Rattle.model.specs.Basic.{if_then_else_, unless, _orElse_, firstOf, any, upTo, countFrom}
 use Rattle.model.specs.Task.{Func, Task, Judged, refused, task, size, count, func, point, stackless, funcLine, pointLine, readText}
@@ -122,17 +122,17 @@ unfoldable pub judged : List ℕ → Judged
 judged text =
     if ltb mostBytes (length text) then refused (refuse TextTooLong 0) else withRows taskRows (readText text)
 
--- 15, for a working space of this length
-unfoldable pub workRow : ℕ → Option Refusal
-workRow work = unless (leb workLength work) (refuse WorkTooSmall workLength)
+-- 15, for a service that asks for so many numbers and a working space of this length
+unfoldable pub workRow : ℕ → ℕ → Option Refusal
+workRow asked work = unless (leb asked work) (refuse WorkTooSmall asked)
 
 -- 23: the start of a move, or the price of each of its blocks, is outside its range
 unfoldable pub priceRow : ℕ → ℕ → Option Refusal
 priceRow start each = unless (leb start mostStart && leb 1 each && leb each mostEach) (refuse PriceRange 0)
 
 -- the rows before those of the text, for a service that gives prices
-abbrev pub pricedRows : ℕ → ℕ → ℕ → Option Refusal
-pricedRows work start each = workRow work orElse priceRow start each
+abbrev pub pricedRows : ℕ → ℕ → ℕ → ℕ → Option Refusal
+pricedRows asked work start each = workRow asked work orElse priceRow start each
 
 -- the whole order of a service: first, the rows that come before those of the text; own, those that come after
 unfoldable pub judge : Option Refusal → (Task → Option Refusal) → List ℕ → Judged
@@ -142,6 +142,10 @@ judge (some r) own text = refused r
 -- check has no rows of its own
 abbrev pub noRows : Task → Option Refusal
 noRows t = none
+
+-- these rows of a service, and later ones
+abbrev pub rowsBefore : (Task → Option Refusal) → (Task → Option Refusal) → Task → Option Refusal
+rowsBefore rows later t = rows t orElse later t
 
 -- 14, for a service that writes these bytes of a task into an output of this length
 unfoldable pub outputRows : (Task → List ℕ) → ℕ → Task → Option Refusal

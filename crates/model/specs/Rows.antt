@@ -1,5 +1,6 @@
 -- The refusals: the number of each row of the table, a row with its place, and the numbers that a verdict and an ending stand for.
 use Prim.Native.Nat.{ℕ, _+_, _*_}
+use mathlib.Core.List.{List, _∷_}
 use mathlib.Core.Option.{Option, none, some}
 use Rattle.model.specs.declared.Row.{Row}
 use Rattle.model.specs.declared.Row.the-variants.{WorkTooSmall, PriceRange, TextTooLong, Form, StackSize, FrameSize, Offset, TooMany, Callee, Pairing}
@@ -46,7 +47,7 @@ abbrev pub rowVerdict : Option Refusal → Verdict
 rowVerdict none = verdict.Accepted
 rowVerdict (some r) = verdict.Refused r
 
--- the numbers that a verdict and an ending stand for: 0 and 0 for acceptance
+-- the numbers that a verdict stands for: 0 and 0 for acceptance
 abbrev pub verdictCode : Verdict → ℕ
 verdictCode verdict.Accepted = 0
 verdictCode (verdict.Refused r) = codeOf (r .row)
@@ -55,13 +56,14 @@ abbrev pub verdictPlace : Verdict → ℕ
 verdictPlace verdict.Accepted = 0
 verdictPlace (verdict.Refused r) = r .place
 
-abbrev pub endingCode : Ending → ℕ
-endingCode ending.AllDone = 0
-endingCode (ending.Refused r) = codeOf (r .row)
+-- an ending stands for the numbers of this verdict
+abbrev pub endingVerdict : Ending → Verdict
+endingVerdict ending.AllDone = verdict.Accepted
+endingVerdict (ending.Refused r) = verdict.Refused r
 
-abbrev pub endingPlace : Ending → ℕ
-endingPlace ending.AllDone = 0
-endingPlace (ending.Refused r) = r .place
+-- the numbers of a result: code, place, and those that a service adds
+abbrev pub verdictNumbers : Verdict → List ℕ → List ℕ
+verdictNumbers v more = verdictCode v ∷ verdictPlace v ∷ more
 
 -- both in one number
 abbrev pub packed : Refusal → ℕ

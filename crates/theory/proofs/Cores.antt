@@ -14,21 +14,22 @@ use Rattle.model.specs.declared.Point.the-variants.{Load, Store, Call, Ensure, 
 use Rattle.model.specs.declared.Refusal.{Refusal}
 use Rattle.model.specs.Task.{Task, count, func, point, Judged, refused, task}
 use Rattle.model.specs.Core.{Core, Clean, written, effective, spilled, reserveMoves, savedFrom, saveMoves, reserve, free, ensure, store, load, save, withCache, resume, preempt, filledWith, idle}
+use Rattle.model.specs.Limits.{workLength}
 use Rattle.model.specs.Figures.{longest}
 use Rattle.model.specs.Sheet.{Sheet, movePrice, pricedSheet}
-use Rattle.model.specs.Refusal.{pricedRows, eventRows}
+use Rattle.model.specs.Refusal.{pricedRows, noRows, eventRows}
 use Rattle.model.specs.Plain.{Event, eventsOf, Act, takes, preempted, act, Frame, running, afterEvent, mainFrames}
 use Rattle.model.specs.Run.{Turn, Ran, mainState, finishedState, stepTurn, turn, orRan, ranFrom, ran}
 use Rattle.model.specs.Services.{cleared, runJudged, over, runAs, runWith, runOf}
 use Rattle.model.specs.WellFormed.{WellFormed}
-use Rattle.theory.specs.Sound.{Price, Sound}
+use Rattle.theory.specs.Sound.{Sound, SoundWhere}
 use Rattle.theory.specs.Cores.{eagerly, Less, LessRun, LessAfter}
 use Rattle.theory.proofs.Blocks.{spilled-out}
 use Rattle.theory.proofs.Clean.{effective-between, clean-idle}
 use Rattle.theory.proofs.Frames.{places, running-same, In, Below, Standing, Window}
 use Rattle.theory.proofs.Window.{room-below, room-start, window-idle}
 use Rattle.theory.proofs.Fair.{Running, fair-event, runs-start, state-is, finished-ran, by-start}
-use Rattle.theory.proofs.Lawful.{sound}
+use Rattle.theory.proofs.Lawful.{priced-sound}
 use Rattle.theory.proofs.Prices.{price-moves}
 use Rattle.theory.proofs.Faithful.{run-accepted}
 
@@ -163,15 +164,16 @@ module _ (t : Task) (s : Sheet) (w : WellFormed t) (r : Sound t s) where
   lazy-less cache memory es j k =
       less-moved (idle Lazy cache memory) es (λ h. window-idle t s Lazy cache memory (j h) k) (clean-idle Lazy cache memory)
 
--- the two services: for every price of moves and every first rows
-pub lazy-less-with : (price : ℕ → ℕ) → Price price → (first : Option Refusal) (text work events answers cache memory : List ℕ)
-    → LessAfter (runWith Lazy price first text work events answers cache memory) (runWith Eager price first text work events answers cache memory)
+-- the two services: for every first rows, where the sheet of each task that the rows pass obeys the rules
+pub lazy-less-with : (sheet : Task → Sheet) (first : Option Refusal) (rows : Task → Option Refusal) → SoundWhere rows sheet
+    → (text work events answers cache memory : List ℕ)
+    → LessAfter (runWith Lazy sheet first rows text work events answers cache memory) (runWith Eager sheet first rows text work events answers cache memory)
 unfolding runWith
-lazy-less-with price c first text work events answers cache memory = go (runJudged first text events answers cache memory) refl
+lazy-less-with sheet first rows lawful text work events answers cache memory = go (runJudged first rows text events answers cache memory) refl
   where
-    go : (j : Judged) → runJudged first text events answers cache memory ≡ j
-        → LessAfter (runAs Lazy price (runJudged first text events answers cache memory) (cleared work) (eventsOf events) answers cache memory)
-        (runAs Eager price (runJudged first text events answers cache memory) (cleared work) (eventsOf events) answers cache memory)
+    go : (j : Judged) → runJudged first rows text events answers cache memory ≡ j
+        → LessAfter (runAs Lazy sheet (runJudged first rows text events answers cache memory) (cleared workLength work) (eventsOf events) answers cache memory)
+        (runAs Eager sheet (runJudged first rows text events answers cache memory) (cleared workLength work) (eventsOf events) answers cache memory)
     go (refused r) e = rw e (record {
       ending = refl;
       done = refl;
@@ -183,9 +185,9 @@ lazy-less-with price c first text work events answers cache memory = go (runJudg
       moved = omega arith;
     })
     go (task t) e =
-        let a = run-accepted first text events answers cache memory t e in
+        let a = run-accepted first rows text events answers cache memory t e in
         let w = a .formed in
-        let l = lazy-less t (pricedSheet price t) w (sound t w price c) cache memory (eventsOf events) (a .blocks) (a .room) in
+        let l = lazy-less t (sheet t) w (lawful t w (a .no-rows)) cache memory (eventsOf events) (a .blocks) (a .room) in
         rw e (record {
           ending = l .ending;
           done = l .done;
@@ -202,4 +204,5 @@ lazy-less-with price c first text work events answers cache memory = go (runJudg
 pub services-less : (text : List ℕ) (start each : ℕ) (work events answers cache memory : List ℕ)
     → LessAfter (runOf Lazy text start each work events answers cache memory) (runOf Eager text start each work events answers cache memory)
 services-less text start each work events answers cache memory =
-    lazy-less-with (movePrice start each) (price-moves start each) (pricedRows (length work) start each) text work events answers cache memory
+    lazy-less-with (pricedSheet (movePrice start each)) (pricedRows workLength (length work) start each) noRows
+    (priced-sound (movePrice start each) (price-moves start each)) text work events answers cache memory

@@ -14,6 +14,7 @@ use Rattle.model.specs.Walk.{Walk, leads, present, called, calls, isCall, retur
 use Rattle.model.specs.Figures.{dead, need, displacementOf, displacementAt, callsAbove, minimax, longest, shortest, fill, afterWith, after, entry, high}
 use Rattle.model.specs.Figures.{spillWith, kept, keptNext, chain}
 use Rattle.model.specs.Sheet.{costed, onceOf, sheetWith, pricedSheet}
+use Rattle.model.specs.Refusal.{noRows}
 use Rattle.theory.proofs.Lists.{by-largest}
 use Rattle.theory.proofs.Walks.{walk-trans, walk-wider, walk-met}
 use Rattle.model.specs.WellFormed.{WellFormed}
@@ -24,7 +25,7 @@ use Rattle.theory.proofs.Displacement.{minimax-low, minimax-met, shorte
 use Rattle.theory.proofs.Rules.{dead-frame, dead-live, need-frame, need-touch, need-ensure, need-along, keptNext-ensure, keptNext-along}
 use Rattle.theory.proofs.Rules.{high-along, high-enter}
 use Rattle.theory.proofs.Sheet.{closed-in, in-frame, calls-later}
-use Rattle.theory.specs.Sound.{Price, Marked, SoundCall, Sound}
+use Rattle.theory.specs.Sound.{Price, Marked, SoundCall, Sound, SoundWhere}
 
 -- no ensure of a function keeps more than its frame
 keptNext-frame : (t : Task) (f p : ℕ) → keptNext t f p ≤ func t f .frame
@@ -194,3 +195,6 @@ module _ (t : Task) (w : WellFormed t) where
 -- the sheet of a task
 pub sound : (t : Task) → WellFormed t → (price : ℕ → ℕ) → Price price → Sound t (pricedSheet price t)
 sound t w price c = sound-with t w price c (λ f. dead (func t f)) (λ f. need (func t f)) (marked t w)
+
+pub priced-sound : (price : ℕ → ℕ) → Price price → SoundWhere noRows (pricedSheet price)
+priced-sound price c t w e = sound t w price c

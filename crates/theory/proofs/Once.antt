@@ -15,17 +15,18 @@ use Rattle.model.specs.declared.Eviction.the-variants.{Eager}
 use Rattle.model.specs.declared.Point.{Point}
 use Rattle.model.specs.declared.Point.the-variants.{Load, Store, Call, Ensure, Goto, Either, Return}
 use Rattle.model.specs.declared.Refusal.{Refusal}
+use Rattle.model.specs.Limits.{workLength}
 use Rattle.model.specs.Basic.{sumOf}
 use Rattle.model.specs.Task.{Task, Judged, refused, task, size, count, func, point}
 use Rattle.model.specs.Core.{Core, Clean, written, effective, savedFrom, saveMoves, resumed, resumeMoves, reserve, free, ensure, store, save, resume, filledWith, idle}
 use Rattle.model.specs.Sheet.{PointSheet, Sheet, movePrice, inBlocks, costed, sheetWith, onceOf, charging, chargingOnce, pricedSheet, sheetOf}
-use Rattle.model.specs.Refusal.{judged, pricedRows, eventRows}
+use Rattle.model.specs.Refusal.{judged, pricedRows, noRows, eventRows}
 use Rattle.model.specs.Plain.{Event, Act, takes, preempted, act, Frame, mainFrames, firstFrames, running, stepped, afterEvent, eventsOf}
 use Rattle.model.specs.Run.{Place, Turn, Ran, stepTurn, preemptTurn, turn, orRan, ranFrom, ran, mainState, finishedState, stepBound, eventBound, orBound, allowedFrom, allowed}
 use Rattle.model.specs.Preemptions.{preemptedAt, orPreempted, preemptionsFrom, preemptions, spillsAndFills}
-use Rattle.model.specs.Services.{cleared, runJudged, runAs, runWith, runOf, PaysOnce}
+use Rattle.model.specs.Services.{cleared, runJudged, runAs, runWith, runOf, runJudgedOf, PaysOnce}
 use Rattle.model.specs.WellFormed.{WellFormed}
-use Rattle.theory.specs.Sound.{Price, Sound}
+use Rattle.theory.specs.Sound.{Price, Sound, SoundWhere}
 use Rattle.theory.specs.Displacement.{NoHigher, sheetBefore}
 use Rattle.theory.specs.Cores.{eagerly}
 use Rattle.theory.proofs.Lists.{sum-append}
@@ -36,7 +37,7 @@ use Rattle.theory.proofs.Window.{window-idle}
 use Rattle.theory.proofs.Occupancy.{Occupied}
 use Rattle.theory.proofs.Potential.{potential, paid, potential-start, save-covers, reload-covers, left-delayed}
 use Rattle.theory.proofs.Fair.{Running, fair-step, fair-preempt, runs-start, finished-ran, by-start, state-is}
-use Rattle.theory.proofs.Lawful.{sound}
+use Rattle.theory.proofs.Lawful.{priced-sound}
 use Rattle.theory.proofs.Before.{never-rises}
 use Rattle.theory.proofs.Prices.{counted-price, moves-blocks}
 use Rattle.theory.proofs.Faithful.{run-accepted}
@@ -351,42 +352,44 @@ module _ (t : Task) (s : Sheet) (cost : ℕ → ℕ → ℕ) where
   unfolding sumOf
   charged-one es x e = omega (arith, charged-from 0 (firstFrames t) es, ap costs e)
 
--- of the services themselves, in blocks, on either core: for every text, event list and buffers
-pub pays-once : (x : Eviction) (first : Option Refusal) (text work events answers cache memory : List ℕ)
-    → PaysOnce (runJudged first text events answers cache memory) (eventsOf events)
-    (runWith x inBlocks first text work events answers cache memory .result .moved)
+-- of the services, in blocks, on either core: for every text, event list and buffers, where the sheet of each task that the rows pass obeys the rules
+pub pays-once : (x : Eviction) (sheet : Task → Sheet) (first : Option Refusal) (rows : Task → Option Refusal) → SoundWhere rows sheet
+    → ((t : Task) → sheet t .price ≡ inBlocks) → (text work events answers cache memory : List ℕ)
+    → PaysOnce sheet (runJudged first rows text events answers cache memory) (eventsOf events)
+    (runWith x sheet first rows text work events answers cache memory .result .moved)
 unfolding runWith
-pays-once x first text work events answers cache memory = go (runJudged first text events answers cache memory) refl
+pays-once x sheet first rows lawful counted text work events answers cache memory = go (runJudged first rows text events answers cache memory) refl
   where
-    go : (j : Judged) → runJudged first text events answers cache memory ≡ j
-        → PaysOnce (runJudged first text events answers cache memory) (eventsOf events)
-        (runAs x inBlocks (runJudged first text events answers cache memory) (cleared work) (eventsOf events) answers cache memory .result .moved)
+    go : (j : Judged) → runJudged first rows text events answers cache memory ≡ j
+        → PaysOnce sheet (runJudged first rows text events answers cache memory) (eventsOf events)
+        (runAs x sheet (runJudged first rows text events answers cache memory) (cleared workLength work) (eventsOf events) answers cache memory .result .moved)
     go (refused r) e = rw e tt
     go (task t) e =
-        let a = run-accepted first text events answers cache memory t e in
+        let a = run-accepted first rows text events answers cache memory t e in
         let w = a .formed in
-        rw e (run-once t (sheetOf t) w (sound t w inBlocks counted-price) refl (idle x cache memory) (eventsOf events)
-        (λ h. window-idle t (sheetOf t) x cache memory (a .blocks h) (a .room)) (clean-idle x cache memory))
+        rw e (run-once t (sheet t) w (lawful t w (a .no-rows)) (counted t) (idle x cache memory) (eventsOf events)
+        (λ h. window-idle t (sheet t) x cache memory (a .blocks h) (a .room)) (clean-idle x cache memory))
 
 -- run and run_lazy, with start 0 and each 1
 pub services-once : (x : Eviction) (text : List ℕ) (start each : ℕ) (work events answers cache memory : List ℕ) → start ≡ 0 → each ≡ 1
-    → PaysOnce (runJudged (pricedRows (length work) start each) text events answers cache memory) (eventsOf events)
+    → PaysOnce sheetOf (runJudgedOf text start each work events answers cache memory) (eventsOf events)
     (runOf x text start each work events answers cache memory .result .moved)
 services-once x text start each work events answers cache memory h k =
-    let first = pricedRows (length work) start each in
+    let first = pricedRows workLength (length work) start each in
     let e : movePrice start each ≡ inBlocks = (λ i. movePrice (h i) (k i)) ∙ moves-blocks in
     subst
     (λ (price : ℕ → ℕ).
-    PaysOnce (runJudged first text events answers cache memory) (eventsOf events) (runWith x price first text work events answers cache memory .result .moved))
-    (sym e) (pays-once x first text work events answers cache memory)
+    PaysOnce sheetOf (runJudged first noRows text events answers cache memory) (eventsOf events)
+    (runWith x (pricedSheet price) first noRows text work events answers cache memory .result .moved))
+    (sym e) (pays-once x sheetOf first noRows (priced-sound inBlocks counted-price) (λ t. refl) text work events answers cache memory)
 
 -- the words of the request: run and run_lazy with start 0 and each 1, over a list with exactly one preemption among the events done
 pub services-one : (x : Eviction) (text work events answers cache memory : List ℕ) (t : Task) (y : Place)
-    → runJudged (pricedRows (length work) 0 1) text events answers cache memory ≡ task t → preemptions t (eventsOf events) ≡ y ∷ []
+    → runJudgedOf text 0 1 work events answers cache memory ≡ task t → preemptions t (eventsOf events) ≡ y ∷ []
     → runOf x text 0 1 work events answers cache memory .result .moved
     ≤ spillsAndFills t (sheetOf t) (eventsOf events) + onceOf (sheetOf t .at (y .fn) (y .at))
 services-one x text work events answers cache memory t y e h =
     let moved = runOf x text 0 1 work events answers cache memory .result .moved in
     let paid-once : moved ≤ allowed t (chargingOnce (sheetOf t)) (eventsOf events) =
-    subst (λ (j : Judged). PaysOnce j (eventsOf events) moved) e (services-once x text 0 1 work events answers cache memory refl refl) in
+    subst (λ (j : Judged). PaysOnce sheetOf j (eventsOf events) moved) e (services-once x text 0 1 work events answers cache memory refl refl) in
     omega (arith, paid-once, charged-one t (sheetOf t) (λ f p. onceOf (sheetOf t .at f p)) (eventsOf events) y h)

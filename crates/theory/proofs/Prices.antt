@@ -12,10 +12,11 @@ use lib.ListN.{length}
 use Rattle.model.specs.declared.Eviction.the-variants.{Eager}
 use Rattle.model.specs.declared.Refusal.{Refusal}
 use Rattle.model.specs.Task.{Task, func}
+use Rattle.model.specs.Limits.{workLength}
 use Rattle.model.specs.Basic.{_orElse_}
 use Rattle.model.specs.Figures.{dead, need, fill, high, spill, keptNext, overCalls}
 use Rattle.model.specs.Sheet.{Sheet, movePrice, inBlocks, costed, pricedSheet, sheetOf, reportText}
-use Rattle.model.specs.Refusal.{workRow, priceRow, pricedRows}
+use Rattle.model.specs.Refusal.{workRow, priceRow, pricedRows, noRows}
 use Rattle.model.specs.Services.{writtenOf, reportOf, blocksReportOf, runWith, runOf, blocksRunOf}
 use Rattle.model.specs.WellFormed.{WellFormed}
 use Rattle.theory.proofs.Lists.{by-test}
@@ -55,9 +56,9 @@ pub sheet-blocks : (t : Task) → pricedSheet (movePrice 0 1) t ≡ sheetOf t
 sheet-blocks t = ap (λ (price : ℕ → ℕ). pricedSheet price t) moves-blocks
 
 -- they are in their range
-rows-blocks : (work : ℕ) → pricedRows work 0 1 ≡ workRow work
+rows-blocks : (asked work : ℕ) → pricedRows asked work 0 1 ≡ workRow asked work
 unfolding priceRow
-rows-blocks work = go (workRow work)
+rows-blocks asked work = go (workRow asked work)
   where
     go : (o : Option Refusal) → (o orElse none) ≡ o
     go none = refl
@@ -66,12 +67,12 @@ rows-blocks work = go (workRow work)
 -- the report, with once and the total, and the run are those of document 01, for every text and every buffer
 pub report-blocks : (text work output : List ℕ) → reportOf text 0 1 work output ≡ blocksReportOf text work output
 report-blocks text work output =
-    λ i. writtenOf (rows-blocks (length work) i) (reportText true (moves-blocks i)) text work output
+    λ i. writtenOf (rows-blocks workLength (length work) i) (reportText true (moves-blocks i)) text work output
 
 pub run-blocks : (text work events answers cache memory : List ℕ) → runOf Eager text 0 1 work events answers cache memory
     ≡ blocksRunOf text work events answers cache memory
 run-blocks text work events answers cache memory =
-    λ i. runWith Eager (moves-blocks i) (rows-blocks (length work) i) text work events answers cache memory
+    λ i. runWith Eager (pricedSheet (moves-blocks i)) (rows-blocks workLength (length work) i) noRows text work events answers cache memory
 
 -- the formulas of document 01
 pub record InBlocks (t : Task) (s : Sheet) : Type 0 where

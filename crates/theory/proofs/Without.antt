@@ -10,6 +10,7 @@ use lib.ListN.{length, length-append}
 use Rattle.model.specs.declared.Eviction.{Eviction}
 use Rattle.model.specs.declared.Row.the-variants.{OutputTooSmall}
 use Rattle.model.specs.declared.Refusal.{Refusal}
+use Rattle.model.specs.Limits.{workLength}
 use Rattle.model.specs.Basic.{unless, _orElse_, joined, upTo}
 use Rattle.model.specs.Rows.{refuse, rowVerdict}
 use Rattle.model.specs.Text.{bytes}
@@ -21,8 +22,8 @@ use Rattle.model.specs.Dearest.{dearestText}
 use Rattle.model.specs.Refusal.{workRow, pricedRows, outputRows, runRows, judged, judge, noRows, orTask, withRows}
 use Rattle.model.specs.Plain.{Event, eventsOf, plain}
 use Rattle.model.specs.Run.{Ran, ran, allowed}
-use Rattle.model.specs.Services.{cleared, over, verdictOf, AfterCheck, checkOf, checkNumber, AfterWrite, writtenAs, writtenOf, reportOf, dearestOf}
-use Rattle.model.specs.Services.{AfterRun, servedAs, runAs, runJudged, runWith, runOf}
+use Rattle.model.specs.Services.{cleared, over, verdictOf, AfterCheck, afterCheck, checkOf, checkNumber, AfterWrite, writtenAs, writtenBy, writtenOf, reportOf}
+use Rattle.model.specs.Services.{dearestOf, AfterRun, servedAs, runAs, runJudged, runWith, runOf}
 use Rattle.model.specs.Opened.{opened}
 use Rattle.theory.specs.Without.{emptyReport, writtenOr, firstRow, noneRan, nonePlain, untouched}
 use Rattle.theory.proofs.Accepted.{judged-as}
@@ -53,16 +54,18 @@ or-none none = refl
 or-none (some r) = refl
 
 -- check, and check as C calls it
-pub empty-check : (work : List ℕ) → checkOf [] work ≡ record { verdict = rowVerdict (workRow (length work)); work = cleared work }
+pub empty-check : (work : List ℕ) → checkOf [] work ≡ afterCheck (rowVerdict (workRow workLength (length work))) (cleared workLength work)
 unfolding checkOf
 empty-check work =
-    ap after (empty-judge (workRow (length work)) noRows) ∙ ap (λ (o : Option Refusal). after (orTask o without)) (or-none (workRow (length work)))
-    ∙ go (workRow (length work))
+    ap after (empty-judge first noRows) ∙ ap (λ (o : Option Refusal). after (orTask o without)) (or-none first) ∙ go first
   where
-    after : Judged → AfterCheck
-    after j = record { verdict = verdictOf j; work = cleared work }
+    first : Option Refusal
+    first = workRow workLength (length work)
 
-    go : (o : Option Refusal) → after (orTask o without) ≡ record { verdict = rowVerdict o; work = cleared work }
+    after : Judged → AfterCheck
+    after j = afterCheck (verdictOf j) (cleared workLength work)
+
+    go : (o : Option Refusal) → after (orTask o without) ≡ afterCheck (rowVerdict o) (cleared workLength work)
     go none = unfold verdictOf in refl
     go (some r) = unfold verdictOf in refl
 
@@ -101,34 +104,35 @@ empty-dearest price = refl
 -- a service that writes these bytes of a task without a stack: the rows before those of the text, and 14
 empty-written : (first : Option Refusal) (print : Task → List ℕ) (l : List ℕ) → print without ≡ l → (work output : List ℕ)
     → writtenOf first print [] work output
-    ≡ writtenOr (first orElse unless (leb (length l) (length output)) (refuse OutputTooSmall (length l))) l (cleared work) output
-unfolding writtenOf outputRows
+    ≡ writtenOr (first orElse unless (leb (length l) (length output)) (refuse OutputTooSmall (length l))) l (cleared workLength work) output
+unfolding writtenBy outputRows
 empty-written first print l e work output =
     ap after (empty-judge first (outputRows print (length output))) ∙ go (first orElse outputRows print (length output) without)
-    ∙ ap (λ (m : List ℕ). writtenOr (first orElse unless (leb (length m) (length output)) (refuse OutputTooSmall (length m))) m (cleared work) output) e
+    ∙ ap (λ (m : List ℕ). writtenOr (first orElse unless (leb (length m) (length output)) (refuse OutputTooSmall (length m))) m (cleared workLength work) output) e
   where
     after : Judged → AfterWrite
-    after j = writtenAs print j (cleared work) output
+    after j = writtenAs print j (cleared workLength work) output
 
-    go : (o : Option Refusal) → after (orTask o without) ≡ writtenOr o (print without) (cleared work) output
+    go : (o : Option Refusal) → after (orTask o without) ≡ writtenOr o (print without) (cleared workLength work) output
     go none = refl
     go (some r) = refl
 
 -- report: 15, 23 and 14, or the 22 bytes
 pub empty-reported : (start each : ℕ) (work output : List ℕ)
     → reportOf [] start each work output
-    ≡ writtenOr (pricedRows (length work) start each orElse unless (leb 22 (length output)) (refuse OutputTooSmall 22)) emptyReport (cleared work) output
+    ≡ writtenOr (pricedRows workLength (length work) start each orElse unless (leb 22 (length output)) (refuse OutputTooSmall 22)) emptyReport
+    (cleared workLength work) output
 empty-reported start each work output =
-    empty-written (pricedRows (length work) start each) (reportText (countsBlocks start each) (movePrice start each)) emptyReport
+    empty-written (pricedRows workLength (length work) start each) (reportText (countsBlocks start each) (movePrice start each)) emptyReport
     (empty-report (countsBlocks start each) (movePrice start each)) work output
 
 -- the dearest points: 15 and 23, or no byte
 pub empty-listed : (start each : ℕ) (work output : List ℕ)
-    → dearestOf [] start each work output ≡ writtenOr (pricedRows (length work) start each) [] (cleared work) output
+    → dearestOf [] start each work output ≡ writtenOr (pricedRows workLength (length work) start each) [] (cleared workLength work) output
 empty-listed start each work output =
-    let first = pricedRows (length work) start each in
+    let first = pricedRows workLength (length work) start each in
     empty-written first (dearestText (movePrice start each)) [] (empty-dearest (movePrice start each)) work output
-    ∙ ap (λ (o : Option Refusal). writtenOr o [] (cleared work) output)
+    ∙ ap (λ (o : Option Refusal). writtenOr o [] (cleared workLength work) output)
     (ap (λ (b : Bool). first orElse unless b (refuse OutputTooSmall 0)) (leb·zero (length output)) ∙ or-none first)
 
 -- ---- its run
@@ -144,12 +148,12 @@ without-run s c es =
 pub without-plain : (es : List Event) → plain without es ≡ nonePlain (firstRow es)
 without-plain es = finished-plain without es
 
--- the service, of every task of no functions
-pub finished-run : (x : Eviction) (price : ℕ → ℕ) (t : Task) → count t ≡ 0 → (work : List ℕ) (es : List Event) (answers cache memory : List ℕ)
-    → runAs x price (task t) work es answers cache memory ≡ untouched (firstRow es) work answers cache memory
+-- the service, of every task of no functions, by every sheet
+pub finished-run : (x : Eviction) (sheet : Task → Sheet) (t : Task) → count t ≡ 0 → (work : List ℕ) (es : List Event) (answers cache memory : List ℕ)
+    → runAs x sheet (task t) work es answers cache memory ≡ untouched (firstRow es) work answers cache memory
 unfolding over
-finished-run x price t z work es answers cache memory =
-    let s = pricedSheet price t in
+finished-run x sheet t z work es answers cache memory =
+    let s = sheet t in
     let c = idle x cache memory in
     ap (λ (r : Ran). servedAs r (allowed t s es) work answers) (ran-none t s c es z ∙ finished-ran t s c es)
     ∙ ap (λ (n : ℕ). servedAs (noneRan (firstRow es) c) n work answers) (allowed-none t s es z ∙ finished-allowed t s es)
@@ -168,8 +172,8 @@ without-rows events answers cache memory cache′ memory′ = rw (leb·zero memo
 -- run and run_lazy: 15 and 23, 16 and 17, then 22 at the first event; whatever cache and memory are, nothing in them changes
 pub empty-run : (x : Eviction) (start each : ℕ) (work events answers cache memory : List ℕ)
     → runOf x [] start each work events answers cache memory
-    ≡ untouched ((pricedRows (length work) start each orElse runRows (length events) (length answers) 0 0 without) orElse firstRow (eventsOf events))
-    (cleared work) answers cache memory
+    ≡ untouched ((pricedRows workLength (length work) start each orElse runRows (length events) (length answers) 0 0 without) orElse firstRow (eventsOf events))
+    (cleared workLength work) answers cache memory
 unfolding runWith runJudged
 empty-run x start each work events answers cache memory =
     ap after (empty-judge first (runRows (length events) (length answers) (length cache) (length memory)))
@@ -177,11 +181,11 @@ empty-run x start each work events answers cache memory =
     ∙ go (first orElse runRows (length events) (length answers) 0 0 without)
   where
     first : Option Refusal
-    first = pricedRows (length work) start each
+    first = pricedRows workLength (length work) start each
 
     after : Judged → AfterRun
-    after j = runAs x (movePrice start each) j (cleared work) (eventsOf events) answers cache memory
+    after j = runAs x (pricedSheet (movePrice start each)) j (cleared workLength work) (eventsOf events) answers cache memory
 
-    go : (o : Option Refusal) → after (orTask o without) ≡ untouched (o orElse firstRow (eventsOf events)) (cleared work) answers cache memory
-    go none = finished-run x (movePrice start each) without refl (cleared work) (eventsOf events) answers cache memory
+    go : (o : Option Refusal) → after (orTask o without) ≡ untouched (o orElse firstRow (eventsOf events)) (cleared workLength work) answers cache memory
+    go none = finished-run x (pricedSheet (movePrice start each)) without refl (cleared workLength work) (eventsOf events) answers cache memory
     go (some r) = refl

@@ -3,13 +3,16 @@
 use Prim.Native.Nat.{ℕ, suc, _+_, _-_, _≤_, _<_, min, max}
 use mathlib.Core.Bool.{not}
 use mathlib.Core.List.{List·Memᴰ}
+use mathlib.Core.Option.{Option, none}
 use mathlib.Core.Path.{_≡_}
 use lib.Dec.{T}
 use Rattle.model.specs.declared.Point.the-variants.{Call, Ensure, Return}
+use Rattle.model.specs.declared.Refusal.{Refusal}
 use Rattle.model.specs.Task.{Task, size, count, func, point}
 use Rattle.model.specs.Walk.{leads, touches, isCall, isEnsure}
 use Rattle.model.specs.Figures.{live, longest}
 use Rattle.model.specs.Sheet.{Sheet, onceOf}
+use Rattle.model.specs.WellFormed.{WellFormed}
 
 -- a price of moves: none for no block, no less for more blocks, and one move is no dearer than two
 pub record Price (price : ℕ → ℕ) : Type 0 where
@@ -74,3 +77,7 @@ pub record Sound (t : Task) (s : Sheet) : Type 0 where
   pub start : 0 < count t → func t 0 .frame ≤ s .at 0 0 .high
   pub first : (f : ℕ) → f < count t → ground .past f 0 ≡ 0
   pub at : (f p : ℕ) → f < count t → p < size (func t f) → SoundAt t s ground f p
+
+-- the sheet of every task that these rows pass
+abbrev pub SoundWhere : (Task → Option Refusal) → (Task → Sheet) → Type 0
+SoundWhere rows sheet = (t : Task) → WellFormed t → rows t ≡ none → Sound t (sheet t)

@@ -14,7 +14,7 @@ use Rattle.model.specs.Rows.{refuse}
 use Rattle.model.specs.Core.{Core}
 use Rattle.model.specs.Plain.{Event, Plain}
 use Rattle.model.specs.Run.{Ran}
-use Rattle.model.specs.Services.{over, AfterWrite, AfterRun}
+use Rattle.model.specs.Services.{over, AfterWrite, afterWrite, AfterRun, afterRun}
 
 -- the report of the empty text
 abbrev pub emptyReport : List ℕ
@@ -23,9 +23,8 @@ emptyReport = bytes "(report\n" ++ bytes "  (total 0)\n" ++ bytes ")\n"
 -- a service that writes: refused by this row, or these bytes are written
 abbrev pub writtenOr : Option Refusal → (bytes work output : List ℕ) → AfterWrite
 writtenOr none bytes work output =
-    record { result = record { verdict = verdict.Accepted; written = length bytes }; work = work; output = over bytes output }
-writtenOr (some r) bytes work output =
-    record { result = record { verdict = verdict.Refused r; written = 0 }; work = work; output = output }
+    afterWrite (record { verdict = verdict.Accepted; written = length bytes }) work (over bytes output)
+writtenOr (some r) bytes work output = afterWrite (record { verdict = verdict.Refused r; written = 0 }) work output
 
 -- the first event, if there is one, of a task that has finished is refused
 abbrev pub firstRow : List Event → Option Refusal
@@ -49,5 +48,4 @@ abbrev pub nothingDone : Option Refusal → RunResult
 nothingDone row = record { ending = endingBy row; done = 0; moved = 0; allowed = 0 }
 
 abbrev pub untouched : Option Refusal → (work answers cache memory : List ℕ) → AfterRun
-untouched row work answers cache memory =
-    record { result = nothingDone row; work = work; answers = answers; cache = cache; memory = memory }
+untouched row work answers cache memory = afterRun (nothingDone row) work answers cache memory
