@@ -1,5 +1,5 @@
 -- The judgement that every service starts from, the working space after a service, and what one that writes bytes returns.
-use Prim.Native.Nat.{ℕ, _≤_, _<_}
+use Prim.Native.Nat.{ℕ, _+_, _-_, _≤_, _<_}
 use native.Mathlib.Omega.{arith}
 use mathlib.Core.Path.{_≡_, refl, ap, sym, _∙_}
 use mathlib.Core.List.{List, _++_}
@@ -12,71 +12,77 @@ use Rattle.model.specs.declared.Refusal.{Refusal}
 use Rattle.model.specs.declared.Verdict.{Verdict}
 use Rattle.model.specs.declared.Verdict.the-variants.{Accepted, Refused}
 use Rattle.model.specs.declared.WriteResult.{WriteResult}
-use Rattle.model.specs.Limits.{workLength}
 use Rattle.model.specs.Rows.{refuse, rowVerdict}
 use Rattle.model.specs.Task.{Task, Judged, refused, task}
-use Rattle.model.specs.Refusal.{withRows, judged, pricedRows, judge, noRows, outputRows}
-use Rattle.model.specs.Services.{cleared, over, writtenAs, writtenOf}
+use Rattle.model.specs.Refusal.{orTask, withRows, judged, pricedRows, judge, noRows, rowsBefore, outputRows}
+use Rattle.model.specs.Services.{cleared, over, afterWrite, writtenAs, writtenBy}
+use Rattle.theory.specs.Without.{writtenOr}
 use Rattle.theory.proofs.Accepted.{accepted}
 use Rattle.theory.proofs.Firsts.{unless-none}
 use Rattle.theory.proofs.Search.{verdict-none, verdict-some}
+use Rattle.tables.specs.Layout.{tablesLength}
 use Rattle.tables.specs.Valid.{Kept}
 use Rattle.tables.proofs.Valid.{kept-later}
 use Rattle.judge.specs.declared.Judgement.{Judgement}
 use Rattle.judge.specs.declared.Judgement.the-variants as judgement
 use Rattle.judge.specs.Judgement.{judgedIn, SettledBy, Judges}
 use Rattle.prices.specs.declared.Price.{Price}
-use Rattle.serving.specs.Served.{Passes, ReadyBy, ReadyAt, Lent, lengthRow, nothingWritten, printed, Writes}
+use Rattle.serving.specs.Served.{Passes, ReadyBy, ReadyAt, Lent, lengthRow, nothingWritten, Puts, Writes}
 use Rattle.serving.proofs.Before.{priced-small}
 
 -- the working space after a service, where it is too small and where it is not
-pub cleared-short : (w : List ℕ) → length w < workLength → w ≡ cleared w
-unfolding cleared
-cleared-short w h = rw (lt-ltb (length w) workLength h)
+module _ (asked : ℕ) where
+  pub cleared-short : (w : List ℕ) → length w < asked → w ≡ cleared asked w
+  unfolding cleared
+  cleared-short w h = rw (lt-ltb (length w) asked h)
 
-pub cleared-full : (w : List ℕ) → workLength ≤ length w → replicate workLength 0 ++ drop workLength w ≡ cleared w
-unfolding cleared
-cleared-full w h = rw (le-ltb (length w) workLength h)
+  pub cleared-full : (w : List ℕ) → asked ≤ length w → replicate asked 0 ++ drop asked w ≡ cleared asked w
+  unfolding cleared
+  cleared-full w h = rw (le-ltb (length w) asked h)
 
--- what is kept past the working numbers is all that matters
-pub cleared-same : {w w′ : List ℕ} → workLength ≤ length w → Kept workLength w w′ → cleared w′ ≡ cleared w
-cleared-same {w} {w′} h k =
-    sym (cleared-full w′ (omega (arith, k .size))) ∙ ap (λ (l : List ℕ). replicate workLength 0 ++ l) (k .past) ∙ cleared-full w h
+-- what is kept past the numbers asked for is all that matters
+pub cleared-same : {n asked : ℕ} {w w′ : List ℕ} → n ≤ asked → asked ≤ length w → Kept n w w′ → cleared asked w′ ≡ cleared asked w
+cleared-same {n} {asked} {w} {w′} l h k =
+    let e : n + (asked - n) ≡ asked = omega arith in
+    let past = rw e at (kept-later (asked - n) k .past) in
+    sym (cleared-full asked w′ (omega (arith, k .size))) ∙ ap (λ (l : List ℕ). replicate asked 0 ++ l) past ∙ cleared-full asked w h
 
 -- the rows before those of the text, and these
-pub lent-refused : (first : Option Refusal) (text w : List ℕ) {q : Refusal} → first ≡ some q → Lent first text w (judgement.Refused q) w
+pub lent-refused : (asked : ℕ) (first : Option Refusal) (text w : List ℕ) {q : Refusal} → first ≡ some q
+    → Lent asked first text w (judgement.Refused q) w
 unfolding judge
-lent-refused first text w e = record { same = rw e refl; after = refl; ready = tt }
+lent-refused asked first text w e = record { same = rw e refl; after = refl; ready = tt }
 
 no-rows : (w : List ℕ) (r : Judgement) → withRows noRows (judgedIn w r) ≡ judgedIn w r
 no-rows w (judgement.Task h) = refl
 no-rows w (judgement.Refused q) = refl
 
-ready-by : (w : List ℕ) (r : Judgement) → SettledBy w r → workLength ≤ length w → ReadyBy w r
-ready-by w (judgement.Task h) s l = (s, l)
-ready-by w (judgement.Refused q) s l = tt
+ready-by : (asked : ℕ) (w : List ℕ) (r : Judgement) → SettledBy w r → asked ≤ length w → ReadyBy asked w r
+ready-by asked w (judgement.Task h) s l = (s, l)
+ready-by asked w (judgement.Refused q) s l = tt
 
-pub lent-judged : (first : Option Refusal) (text : List ℕ) {w w′ : List ℕ} {r : Judgement} → first ≡ none → workLength ≤ length w
-    → Judges (judged text) w r w′ → Lent first text w r w′
+-- the judgement uses the tables, and a service asks for no less
+pub lent-judged : (asked : ℕ) (first : Option Refusal) (text : List ℕ) {w w′ : List ℕ} {r : Judgement} → first ≡ none → tablesLength ≤ asked
+    → asked ≤ length w → Judges (judged text) w r w′ → Lent asked first text w r w′
 unfolding judge
-lent-judged first text {w} {w′} {r} e h a =
+lent-judged asked first text {w} {w′} {r} e m h a =
     record {
       same = rw e (ap (withRows noRows) (a .same) ∙ no-rows w′ r);
-      after = cleared-same h (kept-later 13120 (a .kept));
-      ready = ready-by w′ r (a .settled) (omega (arith, a .kept .size));
+      after = cleared-same m h (a .kept);
+      ready = ready-by asked w′ r (a .settled) (omega (arith, a .kept .size));
     }
 
 -- rows that pass leave room, and a small price
-pub first-passes : (o : Option Refusal) (w : List ℕ) (v : Verdict) → v ≡ rowVerdict o → (o ≡ none → workLength ≤ length w) → Passes v w
-first-passes o w Accepted e h = h (verdict-none o (sym e))
-first-passes o w (Refused q) e h = tt
+pub first-passes : (asked : ℕ) (o : Option Refusal) (w : List ℕ) (v : Verdict) → v ≡ rowVerdict o → (o ≡ none → asked ≤ length w) → Passes asked v w
+first-passes asked o w Accepted e h = h (verdict-none o (sym e))
+first-passes asked o w (Refused q) e h = tt
 
-pub ready-at : (price : Price) (n : ℕ) (text w : List ℕ) (r : Judgement) {w′ : List ℕ} → Lent (pricedRows n (price .start) (price .each)) text w r w′
-    → ReadyAt price w′ r
-ready-at price n text w (judgement.Task h) a =
-    let e = accepted (pricedRows n (price .start) (price .each)) noRows text _ (a .same) .no-first in
-    (a .ready .0, a .ready .1, priced-small n price e)
-ready-at price n text w (judgement.Refused q) a = tt
+pub ready-at : (asked : ℕ) (price : Price) (n : ℕ) (text w : List ℕ) (r : Judgement) {w′ : List ℕ}
+    → Lent asked (pricedRows asked n (price .start) (price .each)) text w r w′ → ReadyAt asked price w′ r
+ready-at asked price n text w (judgement.Task h) a =
+    let e = accepted (pricedRows asked n (price .start) (price .each)) noRows text _ (a .same) .no-first in
+    (a .ready .0, a .ready .1, priced-small asked n price e)
+ready-at asked price n text w (judgement.Refused q) a = tt
 
 -- 14
 module _ (room n : ℕ) {v : Verdict} where
@@ -93,32 +99,35 @@ module _ (room n : ℕ) {v : Verdict} where
   pub row-of : {m : ℕ} → n ≡ m → v ≡ rowVerdict (lengthRow room n) → v ≡ rowVerdict (lengthRow room m)
   row-of e i = i ∙ ap (λ (n : ℕ). rowVerdict (lengthRow room n)) e
 
--- 14 as it was tried, or the bytes l, which are those of a task
-module _ (print : Task → List ℕ) (output : List ℕ) {t : Task} {l : List ℕ} (same : l ≡ print t)
-    {v : Verdict} (row : v ≡ rowVerdict (lengthRow (length output) (length l))) where
-  row-is : rowVerdict (outputRows print (length output) t) ≡ v
-  unfolding outputRows
-  row-is = sym (row ∙ ap (λ (k : List ℕ). rowVerdict (lengthRow (length output) (length k))) same)
+-- 14 as it was tried, or the bytes
+module _ (l output : List ℕ) {v : Verdict} (row : v ≡ rowVerdict (lengthRow (length output) (length l))) where
+  pub too-short : {q : Refusal} → v ≡ Refused q → Puts l output (nothingWritten q) output
+  too-short e work = rw (verdict-some (lengthRow (length output) (length l)) (sym row ∙ e)) refl
 
-  module _ {w w′ : List ℕ} (after : cleared w′ ≡ cleared w) where
-    pub too-short : {q : Refusal} → v ≡ Refused q → Writes print (task t) w output (nothingWritten q) w′ output
-    too-short e =
-        let o = verdict-some (outputRows print (length output) t) (row-is ∙ e) in
-        record { returned = λ work. rw o; written = λ work. rw o; after = after }
+  pub long-enough : {output′ : List ℕ} {n : ℕ} → v ≡ Accepted → n ≡ length l → output′ ≡ over l output
+      → Puts l output (record { verdict = Accepted; written = n }) output′
+  long-enough e i o work =
+      rw (verdict-none (lengthRow (length output) (length l)) (sym row ∙ e)) (λ k. afterWrite (record { verdict = Accepted; written = i k }) work (o k))
 
-    pub long-enough : {output′ : List ℕ} {n : ℕ} → v ≡ Accepted → n ≡ length l → output′ ≡ over l output
-        → Writes print (task t) w output (record { verdict = Accepted; written = n }) w′ output′
-    long-enough {output′} {n} e i o =
-        let z = verdict-none (outputRows print (length output) t) (row-is ∙ e) in
-        let f : n ≡ length (print t) = i ∙ ap length same in
-        record {
-          returned = λ work. rw z (λ i. record { verdict = Accepted; written = f i });
-          written = λ work. rw z (o ∙ ap (λ (k : List ℕ). over k output) same);
-          after = after;
-        }
+-- bytes that are those of a task which the rows of the service pass
+pub task-written : {asked : ℕ} (rows : Task → Option Refusal) (print : Task → List ℕ) {t : Task} {l w w′ output output′ : List ℕ} {r : WriteResult}
+    → rows t ≡ none → l ≡ print t → cleared asked w′ ≡ cleared asked w → Puts l output r output′
+    → Writes asked rows print (task t) w output r w′ output′
+unfolding outputRows
+task-written rows print {t} {output = output} z e after p = record {
+  left = λ work.
+      p work ∙ ap (λ (k : List ℕ). writtenOr (lengthRow (length output) (length k)) k work output) e
+      ∙ rw z (go work (lengthRow (length output) (length (print t))));
+  after = after;
+}
+  where
+    go : (work : List ℕ) (o : Option Refusal) → writtenOr o (print t) work output ≡ writtenAs print (orTask o t) work output
+    go work none = refl
+    go work (some q) = refl
 
-pub none-written : (print : Task → List ℕ) (q : Refusal) (w output : List ℕ) → Writes print (refused q) w output (nothingWritten q) w output
-none-written print q w output = record { returned = λ work. refl; written = λ work. refl; after = refl }
+pub none-written : (asked : ℕ) (rows : Task → Option Refusal) (print : Task → List ℕ) (q : Refusal) (w output : List ℕ)
+    → Writes asked rows print (refused q) w output (nothingWritten q) w output
+none-written asked rows print q w output = record { left = λ work. refl; after = refl }
 
 -- the rows of a service come after those that every service has
 pub own-rows : (own : Task → Option Refusal) (first : Option Refusal) (text : List ℕ) → judge first own text ≡ withRows own (judge first noRows text)
@@ -130,27 +139,13 @@ own-rows own none text = later (judged text)
     later (refused r) = refl
     later (task t) = refl
 
--- the working space does not depend on the verdict
-work-left : (print : Task → List ℕ) (j : Judged) (work output : List ℕ) → writtenAs print j work output .work ≡ work
-work-left print (refused r) work output = refl
-work-left print (task t) work output = refl
-
-module _ {first : Option Refusal} {print : Task → List ℕ} {text w w′ w″ output output′ : List ℕ} {j : Judgement} {r : WriteResult}
-    (a : Lent first text w j w′) (b : Writes print (judgedIn w′ j) w′ output r w″ output′) where
-  bytes-are : writtenOf first print text w output ≡ printed print (judgedIn w′ j) (cleared w) output
-  unfolding writtenOf
-  bytes-are =
-      ap
-      (λ (x : Judged). writtenAs print x (cleared w) output)
-      (own-rows (outputRows print (length output)) _ text ∙ ap (withRows (outputRows print (length output))) (a .same))
-
-  pub write-result : r ≡ writtenOf first print text w output .result
-  write-result = rw bytes-are (b .returned (cleared w))
-
-  pub write-output : output′ ≡ writtenOf first print text w output .output
-  write-output = rw bytes-are (b .written (cleared w))
-
-  pub write-work : {l : List ℕ} → l ≡ cleared w″ → l ≡ writtenOf first print text w output .work
-  write-work e =
-      let x = withRows (outputRows print (length output)) (judgedIn w′ j) in
-      e ∙ (b .after ∙ a .after) ∙ rw bytes-are (sym (work-left print x (cleared w) output))
+-- the service, whose working space is l in the end
+module _ {asked : ℕ} {first : Option Refusal} {rows : Task → Option Refusal} {print : Task → List ℕ} {text w w′ w″ output output′ l : List ℕ} {j : Judgement}
+    {r : WriteResult} (a : Lent asked first text w j w′) (b : Writes asked rows print (judgedIn w′ j) w′ output r w″ output′)
+    (c : l ≡ cleared asked w″) where
+  pub write-left : afterWrite r l output′ ≡ writtenBy asked first rows print text w output
+  unfolding writtenBy
+  write-left =
+      let own = rowsBefore rows (outputRows print (length output)) in
+      ap (λ (z : List ℕ). afterWrite r z output′) (c ∙ b .after ∙ a .after) ∙ b .left (cleared asked w)
+      ∙ ap (λ (x : Judged). writtenAs print x (cleared asked w) output) (sym (own-rows own first text ∙ ap (withRows own) (a .same)))

@@ -2,9 +2,10 @@
 // cleared.
 ghost use mathlib.Core.Path.{_≡_};
 ghost use mathlib.Core.Option.{Option};
-ghost use Prim.Native.Nat.{_<_, _^_};
+ghost use Prim.Native.Nat.{ℕ, _≤_, _<_, _^_};
 ghost use Rattle.model.specs.declared.Refusal.{Refusal};
 ghost use Rattle.model.specs.declared.Verdict.the-variants as verdict;
+ghost use Rattle.model.specs.Limits.{workLength};
 ghost use Rattle.model.specs.Rows.{refuse, rowVerdict};
 ghost use Rattle.model.specs.Refusal.{workRow, priceRow, pricedRows};
 ghost use Rattle.model.specs.Services.{cleared};
@@ -24,12 +25,13 @@ pub fn refusal(row: Row, place: u32) -> Verdict
     Verdict::Refused(Refusal { row, place })
 }
 
-// 15, for a working space of this length.
-pub fn work_row(length: usize) -> Verdict
-    ensures { λ v. ⌜ v ≡ rowVerdict (workRow length) ⌝ }
+// 15, for a service that asks for so many numbers and a working space of this length.
+pub fn work_row(asked: usize, length: usize) -> Verdict
+    requires { ⌜ asked < 2 ^ 32 ⌝ }
+    ensures { λ v. ⌜ v ≡ rowVerdict (workRow asked length) ⌝ }
 {
-    if length < Limits::WORK {
-        return refusal(Row::WorkTooSmall, Limits::WORK as u32);
+    if length < asked {
+        return refusal(Row::WorkTooSmall, asked as u32);
     }
     Verdict::Accepted
 }
@@ -51,20 +53,22 @@ fn price_row(price: Price) -> Verdict
 }
 
 // 15 and 23, for a service that gives prices.
-pub fn priced_row(length: usize, price: Price) -> Verdict
-    ensures { λ v. ⌜ v ≡ rowVerdict (pricedRows length (price .start) (price .each)) ⌝ }
+pub fn priced_row(asked: usize, length: usize, price: Price) -> Verdict
+    requires { ⌜ asked < 2 ^ 32 ⌝ }
+    ensures { λ v. ⌜ v ≡ rowVerdict (pricedRows asked length (price .start) (price .each)) ⌝ }
 {
-    if let Verdict::Refused(r) = work_row(length) {
+    if let Verdict::Refused(r) = work_row(asked, length) {
         return Verdict::Refused(r);
     }
     price_row(price)
 }
 
-// The rows before those of the text have this verdict; then the judgement of the text. A working space that is too small is untouched.
+// The rows before those of the text have this verdict; then the judgement of the text. A working space that is too small is untouched. No service asks for
+// fewer numbers than Limits::WORK.
 pub fn judge_lent(first: Verdict, text: &[u8], work: &mut [u32]) -> Judgement
-    requires { ⌜ Passes first (now work) ⌝ }
-    ensures { λ r. ⌜ ((rows : Option Refusal) → first ≡ rowVerdict rows →
-        Lent rows (now (text .entry)) (now (work .entry)) r (now (work .exit))) ⌝ }
+    requires { ⌜ Passes workLength first (now work) ⌝ }
+    ensures { λ r. ⌜ ((asked : ℕ) (rows : Option Refusal) → workLength ≤ asked → Passes asked first (now (work .entry)) → first ≡ rowVerdict rows →
+        Lent asked rows (now (text .entry)) (now (work .entry)) r (now (work .exit))) ⌝ }
 {
     if let Verdict::Refused(r) = first {
         return Judgement::Refused(r);
@@ -93,15 +97,15 @@ pub fn nothing_written(r: Refusal) -> WriteResult
     }
 }
 
-// The working numbers of a service become 0, where there are as many.
-pub fn clear(work: &mut [u32])
-    ensures { λ r. ⌜ now (work .exit) ≡ cleared (now (work .entry)) ⌝ }
+// The numbers that a service asks for become 0, where there are as many.
+pub fn clear(asked: usize, work: &mut [u32])
+    ensures { λ r. ⌜ now (work .exit) ≡ cleared asked (now (work .entry)) ⌝ }
 {
-    if Limits::WORK > work.len() {
+    if asked > work.len() {
         return;
     }
     let mut i: usize = 0;
-    while i < Limits::WORK {
+    while i < asked {
         work[i] = 0;
         i += 1;
     }

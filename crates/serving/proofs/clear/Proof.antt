@@ -4,21 +4,20 @@ use mathlib.Core.Path.{_≡_, refl, _∙_}
 use mathlib.Core.List.{_++_}
 use native.Mathlib.Omega.{arith}
 use borrow.Author.Fill.{fill-more}
-use Rattle.model.specs.Limits.{workLength}
 use lib.ListN.{length, drop, replicate, length-set}
 use Rattle.serving.proofs.Laws.{cleared-short, cleared-full}
 use Rattle.serving.proofs.clear.Statement.{statement}
 use Rattle.serving.proofs.clear.Tie as tie
 
 abbrev Inv-loop : tie.InvT-loop
-Inv-loop work₀ i₀ work i =
-    (i ≤ workLength) × (workLength ≤ length work₀) × (length work ≡ length work₀) × (work ≡ replicate i 0 ++ drop i work₀)
+Inv-loop asked work₀ i₀ work i =
+    (i ≤ asked) × (asked ≤ length work₀) × (length work ≡ length work₀) × (work ≡ replicate i 0 ++ drop i work₀)
 
 abbrev μ-loop : tie.MeasureT-loop
-μ-loop work₀ i₀ work i = workLength - i
+μ-loop asked work₀ i₀ work i = asked - i
 
 returns : tie.Need-returns Inv-loop μ-loop
-returns c = cleared-short _ (omega (arith, c .if1 .taken))
+returns c = cleared-short _ _ (omega (arith, c .if1 .taken))
 
 loop-holds : tie.Need-loop-holds Inv-loop μ-loop
 loop-holds c = (omega arith, omega (arith, c .if1 .left), refl, refl)
@@ -52,8 +51,8 @@ same-length c = c .before .loop .inv .2
 returns-2 : tie.Need-returns-2 Inv-loop μ-loop
 returns-2 c =
     let l = c .before .loop in
-    let e : l .i ≡ workLength = omega arith in
-    rw e at (l .inv .3) ∙ cleared-full _ (l .inv .1)
+    let e : l .i ≡ c .before .before .before .args .asked = omega arith in
+    rw e at (l .inv .3) ∙ cleared-full _ _ (l .inv .1)
 
 pub clear-spec : {M : Type 1} → statement M
 clear-spec =
