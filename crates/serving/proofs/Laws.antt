@@ -102,12 +102,13 @@ module _ (room n : ℕ) {v : Verdict} where
 -- 14 as it was tried, or the bytes
 module _ (l output : List ℕ) {v : Verdict} (row : v ≡ rowVerdict (lengthRow (length output) (length l))) where
   pub too-short : {q : Refusal} → v ≡ Refused q → Puts l output (nothingWritten q) output
-  too-short e work = rw (verdict-some (lengthRow (length output) (length l)) (sym row ∙ e)) refl
+  too-short e = record { left = λ work. rw (verdict-some (lengthRow (length output) (length l)) (sym row ∙ e)) refl }
 
   pub long-enough : {output′ : List ℕ} {n : ℕ} → v ≡ Accepted → n ≡ length l → output′ ≡ over l output
       → Puts l output (record { verdict = Accepted; written = n }) output′
-  long-enough e i o work =
-      rw (verdict-none (lengthRow (length output) (length l)) (sym row ∙ e)) (λ k. afterWrite (record { verdict = Accepted; written = i k }) work (o k))
+  long-enough e i o =
+      let n = verdict-none (lengthRow (length output) (length l)) (sym row ∙ e) in
+      record { left = λ work. rw n (λ k. afterWrite (record { verdict = Accepted; written = i k }) work (o k)) }
 
 -- bytes that are those of a task which the rows of the service pass
 pub task-written : {asked : ℕ} (rows : Task → Option Refusal) (print : Task → List ℕ) {t : Task} {l w w′ output output′ : List ℕ} {r : WriteResult}
@@ -116,7 +117,7 @@ pub task-written : {asked : ℕ} (rows : Task → Option Refusal) (print : Task 
 unfolding outputRows
 task-written rows print {t} {output = output} z e after p = record {
   left = λ work.
-      p work ∙ ap (λ (k : List ℕ). writtenOr (lengthRow (length output) (length k)) k work output) e
+      p .left work ∙ ap (λ (k : List ℕ). writtenOr (lengthRow (length output) (length k)) k work output) e
       ∙ rw z (go work (lengthRow (length output) (length (print t))));
   after = after;
 }

@@ -53,9 +53,9 @@ lengthRow room n = unless (leb n room) (refuse OutputTooSmall n)
 abbrev pub nothingWritten : Refusal → WriteResult
 nothingWritten r = record { verdict = verdict.Refused r; written = 0 }
 
--- what is returned and left of an output over which these bytes are to be written: 14, or the bytes. Whatever becomes of the working space
-abbrev pub Puts : List ℕ → List ℕ → WriteResult → List ℕ → Type 0
-Puts l output r output′ = (work : List ℕ) → afterWrite r work output′ ≡ writtenOr (lengthRow (length output) (length l)) l work output
+-- what is returned and left where these bytes are to be written over an output: 14, or the bytes; whatever becomes of the working space
+pub record Puts (l output : List ℕ) (r : WriteResult) (output′ : List ℕ) : Type 0 where
+  pub left : (work : List ℕ) → afterWrite r work output′ ≡ writtenOr (lengthRow (length output) (length l)) l work output
 
 -- what a service with these rows that writes these bytes of a task returns and leaves of what was judged as j: for an accepted task one of the rows or 14,
 -- or its bytes

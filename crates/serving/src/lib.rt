@@ -1,7 +1,8 @@
 // What every service starts and ends with: the rows before those of the text, the judgement of the text, the row of an output, and the working space
 // cleared.
 ghost use mathlib.Core.Path.{_≡_};
-ghost use mathlib.Core.Option.{Option};
+ghost use mathlib.Core.Option.{Option, none};
+ghost use lib.ListN.{length};
 ghost use Prim.Native.Nat.{ℕ, _≤_, _<_, _^_};
 ghost use Rattle.model.specs.declared.Refusal.{Refusal};
 ghost use Rattle.model.specs.declared.Verdict.the-variants as verdict;
@@ -67,7 +68,7 @@ pub fn priced_row(asked: usize, length: usize, price: Price) -> Verdict
 // fewer numbers than Limits::WORK.
 pub fn judge_lent(first: Verdict, text: &[u8], work: &mut [u32]) -> Judgement
     requires { ⌜ Passes workLength first (now work) ⌝ }
-    ensures { λ r. ⌜ ((asked : ℕ) (rows : Option Refusal) → workLength ≤ asked → Passes asked first (now (work .entry)) → first ≡ rowVerdict rows →
+    ensures { λ r. ⌜ ((asked : ℕ) (rows : Option Refusal) → workLength ≤ asked → first ≡ rowVerdict rows → (rows ≡ none → asked ≤ length (now (work .entry))) →
         Lent asked rows (now (text .entry)) (now (work .entry)) r (now (work .exit))) ⌝ }
 {
     if let Verdict::Refused(r) = first {

@@ -2,6 +2,7 @@
 use Prim.Native.Nat.{ℕ}
 use mathlib.Core.List.{List}
 use lib.ListN.{length}
+use Rattle.model.specs.Limits.{workLength}
 use Rattle.model.specs.Task.{Task}
 use Rattle.model.specs.Sheet.{reportText}
 use Rattle.model.specs.Dearest.{dearestText}
@@ -17,6 +18,6 @@ abbrev pub printOf : Print → Price → Task → List ℕ
 printOf Report price t = reportText (showsOnce price) (priceOf price) t
 printOf Dearest price t = dearestText (priceOf price) t
 
-abbrev pub wroteOf : Print → ℕ → ℕ → List ℕ → List ℕ → List ℕ → AfterWrite
-wroteOf which start each text work output =
-    writtenOf (pricedRows (length work) start each) (printOf which (record { start = start; each = each })) text work output
+abbrev pub wroteOf : Print → List ℕ → ℕ → ℕ → List ℕ → List ℕ → AfterWrite
+wroteOf which text start each work output =
+    writtenOf (pricedRows workLength (length work) start each) (printOf which (record { start = start; each = each })) text work output

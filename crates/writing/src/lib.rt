@@ -3,6 +3,7 @@ ghost use Prim.Native.Nat.{_≤_};
 ghost use lib.ListN.{length};
 ghost use Rattle.model.specs.Limits.{workLength};
 ghost use Rattle.model.specs.Task.{task};
+ghost use Rattle.model.specs.Refusal.{noRows};
 ghost use Rattle.tables.specs.Tables.{taskOf};
 ghost use Rattle.tables.specs.Valid.{Settled};
 ghost use Rattle.prices.specs.Prices.{Small};
@@ -32,7 +33,7 @@ fn write_task(
     h: Header,
 ) -> WriteResult
     requires { ⌜ Settled (now work) h × (workLength ≤ length (now work)) × Small price ⌝ }
-    ensures { λ r. ⌜ Writes (printOf which price) (task (taskOf (now (work .entry)) h)) (now (work .entry)) (now (output .entry)) r
+    ensures { λ r. ⌜ Writes workLength noRows (printOf which price) (task (taskOf (now (work .entry)) h)) (now (work .entry)) (now (output .entry)) r
         (now (work .exit)) (now (output .exit)) ⌝ }
 {
     figures::figure_task(work, h, price);
@@ -50,8 +51,8 @@ pub fn write_judged(
     output: &mut [u8],
     work: &mut [u32],
 ) -> WriteResult
-    requires { ⌜ ReadyAt price (now work) judgement ⌝ }
-    ensures { λ r. ⌜ Writes (printOf which price) (judgedIn (now (work .entry)) judgement) (now (work .entry)) (now (output .entry)) r
+    requires { ⌜ ReadyAt workLength price (now work) judgement ⌝ }
+    ensures { λ r. ⌜ Writes workLength noRows (printOf which price) (judgedIn (now (work .entry)) judgement) (now (work .entry)) (now (output .entry)) r
         (now (work .exit)) (now (output .exit)) ⌝ }
 {
     match judgement {

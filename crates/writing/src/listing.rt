@@ -1,23 +1,17 @@
 // The list of the dearest points of a task by the sheet in the columns, or 14.
-ghost use mathlib.Core.Path.{_≡_};
-ghost use mathlib.Core.List.{List};
-ghost use Prim.Native.Nat.{ℕ};
-ghost use Rattle.model.specs.Task.{Task, task};
-ghost use Rattle.model.specs.Services.{cleared};
 ghost use Rattle.readout.specs.Readable.{Readable};
 ghost use Rattle.dearest.specs.Ranking.{Printable, listText, listIn};
-ghost use Rattle.serving.specs.Served.{Writes};
+ghost use Rattle.serving.specs.Served.{Puts};
 use model::Limits;
 use model::Verdict;
 use model::WriteResult;
 use prices::Price;
 use tables::Header;
 
-// 14, or the lines of the first n ranks. They are the bytes of any service whose text of a task they are.
+// 14, or the lines of the first n ranks.
 fn write_ranks(output: &mut [u8], ranks: &[u64; Limits::DEAREST], n: usize) -> WriteResult
     requires { ⌜ Printable n (now ranks) ⌝ }
-    ensures { λ r. ⌜ ((print : Task → List ℕ) (t : Task) (w w′ : List ℕ) → listText (now (ranks .entry)) n ≡ print t → cleared w′ ≡ cleared w →
-        Writes print (task t) w (now (output .entry)) r w′ (now (output .exit))) ⌝ }
+    ensures { λ r. ⌜ Puts (listText (now (ranks .entry)) n) (now (output .entry)) r (now (output .exit)) ⌝ }
 {
     let length = dearest::list_length(ranks, n);
     if let Verdict::Refused(r) = serving::output_row(output.len(), length) {
@@ -30,11 +24,10 @@ fn write_ranks(output: &mut [u8], ranks: &[u64; Limits::DEAREST], n: usize) -> W
     }
 }
 
-// 14, or the list: the bytes of any service whose text of a task it is.
+// 14, or the list.
 pub fn write_list(output: &mut [u8], work: &[u32], h: Header, price: Price) -> WriteResult
     requires { ⌜ Readable price (now work) h ⌝ }
-    ensures { λ r. ⌜ ((print : Task → List ℕ) (t : Task) (w w′ : List ℕ) → listIn price (now (work .entry)) h ≡ print t → cleared w′ ≡ cleared w →
-        Writes print (task t) w (now (output .entry)) r w′ (now (output .exit))) ⌝ }
+    ensures { λ r. ⌜ Puts (listIn price (now (work .entry)) h) (now (output .entry)) r (now (output .exit)) ⌝ }
 {
     let mut ranks = [0u64; Limits::DEAREST];
     let n = dearest::rank_task(&mut ranks, work, h, price);

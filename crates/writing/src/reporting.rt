@@ -1,14 +1,10 @@
 // The report of a task by the sheet in the columns, or 14.
 ghost use mathlib.Core.Path.{_≡_};
-ghost use mathlib.Core.List.{List};
 ghost use lib.ListN.{length};
-ghost use Prim.Native.Nat.{ℕ};
 ghost use Rattle.model.specs.Rows.{rowVerdict};
-ghost use Rattle.model.specs.Task.{Task, task};
-ghost use Rattle.model.specs.Services.{cleared};
 ghost use Rattle.readout.specs.Readable.{Readable};
 ghost use Rattle.report.specs.Report.{reportIn};
-ghost use Rattle.serving.specs.Served.{lengthRow, Writes};
+ghost use Rattle.serving.specs.Served.{lengthRow, Puts};
 use model::Verdict;
 use model::WriteResult;
 use prices::Price;
@@ -25,11 +21,10 @@ fn report_row(room: usize, work: &[u32], h: Header, price: Price) -> Verdict
     serving::output_row(room, report::report_length(work, h, price))
 }
 
-// 14, or the report: the bytes of any service whose text of a task it is.
+// 14, or the report.
 pub fn write_report(output: &mut [u8], work: &[u32], h: Header, price: Price) -> WriteResult
     requires { ⌜ Readable price (now work) h ⌝ }
-    ensures { λ r. ⌜ ((print : Task → List ℕ) (t : Task) (w w′ : List ℕ) → reportIn price (now (work .entry)) h ≡ print t → cleared w′ ≡ cleared w →
-        Writes print (task t) w (now (output .entry)) r w′ (now (output .exit))) ⌝ }
+    ensures { λ r. ⌜ Puts (reportIn price (now (work .entry)) h) (now (output .entry)) r (now (output .exit)) ⌝ }
 {
     if let Verdict::Refused(r) = report_row(output.len(), work, h, price) {
         return serving::nothing_written(r);

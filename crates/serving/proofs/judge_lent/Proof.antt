@@ -8,7 +8,7 @@ use Rattle.serving.proofs.judge_lent.Statement.{statement}
 use Rattle.serving.proofs.judge_lent.Tie as tie
 
 returns : tie.Need-returns
-returns c asked rows l p e = lent-refused asked rows _ _ (verdict-some rows (sym e ∙ c .before .first .given .1))
+returns c asked rows l e p = lent-refused asked rows _ _ (verdict-some rows (sym e ∙ c .before .first .given .1))
 
 judge-text-requires : tie.Need-judge-text-requires
 judge-text-requires c κs =
@@ -16,9 +16,9 @@ judge-text-requires c κs =
     omega (arith, p)
 
 returns-2 : tie.Need-returns-2
-returns-2 c asked rows l p e =
-    let i = c .before .before .before .before .enum-told .given .1 in
-    lent-judged asked rows _ (verdict-none rows (sym e ∙ i)) (omega arith) (rw i at p) (c .before .before .judge-text .ensures)
+returns-2 c asked rows l e p =
+    let n = verdict-none rows (sym e ∙ c .before .before .before .before .enum-told .given .1) in
+    lent-judged asked rows _ n (omega arith) (p n) (c .before .before .judge-text .ensures)
 
 pub judge-lent-spec : {M : Type 1} → statement M
 judge-lent-spec =

@@ -8,7 +8,7 @@ write-task-requires : tie.Need-write-task-requires
 write-task-requires c κs = rw (c .before .before .before .judgement2 .given .1) at (c .before .before .before .before .before .before .before .pre)
 
 returns : tie.Need-returns
-returns c = rw (c .before .before .judgement .given .1, c .nothing-written .ensures) (none-written _ _ _ _)
+returns c = rw (c .before .before .judgement .given .1, c .nothing-written .ensures) (none-written _ _ _ _ _ _)
 
 returns-2 : tie.Need-returns-2
 returns-2 c =

@@ -7,9 +7,7 @@ use Rattle.writing.proofs.reporting.write_report.Statement.{statement}
 use Rattle.writing.proofs.reporting.write_report.Tie as tie
 
 returns : tie.Need-returns
-returns c print t w w′ e after =
-    let output = c .before .before .before .before .before .before .before .args .output .now in
-    rw (c .nothing-written .ensures) (too-short print output e (c .before .before .before .before .report-row .ensures) after (c .before .before .r .given .1))
+returns c = rw (c .nothing-written .ensures) (too-short _ _ (c .before .before .before .before .report-row .ensures) (c .before .before .r .given .1))
 
 put-report-requires : tie.Need-put-report-requires
 put-report-requires c κs = (
@@ -23,11 +21,10 @@ cast-t12 c =
     omega (arith, c .before .before .put-report .ensures .0, report-small (start .pre))
 
 returns-2 : tie.Need-returns-2
-returns-2 c print t w w′ e after =
-    let c6 = c .before .before .before .before .before .before in
-    let output = c6 .before .before .before .args .output .now in
+returns-2 c =
+    let row = c .before .before .before .before .before .before .report-row .ensures in
     let p = c .before .before .put-report .ensures in
-    long-enough print output e (c6 .report-row .ensures) after (c .before .before .before .before .enum-told .given .1) (p .0) (p .1)
+    long-enough _ _ row (c .before .before .before .before .enum-told .given .1) (p .0) (p .1)
 
 pub write-report-spec : {M : Type 1} → statement M
 write-report-spec =
