@@ -12,8 +12,7 @@ unfolding joined
 from-next-spec =
     tie.close
     (tie.spec
-    (λ c. search needs)
-    (λ c. search needs)
+    (λ c. search needs) (λ c. search needs)
     (λ c. let h = next-one (c .before .before .before .before .pre) (c .before .next .given .1) in search needs)
     (λ c. next-one (c .before .before .before .before .before .pre) (c .before .before .next .given .1))
     (λ c. search needs)

@@ -31,11 +31,7 @@ round-spec =
     loop-holds
     (λ c. omega arith)
     (λ c κs. (c .before .before .before .before .before .before .before .pre .0, omega arith, omega arith))
-    (λ c. omega arith)
-    (λ c. omega arith)
-    (λ c. omega arith)
-    (λ c. omega arith)
-    (λ c. omega arith)
+    (λ c. omega arith) (λ c. omega arith) (λ c. omega arith) (λ c. omega arith) (λ c. omega arith)
     (λ c.
     let s = c .before .before .before .before .before .before .before in
     let l = c .before .before .before .before .before .loop in (

@@ -52,8 +52,7 @@ write-figures-spec =
     Inv-loop
     μ-loop
     (λ c. (omega arith, c .before .pre, changed-none _ _ _))
-    (λ c. omega arith)
-    (λ c κs. search needs)
+    (λ c. omega arith) (λ c κs. search needs)
     write-figure-requires
     (λ c. omega (arith, c .before .before .before .before .before .before .before .before .before .before .before .loop-test .taken))
     loop-again

@@ -9,10 +9,7 @@ pub next-at-spec : {M : Type 1} → statement M
 next-at-spec =
     tie.close
     (tie.spec
-    (λ c. omega arith)
-    (λ c κs. omega arith)
-    (λ c. omega arith)
+    (λ c. omega arith) (λ c κs. omega arith) (λ c. omega arith)
     (λ c. access-leads _ _ _ (omega arith) (sym (c .if1 .taken) ∙ c .before .access-at .ensures))
-    (λ c κs. omega arith)
-    (λ c κs. omega arith)
+    (λ c κs. omega arith) (λ c κs. omega arith)
     (λ c. point-leads _ _ _ (omega arith) (c .next-of .ensures) (c .before .point-at .ensures)))

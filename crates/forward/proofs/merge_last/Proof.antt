@@ -9,8 +9,7 @@ merge-last-spec =
     tie.close
     (tie.spec
     (λ c. search needs) (λ c. search needs)
-    (λ c κs. search needs)
-    (λ c κs. search needs)
+    (λ c κs. search needs) (λ c κs. search needs)
     (λ c κs.
     let m = c .before .before .before .before .before .before .before .before in
     let u = m .before .before .before .before in

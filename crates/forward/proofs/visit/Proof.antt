@@ -30,9 +30,7 @@ visit-spec =
     let t = n .before .before .before .before .before .before in
     let p = t .before .before .before .before .before .before .before .before .before .pre in
     ready-visit (p .3 (p .2) .0) (t .take .ensures .0) (p .0) (p .1) (p .2) (n .next-at .ensures))
-    (λ c. search needs)
-    (λ c. search needs)
-    (λ c. search needs)
+    (λ c. search needs) (λ c. search needs) (λ c. search needs)
     (λ c.
     let r = c .before .before .before .before .before .before .propagate .ensures in
     let n = c .before .before .before .before .before .before .before .before .before .before in

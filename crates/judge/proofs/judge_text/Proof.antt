@@ -17,8 +17,7 @@ judge-text-spec =
     (tie.spec
     returns
     read-text-requires
-    (λ c. search needs)
-    (λ c. search needs)
+    (λ c. search needs) (λ c. search needs)
     (λ c κs.
     let r = read-task (c .before .before .before .before .before .before .read-text .ensures) (c .before .before .h .given .1) in
     (r .2, read-shape _ (r .0)))

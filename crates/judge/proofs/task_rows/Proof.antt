@@ -10,8 +10,7 @@ task-rows-spec =
     tie.close
     (tie.spec
     (λ c κs. c .before .pre .0)
-    (λ c. search needs)
-    (λ c. search needs)
+    (λ c. search needs) (λ c. search needs)
     (λ c κs.
     let a = c .before .before .before .before in
     (a .pre .0, a .pre .1, linked (taskOf (a .args .work .now) (a .args .h)) (c .before .before .link-rows .ensures) (c .enum-told .given .1)))

@@ -13,9 +13,7 @@ pub with-rows-spec : {M : Type 1} → statement M
 with-rows-spec =
     tie.close
     (tie.spec
-    (λ c κs. search needs)
-    (λ c. search needs)
-    (λ c. search needs)
+    (λ c κs. search needs) (λ c. search needs) (λ c. search needs)
     (λ c.
     let a = c .before .before .before .before .before in
     rows-refuse (a .pre .0) (a .pre .1) (c .before .before .before .task-rows .ensures) (c .before .r .given .1))

@@ -7,7 +7,6 @@ pub both-fit-spec : {M : Type 1} → statement M
 both-fit-spec =
     tie.close
     (tie.spec
-    (λ c κs. search needs)
-    (λ c κs. search needs)
+    (λ c κs. search needs) (λ c κs. search needs)
     (λ c. rw (← c .before .before .target-fits .ensures, c .before .if1 .taken) (c .target-fits2 .ensures))
     (λ c. rw (← c .before .target-fits .ensures, c .if1 .left)))

@@ -15,9 +15,7 @@ ensure-fits-spec =
     tie.close
     (tie.spec
     (λ c. rw (c .if1 .taken))
-    (λ c. search needs)
-    (λ c κs. search needs)
-    (λ c κs. search needs)
+    (λ c. search needs) (λ c κs. search needs) (λ c κs. search needs)
     (λ c.
     let i = c .before in
     let a = i .before .before .before .before .args in

@@ -60,17 +60,12 @@ func-rows-spec =
     let pre = s .before .before .pre in
     let e = s .span-at .ensures in
     (omega arith, rw e (lies-in (pre .0) _ (pre .1)), func-start (pre .0) _ (pre .1) _ e))
-    (λ c. omega arith)
-    (λ c κs. omega arith)
-    (λ c κs. search needs)
-    (λ c. search needs)
+    (λ c. omega arith) (λ c κs. omega arith) (λ c κs. search needs) (λ c. search needs)
     (λ c.
     let k = c .before .before .before in
     let l = k .before .before .before .before .before in
     search-off _ _ _ (l .loop .inv .2) (k .link-row .ensures) (c .before .v .given .1) (l .loop .inv .0))
-    (λ c. search needs)
-    (λ c. omega arith)
-    (λ c. omega arith)
+    (λ c. search needs) (λ c. omega arith) (λ c. omega arith)
     loop-again
     (λ c κs. search needs)
     returns-3)

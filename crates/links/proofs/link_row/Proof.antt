@@ -9,10 +9,7 @@ pub link-row-spec : {M : Type 1} → statement M
 link-row-spec =
     tie.close
     (tie.spec
-    (λ c. search needs)
-    (λ c κs. search needs)
-    (λ c κs. search needs)
-    (λ c κs. search needs)
+    (λ c. search needs) (λ c κs. search needs) (λ c κs. search needs) (λ c κs. search needs)
     (λ c.
     let x = c .before .before in
     let pre = x .before .before .before .pre in

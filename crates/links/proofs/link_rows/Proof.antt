@@ -23,15 +23,12 @@ link-rows-spec =
     Inv-loop
     μ-loop
     (λ c. (search needs, links-start (c .before .pre)))
-    (λ c κs. search needs)
-    (λ c. search needs)
+    (λ c κs. search needs) (λ c. search needs)
     (λ c.
     let k = c .before .before .before in
     let l = k .before .before in
     search-off _ _ _ (l .loop .inv .1) (k .func-rows .ensures) (c .before .v .given .1) (k .before .loop-test .taken))
-    (λ c. search needs)
-    (λ c. omega arith)
-    (λ c. omega arith)
+    (λ c. search needs) (λ c. omega arith) (λ c. omega arith)
     (λ c.
     let k = c .before .before in
     let l = k .before .before in

@@ -11,6 +11,5 @@ point-in-spec =
     tie.close
     (tie.spec
     (λ c. point-past _ _ _ _ (c .if1 .taken))
-    (λ c. search needs)
-    (λ c κs. search needs)
+    (λ c. search needs) (λ c κs. search needs)
     (λ c. c .point-at .ensures ∙ sym (point-there _ _ _ _ (c .before .before .if1 .left))))

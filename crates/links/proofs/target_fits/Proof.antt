@@ -8,6 +8,5 @@ pub target-fits-spec : {M : Type 1} → statement M
 target-fits-spec =
     tie.close
     (tie.spec
-    (λ c κs. search needs)
-    (λ c κs. search needs)
+    (λ c κs. search needs) (λ c κs. search needs)
     (λ c. rw (length-points, c .is-ensure .ensures, c .before .point-in .ensures)))

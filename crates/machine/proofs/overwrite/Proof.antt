@@ -36,10 +36,7 @@ overwrite-spec =
     Inv-loop
     μ-loop
     (λ c. (omega arith, fill-none (c .args .cache .now) (c .args .v), refl))
-    (λ c. omega arith)
-    (λ c. omega arith)
-    (λ c. omega arith)
-    (λ c. omega arith)
+    (λ c. omega arith) (λ c. omega arith) (λ c. omega arith) (λ c. omega arith)
     loop-again
     (λ c. omega arith)
     returns)

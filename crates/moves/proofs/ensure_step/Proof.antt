@@ -30,7 +30,5 @@ ensure-step-spec =
     (λ c κs. search needs)
     moves-price-requires
     (λ c. omega (arith, inside-small (c .before .before .before .before .before .before .before .before .before .before .before .before .pre .0)))
-    (λ c κs. search needs)
-    (λ c κs. search needs)
-    (λ c. search needs)
+    (λ c κs. search needs) (λ c κs. search needs) (λ c. search needs)
     returns)

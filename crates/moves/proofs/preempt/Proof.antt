@@ -43,6 +43,5 @@ preempt-spec =
     moves-price-requires
     added-requires
     added-requires-2
-    (λ c. search needs)
-    (λ c. search needs)
+    (λ c. search needs) (λ c. search needs)
     returns)

@@ -20,13 +20,7 @@ sink-spec =
     Inv-loop
     μ-loop
     (λ c. sinking-first _ _ (omega arith))
-    (λ c. omega arith)
-    (λ c. omega arith)
-    (λ c κs. search needs)
-    (λ c. omega arith)
-    (λ c. omega arith)
-    (λ c κs. search needs)
-    (λ c. omega arith)
+    (λ c. omega arith) (λ c. omega arith) (λ c κs. search needs) (λ c. omega arith) (λ c. omega arith) (λ c κs. search needs) (λ c. omega arith)
     (λ c. omega arith)
     (λ c. sinking-on (c .before .before .before .before .loop .inv) (omega arith) (omega arith) (omega arith))
     (λ c. sinking-end (c .before .loop .inv) (omega arith)))

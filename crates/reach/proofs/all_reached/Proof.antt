@@ -22,9 +22,7 @@ all-reached-spec =
     Inv-loop
     μ-loop
     (λ c. (omega arith, λ e q h. absurd (omega arith)))
-    (λ c. omega arith)
-    (λ c. omega arith)
-    (λ c. omega arith)
+    (λ c. omega arith) (λ c. omega arith) (λ c. omega arith)
     (λ c. (omega arith, λ e. absurd (true≢false (sym e))))
     (λ c. omega arith)
     (λ c. (omega arith, λ e. below-more _ _ (c .before .before .before .loop .inv .1 e) (ap not (ne-eqb _ 0 (c .if1 .left)))))

@@ -37,13 +37,9 @@ fill-kills-spec =
     Inv-loop
     μ-loop
     (λ c. (omega arith, refl, λ q h. absurd (omega arith)))
-    (λ c. omega arith)
-    (λ c κs. omega arith)
+    (λ c. omega arith) (λ c κs. omega arith)
     (λ c κs. rw (c .point-at .ensures) (offsets-fit (c .before .before .before .before .before .before .before .pre .0) _ (c .before .before .if1 .taken)))
-    (λ c. omega arith)
-    (λ c. omega arith)
-    (λ c. omega arith)
-    (λ c. omega arith)
+    (λ c. omega arith) (λ c. omega arith) (λ c. omega arith) (λ c. omega arith)
     loop-again
     (λ c. c .before .before .loop .inv .1)
     (λ c q h. c .before .before .loop .inv .2 q (omega arith)))

@@ -32,10 +32,8 @@ first-unreached-spec =
     (λ c κs. search needs)
     (λ c. sym (ap rowVerdict (failing-none _ _ _ _ (c .before .all-reached .ensures (c .if1 .taken)))))
     (λ c. searching-none _ _ _ _)
-    (λ c. omega arith)
-    (λ c κs. omega arith)
+    (λ c. omega arith) (λ c κs. omega arith)
     returns-2
-    (λ c. omega arith)
-    (λ c. omega arith)
+    (λ c. omega arith) (λ c. omega arith)
     (λ c. searching-on _ _ _ _ _ (c .before .before .before .before .loop .inv) (ap not (ne-eqb _ 0 (c .if3 .left))) (c .before .before .if2 .taken))
     (λ c. searching-end _ _ _ _ _ (c .before .before .loop .inv) (c .if2 .left)))

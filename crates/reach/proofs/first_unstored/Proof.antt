@@ -34,14 +34,10 @@ first-unstored-spec =
     Inv-loop
     μ-loop
     (λ c. searching-none _ _ _ _)
-    (λ c. omega arith)
-    (λ c. omega arith)
-    (λ c. omega arith)
-    (λ c κs. omega arith)
+    (λ c. omega arith) (λ c. omega arith) (λ c. omega arith) (λ c κs. omega arith)
     (λ c κs. let t = c .before .before .before in rw (c .point-at .ensures) (offsets-fit (t .before .before .before .before .before .pre .1) _ (t .if1 .taken)))
     (λ c κs. omega arith)
     returns
-    (λ c. omega arith)
-    (λ c. omega arith)
+    (λ c. omega arith) (λ c. omega arith)
     loop-again
     (λ c. searching-end _ _ _ _ _ (c .before .before .loop .inv) (c .if1 .left)))

@@ -68,8 +68,6 @@ rows-from-spec =
     (λ c κs. search needs)
     returns
     first-unstored-requires
-    (λ c κs. search needs)
-    (λ c. omega arith)
-    (λ c. omega arith)
+    (λ c κs. search needs) (λ c. omega arith) (λ c. omega arith)
     loop-again
     (λ c. from-end _ _ _ _ (c .if1 .left) ∙ c .before .before .loop .inv))

@@ -19,12 +19,7 @@ pub read-func-spec : {M : Type 1} → statement M
 read-func-spec =
     tie.close
     (tie.spec
-    (λ c. search needs)
-    (λ c. search needs)
-    (λ c. search needs)
-    (λ c κs. search needs)
-    (λ c. search needs)
-    (λ c. search needs)
+    (λ c. search needs) (λ c. search needs) (λ c. search needs) (λ c κs. search needs) (λ c. search needs) (λ c. search needs)
     (λ c.
     let f = c .before .before in
     (func-none _ _ _ _ _ (f .read-func .ensures) (c .enum-told .given .1) (f .before .before .before .before .pre .2), kept-same _ _))

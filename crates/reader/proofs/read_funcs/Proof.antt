@@ -21,14 +21,12 @@ read-funcs-spec =
     Inv-loop
     μ-loop
     (λ c. funcs-first _ _ _ _ (c .before .before .pre))
-    (λ c κs. search needs)
-    (λ c. search needs)
+    (λ c κs. search needs) (λ c. search needs)
     (λ c. let h = rw (c .before .next .given .1) at (c .before .before .before .before .before .read-func .ensures) in omega arith)
     (λ c.
     let f = c .before .before .before .before .before in
     funcs-on (f .before .before .before .before .loop .inv) (f .read-func .ensures) _ _ (c .before .next .given .1))
-    (λ c. search needs)
-    (λ c. search needs)
+    (λ c. search needs) (λ c. search needs)
     (λ c.
     let f = c .before .before .before .before .before in
     funcs-off (f .before .before .before .before .loop .inv) (f .read-func .ensures) _ (c .before .r .given .1))

@@ -30,16 +30,8 @@ read-points-spec =
     μ-loop
     (λ c κs. search needs)
     (λ c. let p = c .before .before .before .pre in body-first _ _ _ _ _ (p .0) (p .1))
-    (λ c. search needs)
-    (λ c. search needs)
-    (λ c. search needs)
-    (λ c. search needs)
-    (λ c. search needs)
-    (λ c κs. search needs)
-    (λ c. search needs)
-    (λ c κs. search needs)
-    (λ c. search needs)
-    (λ c. search needs)
+    (λ c. search needs) (λ c. search needs) (λ c. search needs) (λ c. search needs) (λ c. search needs) (λ c κs. search needs) (λ c. search needs)
+    (λ c κs. search needs) (λ c. search needs) (λ c. search needs)
     (λ c.
     let t = c .before .before .before .before .before in
     let x = t .before .before .before in
@@ -62,18 +54,13 @@ read-points-spec =
     let x = t .before .before .before in
     let i = x .before .before in
     body-on (i .before .before .before .loop .inv) (i .read-inside .ensures) (x .x .given .1) (t .take-point .ensures) (c .enum-told .given .1))
-    (λ c. search needs)
-    (λ c. search needs)
+    (λ c. search needs) (λ c. search needs)
     (λ c.
     let i = c .before .before .before in
     body-empty (i .before .before .before .loop .inv) (i .read-inside .ensures) (c .before .enum-told2 .given .1) (c .if1 .taken))
-    (λ c κs. search needs)
-    (λ c. search needs)
-    (λ c. search needs)
-    (λ c. search needs)
+    (λ c κs. search needs) (λ c. search needs) (λ c. search needs) (λ c. search needs)
     returns-3
-    (λ c. search needs)
-    (λ c. search needs)
+    (λ c. search needs) (λ c. search needs)
     (λ c.
     let i = c .before .before in
     body-other (i .before .before .before .loop .inv) (i .read-inside .ensures) (c .enum-told3 .given .1)))

@@ -25,12 +25,7 @@ read-text-spec =
     tie.close
     (tie.spec
     returns
-    (λ c. search needs)
-    (λ c. search needs)
-    (λ c. search needs)
-    (λ c κs. search needs)
-    (λ c. search needs)
-    (λ c. search needs)
+    (λ c. search needs) (λ c. search needs) (λ c. search needs) (λ c κs. search needs) (λ c. search needs) (λ c. search needs)
     (λ c. let l = c .before .before in (stack-none _ _ (l .read-stack .ensures) (c .enum-told .given .1) (omega arith), kept-same _ _))
     (λ c κs. let o = opens (c .before .before .before) in omega arith)
     (λ c. search needs)

@@ -19,9 +19,7 @@ take-point-spec =
     let f = c .before .before in
     let e = sym (f .offset-fits .ensures) ∙ not-false _ (c .before .if1 .left) in
     (point-many _ _ _ _ _ _ (f .before .before .pre .0) e (omega arith), refl))
-    (λ c. search needs)
-    (λ c κs. search needs)
-    (λ c. search needs)
+    (λ c. search needs) (λ c κs. search needs) (λ c. search needs)
     (λ c.
     let p = c .before .before in
     let i = p .before .before .before in

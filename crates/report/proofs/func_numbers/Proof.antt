@@ -14,6 +14,5 @@ pub func-numbers-spec : {M : Type 1} → statement M
 func-numbers-spec =
     tie.close
     (tie.spec
-    (λ c κs. search needs)
-    (λ c. search needs)
+    (λ c κs. search needs) (λ c. search needs)
     returns)

@@ -50,10 +50,7 @@ pub put-func-spec : {M : Type 1} → statement M
 put-func-spec =
     tie.close
     (tie.spec
-    (λ c κs. search needs)
-    (λ c. search needs)
-    (λ c κs. search needs)
-    (λ c. search needs)
+    (λ c κs. search needs) (λ c. search needs) (λ c κs. search needs) (λ c. search needs)
     put-line-requires
     (λ c κs. search needs)
     put-points-requires

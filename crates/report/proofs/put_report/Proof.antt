@@ -48,8 +48,7 @@ put-report-spec =
     (λ c. search needs)
     put-requires
     put-funcs-requires
-    (λ c. search needs)
-    (λ c. search needs)
+    (λ c. search needs) (λ c. search needs)
     put-line-requires
     (λ c. search needs)
     put-requires-2

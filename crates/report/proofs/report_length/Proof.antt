@@ -42,9 +42,7 @@ report-length-spec =
     tie.close
     (tie.spec
     count-funcs-requires
-    (λ c. search needs)
-    (λ c. search needs)
-    (λ c κs. search needs)
+    (λ c. search needs) (λ c. search needs) (λ c κs. search needs)
     add-result
     add-result-2
     returns)

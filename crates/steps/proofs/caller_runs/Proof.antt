@@ -10,14 +10,6 @@ caller-runs-spec =
     tie.close
     (tie.spec
     (λ c. (callers-none _ _ (c .if1 .taken), refl, refl, refl))
-    (λ c. search needs)
-    (λ c. search needs)
-    (λ c. search needs)
-    (λ c. search needs)
-    (λ c. search needs)
-    (λ c κs. search needs)
-    (λ c. search needs)
-    (λ c. search needs)
-    (λ c. search needs)
-    (λ c κs. search needs)
+    (λ c. search needs) (λ c. search needs) (λ c. search needs) (λ c. search needs) (λ c. search needs) (λ c κs. search needs) (λ c. search needs)
+    (λ c. search needs) (λ c. search needs) (λ c κs. search needs)
     (λ c. (caller-runs _ _ _ _ (c .before .before .before .before .if1 .left) (c .before .before .wide .ensures) (c .wide2 .ensures), refl, refl, refl)))

@@ -8,7 +8,6 @@ pub lazy-of-spec : {M : Type 1} → statement M
 lazy-of-spec =
     tie.close
     (tie.spec
-    (λ c. search needs)
-    (λ c. search needs)
+    (λ c. search needs) (λ c. search needs)
     (λ c. number-eager _ (c .enum-told .given .1))
     (λ c. number-lazy _ (c .enum-told2 .given .1)))

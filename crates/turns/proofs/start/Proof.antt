@@ -15,8 +15,7 @@ pub start-spec : {M : Type 1} → statement M
 start-spec =
     tie.close
     (tie.spec
-    (λ c κs. search needs)
-    (λ c κs. search needs)
+    (λ c κs. search needs) (λ c κs. search needs)
     (λ c κs. start-room (c .before .before .before .pre .0) (c .before .before .before .pre .1) _ _ (c .before .span-at .ensures) (c .before .before .before .pre .2))
     (λ c κs. search needs)
     returns)

@@ -14,6 +14,5 @@ put-spec =
     (λ c. omega (arith, absent-room (c .pre) .1))
     (λ c. absent-room (c .pre) .2)
     (λ c. omega (arith, absent-room (c .pre) .3))
-    (λ c. search needs)
-    (λ c. search needs)
+    (λ c. search needs) (λ c. search needs)
     (λ c. (refl, absent-added (c .pre))))

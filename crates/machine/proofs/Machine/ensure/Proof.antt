@@ -31,6 +31,5 @@ ensure-spec =
     (λ c κs. let p = c .before .before .before .pre in (top-in (p .0), p .1 .fits, p .0 .few))
     (λ c. search needs)
     fill-requires
-    (λ c κs. search needs)
-    (λ c. search needs)
+    (λ c κs. search needs) (λ c. search needs)
     returns)

@@ -31,6 +31,5 @@ free-spec =
     (tie.spec
     (λ c. search needs)
     (λ c κs. let p = c .before .before .pre in (top-in (p .0), omega (arith, p .2), p .0 .few))
-    (λ c κs. search needs)
-    (λ c κs. search needs)
+    (λ c κs. search needs) (λ c κs. search needs)
     returns)

@@ -34,9 +34,5 @@ store-spec =
     tie.close
     (tie.spec
     (λ c κs. (top-in (c .before .pre .0), omega (arith, c .before .pre .1), c .before .pre .0 .few))
-    (λ c. search needs)
-    (λ c. search needs)
-    (λ c. search needs)
-    (λ c κs. search needs)
-    (λ c. search needs)
+    (λ c. search needs) (λ c. search needs) (λ c. search needs) (λ c κs. search needs) (λ c. search needs)
     returns)

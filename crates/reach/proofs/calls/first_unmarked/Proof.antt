@@ -43,11 +43,9 @@ first-unmarked-spec =
     Inv-loop
     μ-loop
     (λ c. (omega arith, calls-start _ (c .before .args .h)))
-    (λ c. omega arith)
-    (λ c κs. omega arith)
+    (λ c. omega arith) (λ c κs. omega arith)
     opening-line-requires
     returns
-    (λ c. omega arith)
-    (λ c. omega arith)
+    (λ c. omega arith) (λ c. omega arith)
     loop-again
     (λ c. search-end _ _ _ (c .before .before .loop .inv .1) (c .if1 .left)))

@@ -10,10 +10,7 @@ pub mark-spec : {M : Type 1} → statement M
 mark-spec =
     tie.close
     (tie.spec
-    (λ c. search needs)
-    (λ c. search needs)
-    (λ c. search needs)
-    (λ c. search needs)
+    (λ c. search needs) (λ c. search needs) (λ c. search needs) (λ c. search needs)
     (λ c f h. mark-set (c .before .before .before .before .args .marks .now) f (c .before .before .x .given .1) (omega arith))
     (λ c f h. mark-kept (c .before .before .before .before .args .marks .now) f (c .before .before .x .given .1) (omega arith))
     (λ c f h. mark-none (c .before .args .marks .now) f (c .before .args .x) (not-call (c .before .args .x) (c .match .keys2))))

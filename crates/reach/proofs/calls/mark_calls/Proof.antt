@@ -29,9 +29,6 @@ mark-calls-spec =
     Inv-loop
     μ-loop
     (λ c. (omega arith, λ f h. mark-start (c .before .args .work .now) f (c .before .pre .2 f)))
-    (λ c κs. omega arith)
-    (λ c κs. omega arith)
-    (λ c. omega arith)
-    (λ c. omega arith)
+    (λ c κs. omega arith) (λ c κs. omega arith) (λ c. omega arith) (λ c. omega arith)
     loop-again
     (λ c f h. let e : c .before .loop .i ≡ c .before .before .before .args .points = omega arith in rw e at (c .before .loop .inv .1 f h)))

@@ -15,8 +15,7 @@ access-spec =
     (λ c κs. ltb→lt (c .before .x .given .0 .0) mostStack (rw (c .before .x .given .1) at (c .before .before .before .pre)))
     (λ c. search needs)
     (λ c. load-passes _ (c .before .before .before .x .given .1) (c .before .bit-of .ensures) (λ e. omega (arith, c .if1 .left)))
-    (λ c κs. search needs)
-    (λ c κs. search needs)
+    (λ c κs. search needs) (λ c κs. search needs)
     (λ c.
     let k = c .before .kill-of in
     let l = not-load (c .before .before .before .args .x) (c .before .before .match .keys2) in

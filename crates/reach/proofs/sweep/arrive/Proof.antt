@@ -10,12 +10,7 @@ pub arrive-spec : {M : Type 1} → statement M
 arrive-spec =
     tie.close
     (tie.spec
-    (λ c κs. search needs)
-    (λ c. search needs)
-    (λ c. search needs)
-    (λ c. search needs)
+    (λ c κs. search needs) (λ c. search needs) (λ c. search needs) (λ c. search needs)
     (λ c e. moved-above _ _ _ _ (omega arith) (omega arith) (omega arith) (c .union-at .ensures))
-    (λ c. search needs)
-    (λ c. search needs)
-    (λ c κs. search needs)
+    (λ c. search needs) (λ c. search needs) (λ c κs. search needs)
     (λ c e. moved-below _ _ _ _ (omega arith) (c .union-of .ensures) (eqb-true _ _ e)))

@@ -39,7 +39,6 @@ funcs-swept-spec =
     (λ c. omega (arith, c .before .before .before .before .before .pre .0 .0 .few))
     points-swept-requires
     (λ c. c .before .before .before .before .before .before .before .loop .inv .1)
-    (λ c. omega arith)
-    (λ c. omega arith)
+    (λ c. omega arith) (λ c. omega arith)
     loop-again
     (λ c. c .before .before .loop .inv .1))

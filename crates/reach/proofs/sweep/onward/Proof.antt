@@ -20,9 +20,7 @@ pub onward-spec : {M : Type 1} → statement M
 onward-spec =
     tie.close
     (tie.spec
-    (λ c. search needs)
-    (λ c. search needs)
-    (λ c. search needs)
+    (λ c. search needs) (λ c. search needs) (λ c. search needs)
     (λ c x h. (h, ap targets (c .before .before .next .given .1) ∙ ap (λ (v : ℕ). v ∷ []) (c .if1 .taken ∙ add-one _), refl, refl))
     (λ c κs. c .before .before .before .before .before .before .pre .1 _ (rw (c .before .before .before .before .next .given .1) (List·Memᴰ·head refl)))
     (λ c x h. (h, rw (c .before .before .before .before .before .before .next .given .1) (c .before .arrive .ensures (c .if2 .taken))))
@@ -34,5 +32,4 @@ onward-spec =
     z .before .before .pre .1 _ (rw (z .next2 .given .1) (List·Memᴰ·tail (List·Memᴰ·head refl))))
     returns-4
     (λ c x h. (h, rw (c .enum-told .given .1) (moved-none _ _)))
-    (λ c. search needs)
-    (λ c. search needs))
+    (λ c. search needs) (λ c. search needs))

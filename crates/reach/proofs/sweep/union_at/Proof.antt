@@ -8,9 +8,6 @@ pub union-at-spec : {M : Type 1} → statement M
 union-at-spec =
     tie.close
     (tie.spec
-    (λ c. search needs)
-    (λ c. search needs)
-    (λ c. search needs)
-    (λ c κs. search needs)
+    (λ c. search needs) (λ c. search needs) (λ c. search needs) (λ c κs. search needs)
     (λ c. union-marked (c .union-of .ensures))
     (λ c. union-bare (c .if1 .left)))

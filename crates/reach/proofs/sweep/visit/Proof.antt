@@ -32,9 +32,7 @@ pub visit-spec : {M : Type 1} → statement M
 visit-spec =
     tie.close
     (tie.spec
-    (λ c. search needs)
-    (λ c κs. search needs)
-    (λ c κs. search needs)
+    (λ c. search needs) (λ c κs. search needs) (λ c κs. search needs)
     (λ c κs. rw (c .point-at .ensures) (offsets-fit (c .before .before .before .before .before .pre .0) _ (c .before .before .before .before .before .pre .1)))
     returns
     (λ c κs. search needs)
