@@ -14,17 +14,17 @@ use Rattle.model.specs.declared.Refusal.{Refusal}
 use Rattle.model.specs.declared.Verdict.{Verdict}
 use Rattle.model.specs.declared.Verdict.the-variants.{Accepted, Refused}
 use Rattle.model.specs.declared.RunResult.{RunResult}
-use Rattle.model.specs.Limits.{mostEventNumbers}
+use Rattle.model.specs.Limits.{workLength, mostEventNumbers}
 use Rattle.model.specs.Basic.{unless, _orElse_}
 use Rattle.model.specs.Rows.{refuse, rowVerdict}
 use Rattle.model.specs.Task.{Task, count, Judged, refused, task}
 use Rattle.model.specs.Core.{idle}
 use Rattle.model.specs.Figures.{longest}
-use Rattle.model.specs.Sheet.{Sheet, movePrice, pricedSheet}
-use Rattle.model.specs.Refusal.{withRows, pricedRows, runRows}
+use Rattle.model.specs.Sheet.{Sheet, movePrice, pricedSheet, sheetOf}
+use Rattle.model.specs.Refusal.{withRows, rowsBefore, runRows}
 use Rattle.model.specs.Plain.{eventsOf}
 use Rattle.model.specs.Run.{Ran}
-use Rattle.model.specs.Services.{cleared, over, resultOf, AfterRun, runAs, runJudged, runWith, runOf, Demand3, LeavesClean, PaysOnce}
+use Rattle.model.specs.Services.{cleared, over, resultOf, AfterRun, afterRun, runAs, runJudged, runWith, runOf, runJudgedOf, Demand3, LeavesClean, PaysOnce}
 use Rattle.model.specs.WellFormed.{WellFormed}
 use Rattle.theory.specs.Agree.{Agree}
 use Rattle.theory.specs.Without.{firstRow, nothingDone, untouched}
@@ -51,7 +51,7 @@ use Rattle.run.specs.Events.{Fitting, Serves, ServesIn}
 use Rattle.judge.specs.declared.Judgement.{Judgement}
 use Rattle.judge.specs.Judgement.{judgedIn}
 use Rattle.serving.specs.Served.{Lent}
-use Rattle.running.specs.Performs.{bufferRows, noneDone, finishedBefore, afterRun, performed, Performs}
+use Rattle.running.specs.Performs.{bufferRows, noneDone, finishedBefore, Performs}
 use Rattle.serving.proofs.Laws.{own-rows}
 
 -- ---- 16, 17 and 18 by their tests
@@ -144,28 +144,31 @@ unfolding funcFigures
 first-room price w h g same = ap (λ (z : FuncFigures). z .longest) g ∙ ap (λ (z : Task). longest z 0) same
 
 -- the run of an accepted task of n functions, where v is the verdict of 16, 17 and 18
-module _ (x : Eviction) (price : Price) (t : Task) {n : ℕ} (c : count t ≡ n) (events answers cache memory : List ℕ) {v : Verdict}
+module _ (x : Eviction) (rows : Task → Option Refusal) (sheet : Task → Sheet) (t : Task) (passed : rows t ≡ none) {n : ℕ} (c : count t ≡ n)
+    (events answers cache memory : List ℕ) {v : Verdict}
     (e : v ≡ rowVerdict (bufferRows (length events) (length answers) (length cache) n (t .stack))) where
   pub unfit : {q : Refusal} {r : RunResult} (w : List ℕ) → v ≡ Refused q → r ≡ noneDone q
-      → Performs x price (task t) w events answers cache memory r w answers cache memory
+      → Performs x rows sheet (task t) w events answers cache memory r w answers cache memory
   unfit {q = q} w o i =
       record {
-        left = λ work. rw (rows-found (length events) (length answers) (length cache) (length memory) n t c (some q) (verdict-some _ (sym e ∙ o)))
+        left = λ work.
+            rw (passed, rows-found (length events) (length answers) (length cache) (length memory) n t c (some q) (verdict-some _ (sym e ∙ o)))
             (ap (λ (z : RunResult). afterRun z work answers cache memory) i);
         after = refl;
       }
 
   -- there is no function 0
   pub all-finished : {r : RunResult} (w : List ℕ) → v ≡ Accepted → n ≡ 0 → r ≡ finishedBefore (length events)
-      → Performs x price (task t) w events answers cache memory r w answers cache memory
+      → Performs x rows sheet (task t) w events answers cache memory r w answers cache memory
   all-finished w o z i =
       let m : bufferRows (length events) (length answers) (length cache) n (t .stack) ≡ none = verdict-none _ (sym e ∙ o) in
       let p = passes (length events) (length answers) (length cache) n (t .stack) m in
       record {
         left = λ work.
-            rw (rows-found (length events) (length answers) (length cache) (length memory) n t c none m, longest-none t (c ∙ z), leb·zero (length memory))
+            rw
+            (passed, rows-found (length events) (length answers) (length cache) (length memory) n t c none m, longest-none t (c ∙ z), leb·zero (length memory))
             (ap (λ (y : RunResult). afterRun y work answers cache memory) i ∙ finished-after events work answers cache memory (p .paired)
-            ∙ sym (finished-run x (priceOf price) t (c ∙ z) work (eventsOf events) answers cache memory));
+            ∙ sym (finished-run x sheet t (c ∙ z) work (eventsOf events) answers cache memory));
         after = refl;
       }
 
@@ -175,26 +178,26 @@ module _ (x : Eviction) (price : Price) (t : Task) {n : ℕ} (c : count t ≡ n)
         ≡ unless (leb (longest t 0) (length memory)) (refuse MemoryTooSmall (longest t 0))
     rows-are = rows-found (length events) (length answers) (length cache) (length memory) n t c none (verdict-none _ (sym e ∙ o))
 
-    module _ {w w′ : List ℕ} {r : RunResult} (after : cleared w′ ≡ cleared w) where
+    module _ {w w′ : List ℕ} {r : RunResult} (after : cleared workLength w′ ≡ cleared workLength w) where
       pub too-little : length memory < room → r ≡ noneDone (refuse MemoryTooSmall room)
-          → Performs x price (task t) w events answers cache memory r w′ answers cache memory
+          → Performs x rows sheet (task t) w events answers cache memory r w′ answers cache memory
       too-little h i =
           let l : length memory < longest t 0 = omega (arith, room-is) in
           record {
-            left = λ work. rw (rows-are, lt-leb (longest t 0) (length memory) l)
+            left = λ work. rw (passed, rows-are, lt-leb (longest t 0) (length memory) l)
                 (ap (λ (z : RunResult). afterRun z work answers cache memory) (i ∙ ap (λ (z : ℕ). noneDone (refuse MemoryTooSmall z)) room-is));
             after = after;
           }
 
       -- t″: the task as its events are run
       pub all-run : {t″ : Task} {w″ answers′ cache′ memory′ : List ℕ} → t″ ≡ t → room ≤ length memory
-          → Serves x t″ (pricedSheet (priceOf price) t″) events answers cache memory w′ r answers′ cache′ memory′ w″
-          → cleared w″ ≡ cleared w′ → Performs x price (task t) w events answers cache memory r w″ answers′ cache′ memory′
+          → Serves x t″ (sheet t″) events answers cache memory w′ r answers′ cache′ memory′ w″
+          → cleared workLength w″ ≡ cleared workLength w′ → Performs x rows sheet (task t) w events answers cache memory r w″ answers′ cache′ memory′
       all-run i h s d =
           let l : longest t 0 ≤ length memory = omega (arith, room-is) in
           let z = rw i at s in
           record {
-            left = λ work. rw (rows-are, le-leb (longest t 0) (length memory) l)
+            left = λ work. rw (passed, rows-are, le-leb (longest t 0) (length memory) l)
                 (λ i. afterRun (z .returned i) work (z .answered i) (z .cached i) (z .stored i));
             after = d ∙ after;
           }
@@ -254,43 +257,34 @@ module _ {price : Price} (w : List ℕ) {w′ : List ℕ} {h : Header} (f : Figu
 
 -- ---- what was judged
 
-pub none-run : (x : Eviction) (price : Price) (q : Refusal) (w events answers cache memory : List ℕ)
-    → Performs x price (refused q) w events answers cache memory (noneDone q) w answers cache memory
-none-run x price q w events answers cache memory = record { left = λ work. refl; after = refl }
+pub none-run : (x : Eviction) (rows : Task → Option Refusal) (sheet : Task → Sheet) (q : Refusal) (w events answers cache memory : List ℕ)
+    → Performs x rows sheet (refused q) w events answers cache memory (noneDone q) w answers cache memory
+none-run x rows sheet q w events answers cache memory = record { left = λ work. refl; after = refl }
 
--- the service
-module _ {x : Eviction} {price : Price} {text w w′ w″ events answers cache memory answers′ cache′ memory′ : List ℕ} {j : Judgement} {r : RunResult}
-    (a : Lent (pricedRows (length w) (price .start) (price .each)) text w j w′)
-    (b : Performs x price (judgedIn w′ j) w′ events answers cache memory r w″ answers′ cache′ memory′) {l : List ℕ} (c : l ≡ cleared w″) where
-  run-is : runOf x text (price .start) (price .each) w events answers cache memory
-      ≡ performed x price (judgedIn w′ j) (cleared w) events answers cache memory
+-- the service, whose working space is l in the end
+module _ {x : Eviction} {first : Option Refusal} {rows : Task → Option Refusal} {sheet : Task → Sheet}
+    {text w w′ w″ events answers cache memory answers′ cache′ memory′ l : List ℕ} {j : Judgement} {r : RunResult} (a : Lent workLength first text w j w′)
+    (b : Performs x rows sheet (judgedIn w′ j) w′ events answers cache memory r w″ answers′ cache′ memory′) (c : l ≡ cleared workLength w″) where
+  pub run-left : afterRun r l answers′ cache′ memory′ ≡ runWith x sheet first rows text w events answers cache memory
   unfolding runWith runJudged
-  run-is =
-      ap
-      (λ (z : Judged). runAs x (priceOf price) z (cleared w) (eventsOf events) answers cache memory)
-      (own-rows (runRows (length events) (length answers) (length cache) (length memory)) _ text
-      ∙ ap (withRows (runRows (length events) (length answers) (length cache) (length memory))) (a .same))
+  run-left =
+      let own = rowsBefore rows (runRows (length events) (length answers) (length cache) (length memory)) in
+      ap (λ (z : List ℕ). afterRun r z answers′ cache′ memory′) (c ∙ b .after ∙ a .after) ∙ b .left (cleared workLength w)
+      ∙ ap (λ (z : Judged). runAs x sheet z (cleared workLength w) (eventsOf events) answers cache memory)
+      (sym (own-rows own first text ∙ ap (withRows own) (a .same)))
 
-  pub run-left : afterRun r l answers′ cache′ memory′ ≡ runOf x text (price .start) (price .each) w events answers cache memory
-  run-left = ap (λ (z : List ℕ). afterRun r z answers′ cache′ memory′) (c ∙ b .after ∙ a .after) ∙ b .left (cleared w) ∙ sym run-is
+-- what is so of that where it is run or run_lazy, clause by clause
+abbrev RunHolds : Eviction → List ℕ → ℕ → ℕ → (work events answers cache memory : List ℕ) → AfterRun → Type 0
+RunHolds x text start each work events answers cache memory after =
+    let j = runJudgedOf text start each work events answers cache memory in
+    Demand3 j events answers after
+    × (LeavesClean x (pricedSheet (movePrice start each)) j events cache memory after
+    × (start ≡ 0 → each ≡ 1 → PaysOnce sheetOf j (eventsOf events) (after .result .moved)))
 
-  pub run-demand : Demand3 (pricedRows (length w) (price .start) (price .each)) text events answers cache memory (afterRun r l answers′ cache′ memory′)
-  run-demand =
-      subst (λ (z : AfterRun). Demand3 (pricedRows (length w) (price .start) (price .each)) text events answers cache memory z) (sym run-left)
-      (demand-3 x text (price .start) (price .each) w events answers cache memory)
-
-  pub run-clean : LeavesClean x (movePrice (price .start) (price .each)) (pricedRows (length w) (price .start) (price .each)) text events answers cache memory
-      (afterRun r l answers′ cache′ memory′)
-  run-clean =
-      subst
-      (λ (z : AfterRun).
-      LeavesClean x (movePrice (price .start) (price .each)) (pricedRows (length w) (price .start) (price .each)) text events answers cache memory z)
-      (sym run-left) (leaves-clean x text (price .start) (price .each) w events answers cache memory)
-
-  pub run-pays-once : price .start ≡ 0 → price .each ≡ 1
-      → PaysOnce (runJudged (pricedRows (length w) (price .start) (price .each)) text events answers cache memory) (eventsOf events) (r .moved)
-  run-pays-once h k =
-      subst
-      (λ (z : AfterRun).
-      PaysOnce (runJudged (pricedRows (length w) (price .start) (price .each)) text events answers cache memory) (eventsOf events) (z .result .moved))
-      (sym run-left) (services-once x text (price .start) (price .each) w events answers cache memory h k)
+pub run-holds : (x : Eviction) (text : List ℕ) (start each : ℕ) (work events answers cache memory : List ℕ) {after : AfterRun}
+    → after ≡ runOf x text start each work events answers cache memory → RunHolds x text start each work events answers cache memory after
+run-holds x text start each work events answers cache memory e =
+    subst (λ (z : AfterRun). RunHolds x text start each work events answers cache memory z) (sym e) (
+      demand-3 x text start each work events answers cache memory,
+      (leaves-clean x text start each work events answers cache memory, services-once x text start each work events answers cache memory),
+    )

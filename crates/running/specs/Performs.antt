@@ -10,16 +10,15 @@ use Rattle.model.specs.declared.Eviction.{Eviction}
 use Rattle.model.specs.declared.Refusal.{Refusal}
 use Rattle.model.specs.declared.Row.the-variants.{EventList, AnswersTooSmall, CacheSize, AfterFinish}
 use Rattle.model.specs.declared.RunResult.{RunResult}
-use Rattle.model.specs.Limits.{mostEventNumbers}
+use Rattle.model.specs.Limits.{workLength, mostEventNumbers}
 use Rattle.model.specs.Basic.{unless, _orElse_}
 use Rattle.model.specs.Rows.{refuse}
-use Rattle.model.specs.Task.{Judged}
-use Rattle.model.specs.Refusal.{withRows, runRows}
+use Rattle.model.specs.Task.{Task, Judged}
+use Rattle.model.specs.Sheet.{Sheet}
+use Rattle.model.specs.Refusal.{withRows, rowsBefore, runRows}
 use Rattle.model.specs.Plain.{eventsOf}
-use Rattle.model.specs.Services.{cleared, AfterRun, runAs}
+use Rattle.model.specs.Services.{cleared, AfterRun, afterRun, runAs}
 use Rattle.theory.specs.Without.{nothingDone}
-use Rattle.prices.specs.declared.Price.{Price}
-use Rattle.prices.specs.Prices.{priceOf}
 
 -- 16, 17 and 18, for buffers of these lengths and a task with this many functions and cache blocks
 abbrev pub bufferRows : ℕ → ℕ → ℕ → ℕ → ℕ → Option Refusal
@@ -36,23 +35,21 @@ noneDone r = nothingDone (some r)
 abbrev pub finishedBefore : ℕ → RunResult
 finishedBefore numbers = nothingDone (unless (eqb numbers 0) (refuse AfterFinish 0))
 
--- what a run has returned and left, as one
-abbrev pub afterRun : RunResult → (work answers cache memory : List ℕ) → AfterRun
-afterRun r work answers cache memory = record { result = r; work = work; answers = answers; cache = cache; memory = memory }
-
--- what a run on the core that evicts so returns and leaves at this price of what was judged as j: one of 16 to 19 for an accepted task, or its run
-abbrev pub performed : Eviction → Price → Judged → (work events answers cache memory : List ℕ) → AfterRun
-performed x price j work events answers cache memory =
+-- what a service with these rows that runs on the core that evicts so, and charges by this sheet, returns and leaves of what was judged as j: for an accepted
+-- task one of the rows or of 16 to 19, or its run
+abbrev pub performed : Eviction → (Task → Option Refusal) → (Task → Sheet) → Judged → (work events answers cache memory : List ℕ) → AfterRun
+performed x rows sheet j work events answers cache memory =
     runAs
     x
-    (priceOf price)
-    (withRows (runRows (length events) (length answers) (length cache) (length memory)) j)
+    sheet
+    (withRows (rowsBefore rows (runRows (length events) (length answers) (length cache) (length memory))) j)
     work
     (eventsOf events)
     answers
     cache
     memory
 
-pub record Performs (x : Eviction) (price : Price) (j : Judged) (w events answers cache memory : List ℕ) (r : RunResult) (w′ answers′ cache′ memory′ : List ℕ) : Type 0 where
-  pub left : (work : List ℕ) → afterRun r work answers′ cache′ memory′ ≡ performed x price j work events answers cache memory
-  pub after : cleared w′ ≡ cleared w
+pub record Performs (x : Eviction) (rows : Task → Option Refusal) (sheet : Task → Sheet) (j : Judged) (w events answers cache memory : List ℕ) (r : RunResult)
+    (w′ answers′ cache′ memory′ : List ℕ) : Type 0 where
+  pub left : (work : List ℕ) → afterRun r work answers′ cache′ memory′ ≡ performed x rows sheet j work events answers cache memory
+  pub after : cleared workLength w′ ≡ cleared workLength w

@@ -5,9 +5,11 @@ ghost use lib.ListN.{length};
 ghost use Rattle.model.specs.Limits.{workLength};
 ghost use Rattle.model.specs.Rows.{rowVerdict};
 ghost use Rattle.model.specs.Task.{task};
+ghost use Rattle.model.specs.Sheet.{pricedSheet};
+ghost use Rattle.model.specs.Refusal.{noRows};
 ghost use Rattle.tables.specs.Tables.{taskOf};
 ghost use Rattle.tables.specs.Valid.{Settled};
-ghost use Rattle.prices.specs.Prices.{Small};
+ghost use Rattle.prices.specs.Prices.{priceOf, Small};
 ghost use Rattle.judge.specs.Judgement.{judgedIn};
 ghost use Rattle.serving.specs.Served.{ReadyAt};
 ghost use Rattle.running.specs.Performs.{bufferRows, noneDone, finishedBefore, Performs};
@@ -89,8 +91,8 @@ fn run_task(
     h: Header,
 ) -> RunResult
     requires { ⌜ Settled (now work) h × (workLength ≤ length (now work)) × Small price ⌝ }
-    ensures { λ r. ⌜ Performs eviction price (task (taskOf (now (work .entry)) h)) (now (work .entry)) (now (events .entry)) (now (answers .entry)) (now (cache .entry))
-        (now (memory .entry)) r (now (work .exit)) (now (answers .exit)) (now (cache .exit)) (now (memory .exit)) ⌝ }
+    ensures { λ r. ⌜ Performs eviction noRows (pricedSheet (priceOf price)) (task (taskOf (now (work .entry)) h)) (now (work .entry)) (now (events .entry))
+        (now (answers .entry)) (now (cache .entry)) (now (memory .entry)) r (now (work .exit)) (now (answers .exit)) (now (cache .exit)) (now (memory .exit)) ⌝ }
 {
     if let Verdict::Refused(r) = buffer_row(events.len(), answers.len(), cache.len(), h) {
         return refused(r);
@@ -122,9 +124,9 @@ pub fn run_judged(
     memory: &mut [u32],
     work: &mut [u32],
 ) -> RunResult
-    requires { ⌜ ReadyAt price (now work) judgement ⌝ }
-    ensures { λ r. ⌜ Performs eviction price (judgedIn (now (work .entry)) judgement) (now (work .entry)) (now (events .entry)) (now (answers .entry))
-        (now (cache .entry)) (now (memory .entry)) r (now (work .exit)) (now (answers .exit)) (now (cache .exit)) (now (memory .exit)) ⌝ }
+    requires { ⌜ ReadyAt workLength price (now work) judgement ⌝ }
+    ensures { λ r. ⌜ Performs eviction noRows (pricedSheet (priceOf price)) (judgedIn (now (work .entry)) judgement) (now (work .entry)) (now (events .entry))
+        (now (answers .entry)) (now (cache .entry)) (now (memory .entry)) r (now (work .exit)) (now (answers .exit)) (now (cache .exit)) (now (memory .exit)) ⌝ }
 {
     match judgement {
         Judgement::Refused(r) => refused(r),

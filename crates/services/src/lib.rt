@@ -1,16 +1,15 @@
 // The services over a task text. Each judges what it was lent and refuses; none has a requires. Each goes the same way: 15 (and 23 where there are
 // prices), the judgement of the text, its own rows, its own work, and the working space cleared.
 ghost use mathlib.Core.Path.{_≡_};
-ghost use lib.ListN.{length};
 ghost use Rattle.model.specs.declared.Eviction.the-variants.{Eager, Lazy};
-ghost use Rattle.model.specs.Sheet.{movePrice};
-ghost use Rattle.model.specs.Refusal.{pricedRows};
+ghost use Rattle.model.specs.Sheet.{movePrice, pricedSheet, sheetOf};
 ghost use Rattle.model.specs.Plain.{eventsOf};
-ghost use Rattle.model.specs.Services.{checkOf, reportOf, dearestOf, runOf, runJudged, Demand3, LeavesClean, PaysOnce};
-ghost use Rattle.running.specs.Performs.{afterRun};
+ghost use Rattle.model.specs.Services.{afterCheck, checkOf, afterWrite, reportOf, dearestOf, afterRun, runOf, runJudgedOf};
+ghost use Rattle.model.specs.Services.{Demand3, LeavesClean, PaysOnce};
 ghost use Rattle.writing.specs.Printing.{wroteOf};
 use judge::Judgement;
 use model::Eviction;
+use model::Limits;
 use model::RunResult;
 use model::Verdict;
 use model::WriteResult;
@@ -21,12 +20,11 @@ use writing::Print;
 //
 //     check(b"(stack 65)\n", &mut work) is Verdict::Refused(Refusal { row: Row::StackSize, place: 1 })
 pub fn check(text: &[u8], work: &mut [u32]) -> Verdict
-    ensures verdict { λ r. ⌜ r ≡ checkOf (now (text .entry)) (now (work .entry)) .verdict ⌝ }
-    ensures work { λ r. ⌜ now (work .exit) ≡ checkOf (now (text .entry)) (now (work .entry)) .work ⌝ }
+    ensures { λ v. ⌜ afterCheck v (now (work .exit)) ≡ checkOf (now (text .entry)) (now (work .entry)) ⌝ }
 {
-    let first = serving::work_row(work.len());
+    let first = serving::work_row(Limits::WORK, work.len());
     let judgement = serving::judge_lent(first, text, work);
-    serving::clear(work);
+    serving::clear(Limits::WORK, work);
     match judgement {
         Judgement::Task(_) => Verdict::Accepted,
         Judgement::Refused(r) => Verdict::Refused(r),
@@ -42,15 +40,14 @@ fn write(
     output: &mut [u8],
     work: &mut [u32],
 ) -> WriteResult
-    ensures result { λ r. ⌜ r ≡ wroteOf which start each (now (text .entry)) (now (work .entry)) (now (output .entry)) .result ⌝ }
-    ensures work { λ r. ⌜ now (work .exit) ≡ wroteOf which start each (now (text .entry)) (now (work .entry)) (now (output .entry)) .work ⌝ }
-    ensures output { λ r. ⌜ now (output .exit) ≡ wroteOf which start each (now (text .entry)) (now (work .entry)) (now (output .entry)) .output ⌝ }
+    ensures { λ r. ⌜ afterWrite r (now (work .exit)) (now (output .exit))
+        ≡ wroteOf which (now (text .entry)) start each (now (work .entry)) (now (output .entry)) ⌝ }
 {
     let price = Price { start, each };
-    let first = serving::priced_row(work.len(), price);
+    let first = serving::priced_row(Limits::WORK, work.len(), price);
     let judgement = serving::judge_lent(first, text, work);
     let result = writing::write_judged(which, judgement, price, output, work);
-    serving::clear(work);
+    serving::clear(Limits::WORK, work);
     result
 }
 
@@ -65,9 +62,8 @@ pub fn report(
     output: &mut [u8],
     work: &mut [u32],
 ) -> WriteResult
-    ensures result { λ r. ⌜ r ≡ reportOf (now (text .entry)) start each (now (work .entry)) (now (output .entry)) .result ⌝ }
-    ensures work { λ r. ⌜ now (work .exit) ≡ reportOf (now (text .entry)) start each (now (work .entry)) (now (output .entry)) .work ⌝ }
-    ensures output { λ r. ⌜ now (output .exit) ≡ reportOf (now (text .entry)) start each (now (work .entry)) (now (output .entry)) .output ⌝ }
+    ensures { λ r. ⌜ afterWrite r (now (work .exit)) (now (output .exit))
+        ≡ reportOf (now (text .entry)) start each (now (work .entry)) (now (output .entry)) ⌝ }
 {
     write(Print::Report, text, start, each, output, work)
 }
@@ -83,9 +79,8 @@ pub fn dearest_points(
     output: &mut [u8],
     work: &mut [u32],
 ) -> WriteResult
-    ensures result { λ r. ⌜ r ≡ dearestOf (now (text .entry)) start each (now (work .entry)) (now (output .entry)) .result ⌝ }
-    ensures work { λ r. ⌜ now (work .exit) ≡ dearestOf (now (text .entry)) start each (now (work .entry)) (now (output .entry)) .work ⌝ }
-    ensures output { λ r. ⌜ now (output .exit) ≡ dearestOf (now (text .entry)) start each (now (work .entry)) (now (output .entry)) .output ⌝ }
+    ensures { λ r. ⌜ afterWrite r (now (work .exit)) (now (output .exit))
+        ≡ dearestOf (now (text .entry)) start each (now (work .entry)) (now (output .entry)) ⌝ }
 {
     write(Print::Dearest, text, start, each, output, work)
 }
@@ -102,19 +97,11 @@ fn run_on(
     memory: &mut [u32],
     work: &mut [u32],
 ) -> RunResult
-    ensures left { λ r. ⌜ afterRun r (now (work .exit)) (now (answers .exit)) (now (cache .exit)) (now (memory .exit))
+    ensures { λ r. ⌜ afterRun r (now (work .exit)) (now (answers .exit)) (now (cache .exit)) (now (memory .exit))
         ≡ runOf eviction (now (text .entry)) start each (now (work .entry)) (now (events .entry)) (now (answers .entry)) (now (cache .entry)) (now (memory .entry)) ⌝ }
-    ensures demand_3 { λ r. ⌜ Demand3 (pricedRows (length (now (work .entry))) start each) (now (text .entry)) (now (events .entry))
-        (now (answers .entry)) (now (cache .entry)) (now (memory .entry))
-        (afterRun r (now (work .exit)) (now (answers .exit)) (now (cache .exit)) (now (memory .exit))) ⌝ }
-    ensures clean { λ r. ⌜ LeavesClean eviction (movePrice start each) (pricedRows (length (now (work .entry))) start each) (now (text .entry)) (now (events .entry))
-        (now (answers .entry)) (now (cache .entry)) (now (memory .entry))
-        (afterRun r (now (work .exit)) (now (answers .exit)) (now (cache .exit)) (now (memory .exit))) ⌝ }
-    ensures once { λ r. ⌜ (start ≡ 0 → each ≡ 1 → PaysOnce (runJudged (pricedRows (length (now (work .entry))) start each) (now (text .entry)) (now (events .entry))
-        (now (answers .entry)) (now (cache .entry)) (now (memory .entry))) (eventsOf (now (events .entry))) (r .moved)) ⌝ }
 {
     let price = Price { start, each };
-    let first = serving::priced_row(work.len(), price);
+    let first = serving::priced_row(Limits::WORK, work.len(), price);
     let judgement = serving::judge_lent(first, text, work);
     let result = running::run_judged(
         judgement,
@@ -126,7 +113,7 @@ fn run_on(
         memory,
         work,
     );
-    serving::clear(work);
+    serving::clear(Limits::WORK, work);
     result
 }
 
@@ -146,21 +133,14 @@ pub fn run(
     memory: &mut [u32],
     work: &mut [u32],
 ) -> RunResult
-    ensures result { λ r. ⌜ r ≡ runOf Eager (now (text .entry)) start each (now (work .entry)) (now (events .entry))
-        (now (answers .entry)) (now (cache .entry)) (now (memory .entry)) .result ⌝ }
-    ensures work { λ r. ⌜ now (work .exit) ≡ runOf Eager (now (text .entry)) start each (now (work .entry)) (now (events .entry))
-        (now (answers .entry)) (now (cache .entry)) (now (memory .entry)) .work ⌝ }
-    ensures answers { λ r. ⌜ now (answers .exit) ≡ runOf Eager (now (text .entry)) start each (now (work .entry)) (now (events .entry))
-        (now (answers .entry)) (now (cache .entry)) (now (memory .entry)) .answers ⌝ }
-    ensures cache { λ r. ⌜ now (cache .exit) ≡ runOf Eager (now (text .entry)) start each (now (work .entry)) (now (events .entry))
-        (now (answers .entry)) (now (cache .entry)) (now (memory .entry)) .cache ⌝ }
-    ensures memory { λ r. ⌜ now (memory .exit) ≡ runOf Eager (now (text .entry)) start each (now (work .entry)) (now (events .entry))
-        (now (answers .entry)) (now (cache .entry)) (now (memory .entry)) .memory ⌝ }
-    ensures demand_3 { λ r. ⌜ Demand3 (pricedRows (length (now (work .entry))) start each) (now (text .entry)) (now (events .entry))
-        (now (answers .entry)) (now (cache .entry)) (now (memory .entry))
-        (afterRun r (now (work .exit)) (now (answers .exit)) (now (cache .exit)) (now (memory .exit))) ⌝ }
-    ensures once { λ r. ⌜ (start ≡ 0 → each ≡ 1 → PaysOnce (runJudged (pricedRows (length (now (work .entry))) start each) (now (text .entry)) (now (events .entry))
-        (now (answers .entry)) (now (cache .entry)) (now (memory .entry))) (eventsOf (now (events .entry))) (r .moved)) ⌝ }
+    ensures left { λ r. ⌜ afterRun r (now (work .exit)) (now (answers .exit)) (now (cache .exit)) (now (memory .exit))
+        ≡ runOf Eager (now (text .entry)) start each (now (work .entry)) (now (events .entry)) (now (answers .entry)) (now (cache .entry)) (now (memory .entry)) ⌝ }
+    ensures demand_3 { λ r. ⌜ Demand3
+        (runJudgedOf (now (text .entry)) start each (now (work .entry)) (now (events .entry)) (now (answers .entry)) (now (cache .entry)) (now (memory .entry)))
+        (now (events .entry)) (now (answers .entry)) (afterRun r (now (work .exit)) (now (answers .exit)) (now (cache .exit)) (now (memory .exit))) ⌝ }
+    ensures once { λ r. ⌜ (start ≡ 0 → each ≡ 1 → PaysOnce sheetOf
+        (runJudgedOf (now (text .entry)) start each (now (work .entry)) (now (events .entry)) (now (answers .entry)) (now (cache .entry)) (now (memory .entry)))
+        (eventsOf (now (events .entry))) (r .moved)) ⌝ }
 {
     run_on(
         Eviction::Eager,
@@ -190,24 +170,17 @@ pub fn run_lazy(
     memory: &mut [u32],
     work: &mut [u32],
 ) -> RunResult
-    ensures result { λ r. ⌜ r ≡ runOf Lazy (now (text .entry)) start each (now (work .entry)) (now (events .entry))
-        (now (answers .entry)) (now (cache .entry)) (now (memory .entry)) .result ⌝ }
-    ensures work { λ r. ⌜ now (work .exit) ≡ runOf Lazy (now (text .entry)) start each (now (work .entry)) (now (events .entry))
-        (now (answers .entry)) (now (cache .entry)) (now (memory .entry)) .work ⌝ }
-    ensures answers { λ r. ⌜ now (answers .exit) ≡ runOf Lazy (now (text .entry)) start each (now (work .entry)) (now (events .entry))
-        (now (answers .entry)) (now (cache .entry)) (now (memory .entry)) .answers ⌝ }
-    ensures cache { λ r. ⌜ now (cache .exit) ≡ runOf Lazy (now (text .entry)) start each (now (work .entry)) (now (events .entry))
-        (now (answers .entry)) (now (cache .entry)) (now (memory .entry)) .cache ⌝ }
-    ensures memory { λ r. ⌜ now (memory .exit) ≡ runOf Lazy (now (text .entry)) start each (now (work .entry)) (now (events .entry))
-        (now (answers .entry)) (now (cache .entry)) (now (memory .entry)) .memory ⌝ }
-    ensures demand_3 { λ r. ⌜ Demand3 (pricedRows (length (now (work .entry))) start each) (now (text .entry)) (now (events .entry))
-        (now (answers .entry)) (now (cache .entry)) (now (memory .entry))
-        (afterRun r (now (work .exit)) (now (answers .exit)) (now (cache .exit)) (now (memory .exit))) ⌝ }
-    ensures clean { λ r. ⌜ LeavesClean Lazy (movePrice start each) (pricedRows (length (now (work .entry))) start each) (now (text .entry)) (now (events .entry))
-        (now (answers .entry)) (now (cache .entry)) (now (memory .entry))
-        (afterRun r (now (work .exit)) (now (answers .exit)) (now (cache .exit)) (now (memory .exit))) ⌝ }
-    ensures once { λ r. ⌜ (start ≡ 0 → each ≡ 1 → PaysOnce (runJudged (pricedRows (length (now (work .entry))) start each) (now (text .entry)) (now (events .entry))
-        (now (answers .entry)) (now (cache .entry)) (now (memory .entry))) (eventsOf (now (events .entry))) (r .moved)) ⌝ }
+    ensures left { λ r. ⌜ afterRun r (now (work .exit)) (now (answers .exit)) (now (cache .exit)) (now (memory .exit))
+        ≡ runOf Lazy (now (text .entry)) start each (now (work .entry)) (now (events .entry)) (now (answers .entry)) (now (cache .entry)) (now (memory .entry)) ⌝ }
+    ensures demand_3 { λ r. ⌜ Demand3
+        (runJudgedOf (now (text .entry)) start each (now (work .entry)) (now (events .entry)) (now (answers .entry)) (now (cache .entry)) (now (memory .entry)))
+        (now (events .entry)) (now (answers .entry)) (afterRun r (now (work .exit)) (now (answers .exit)) (now (cache .exit)) (now (memory .exit))) ⌝ }
+    ensures clean { λ r. ⌜ LeavesClean Lazy (pricedSheet (movePrice start each))
+        (runJudgedOf (now (text .entry)) start each (now (work .entry)) (now (events .entry)) (now (answers .entry)) (now (cache .entry)) (now (memory .entry)))
+        (now (events .entry)) (now (cache .entry)) (now (memory .entry)) (afterRun r (now (work .exit)) (now (answers .exit)) (now (cache .exit)) (now (memory .exit))) ⌝ }
+    ensures once { λ r. ⌜ (start ≡ 0 → each ≡ 1 → PaysOnce sheetOf
+        (runJudgedOf (now (text .entry)) start each (now (work .entry)) (now (events .entry)) (now (answers .entry)) (now (cache .entry)) (now (memory .entry)))
+        (eventsOf (now (events .entry))) (r .moved)) ⌝ }
 {
     run_on(
         Eviction::Lazy,

@@ -9,7 +9,7 @@ run-task-requires c κs = rw (c .before .before .before .before .before .judgeme
     (c .before .before .before .before .before .before .before .before .before .before .before .before .pre)
 
 returns : tie.Need-returns
-returns c = rw (c .before .before .judgement .given .1, c .refused .ensures) (none-run _ _ _ _ _ _ _ _)
+returns c = rw (c .before .before .judgement .given .1, c .refused .ensures) (none-run _ _ _ _ _ _ _ _ _)
 
 returns-2 : tie.Need-returns-2
 returns-2 c =

@@ -1,8 +1,7 @@
--- The parts of what an eager run leaves, demand 3, and what once pays.
+-- An eager run; demand 3 and what once pays follow from what it leaves.
 use borrow.Author.Needs.{needs}
 use Rattle.model.specs.declared.Eviction.the-variants.{Eager}
-use Rattle.model.specs.Services.{runOf}
-use Rattle.services.proofs.Laws.{run-parts}
+use Rattle.running.proofs.Events.{run-holds}
 use Rattle.services.proofs.run.Statement.{statement}
 use Rattle.services.proofs.run.Tie as tie
 
@@ -10,11 +9,9 @@ returns : tie.Need-returns
 returns c =
     let o = c .before .before .before .before .before .before .before .before in
     let a = o .before .before .before .before .before .before .before .before .before .before .before .args in
-    let r = o .run-on .ensures in
-    run-parts
-    (runOf Eager (a .text .now) (a .start) (a .each) (a .work .now) (a .events .now) (a .answers .now) (a .cache .now) (a .memory .now))
-    (r .0)
-    (r .1 .0, r .1 .1 .1)
+    let e = o .run-on .ensures in
+    let h = run-holds Eager (a .text .now) (a .start) (a .each) (a .work .now) (a .events .now) (a .answers .now) (a .cache .now) (a .memory .now) e in
+    (e, (h .0, h .1 .1))
 
 pub run-spec : {M : Type 1} → statement M
 run-spec =

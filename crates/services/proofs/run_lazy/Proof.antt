@@ -1,8 +1,7 @@
--- The parts of what a lazy run leaves, demand 3, that its core is clean, and what once pays.
+-- A lazy run; demand 3, that its core is clean, and what once pays follow from what it leaves.
 use borrow.Author.Needs.{needs}
 use Rattle.model.specs.declared.Eviction.the-variants.{Lazy}
-use Rattle.model.specs.Services.{runOf}
-use Rattle.services.proofs.Laws.{run-parts}
+use Rattle.running.proofs.Events.{run-holds}
 use Rattle.services.proofs.run_lazy.Statement.{statement}
 use Rattle.services.proofs.run_lazy.Tie as tie
 
@@ -10,11 +9,8 @@ returns : tie.Need-returns
 returns c =
     let o = c .before .before .before .before .before .before .before .before in
     let a = o .before .before .before .before .before .before .before .before .before .before .before .args in
-    let r = o .run-on .ensures in
-    run-parts
-    (runOf Lazy (a .text .now) (a .start) (a .each) (a .work .now) (a .events .now) (a .answers .now) (a .cache .now) (a .memory .now))
-    (r .0)
-    (r .1)
+    let e = o .run-on .ensures in
+    (e, run-holds Lazy (a .text .now) (a .start) (a .each) (a .work .now) (a .events .now) (a .answers .now) (a .cache .now) (a .memory .now) e)
 
 pub run-lazy-spec : {M : Type 1} → statement M
 run-lazy-spec =
