@@ -1,28 +1,28 @@
 // The C interface. include/felknost.h declares it.
 ghost use mathlib.Core.Path.{_≡_};
-ghost use Prim.Native.Nat.{_≤_};
+ghost use Prim.Native.Nat.{_+_, _≤_};
 ghost use lib.ListN.{length};
 ghost use Rattle.model.specs.declared.Eviction.the-variants.{Eager, Lazy};
-ghost use Rattle.model.specs.Rows.{verdictCode, verdictPlace, endingCode, endingPlace};
-ghost use Rattle.model.specs.Services.{over, checkNumber, resultNumbers, reportNumbers, dearestNumbers, runResultNumbers, runNumbers};
+ghost use Rattle.model.specs.Rows.{verdictCode, verdictPlace, endingVerdict, verdictNumbers};
+ghost use Rattle.model.specs.Services.{over, checkNumber, called, writeBuffers, reportNumbers, dearestNumbers, runBuffers, runNumbers};
 use judge::Judgement;
 use model::Ending;
-use model::RunResult;
 use model::Verdict;
-use model::WriteResult;
 use tables::Layout;
 
-// The numbers of a result: code, place and bytes written.
+// The numbers of a result: code, place, and then those that a service adds.
 struct Numbers;
 
 impl Numbers {
     const CODE: usize = 0;
 
     const PLACE: usize = 1;
-
-    const WRITTEN: usize = 2;
-    // How many they are.
-    const ALL: usize = 3;
+    // Where those of the service begin.
+    const ADDED: usize = 2;
+    // How many there are with the bytes written.
+    const WRITE: usize = 3;
+    // How many there are with events done, moved and allowed.
+    const RUN: usize = 5;
 }
 
 // Check on the bytes of a text alone: CODE times 65,536 plus PLACE, 0 for an accepted text.
@@ -58,15 +58,28 @@ fn place_of(v: Verdict) -> u32
     }
 }
 
-// Writes the numbers of a result over the first of a buffer.
-fn put_numbers(buffer: &mut [u64], r: WriteResult)
-    requires { ⌜ 3 ≤ length (now buffer) ⌝ }
-    ensures { λ u. ⌜ now (buffer .exit) ≡ over (resultNumbers r) (now (buffer .entry)) ⌝ }
+// The ending of a run has the code and the place of this verdict.
+fn verdict_of(e: Ending) -> Verdict
+    ensures { λ v. ⌜ v ≡ endingVerdict e ⌝ }
 {
-    let verdict = r.verdict;
-    buffer[Numbers::CODE] = code_of(verdict) as u64;
-    buffer[Numbers::PLACE] = place_of(verdict) as u64;
-    buffer[Numbers::WRITTEN] = r.written as u64;
+    match e {
+        Ending::AllDone => Verdict::Accepted,
+        Ending::Refused(r) => Verdict::Refused(r),
+    }
+}
+
+// Writes code and place of a verdict, and the numbers that a service adds, over the first of a result.
+fn put_numbers(result: &mut [u64], v: Verdict, added: &[u64])
+    requires { ⌜ 2 + length (now added) ≤ length (now result) ⌝ }
+    ensures { λ u. ⌜ now (result .exit) ≡ over (verdictNumbers v (now (added .entry))) (now (result .entry)) ⌝ }
+{
+    result[Numbers::CODE] = code_of(v) as u64;
+    result[Numbers::PLACE] = place_of(v) as u64;
+    let mut i: usize = 0;
+    while i < added.len() {
+        result[Numbers::ADDED + i] = added[i];
+        i += 1;
+    }
 }
 
 // Report, with its result in the first three numbers of a buffer. 1, or 0 with nothing touched where that buffer has fewer.
@@ -79,19 +92,15 @@ pub extern "C" fn felknost_report(
     work: &mut [u32],
     result: &mut [u64],
 ) -> u32
-    ensures answer { λ n. ⌜ n ≡ reportNumbers (now (text .entry)) start each (now (work .entry)) (now (output .entry)) (now (result .entry)) .answer ⌝ }
-    ensures result { λ n. ⌜ now (result .exit) ≡ reportNumbers (now (text .entry)) start each (now (work .entry)) (now (output .entry))
-        (now (result .entry)) .result ⌝ }
-    ensures work { λ n. ⌜ now (work .exit) ≡ reportNumbers (now (text .entry)) start each (now (work .entry)) (now (output .entry))
-        (now (result .entry)) .work ⌝ }
-    ensures output { λ n. ⌜ now (output .exit) ≡ reportNumbers (now (text .entry)) start each (now (work .entry)) (now (output .entry))
-        (now (result .entry)) .output ⌝ }
+    ensures { λ n. ⌜ called n (now (result .exit)) (writeBuffers (now (work .exit)) (now (output .exit)))
+        ≡ reportNumbers (now (text .entry)) start each (now (work .entry)) (now (output .entry)) (now (result .entry)) ⌝ }
 {
-    if result.len() < Numbers::ALL {
+    if result.len() < Numbers::WRITE {
         return 0;
     }
-    let written = services::report(text, start, each, output, work);
-    put_numbers(result, written);
+    let report = services::report(text, start, each, output, work);
+    let verdict = report.verdict;
+    put_numbers(result, verdict, &[report.written as u64]);
     1
 }
 
@@ -105,67 +114,16 @@ pub extern "C" fn felknost_dearest_points(
     work: &mut [u32],
     result: &mut [u64],
 ) -> u32
-    ensures answer { λ n. ⌜ n ≡ dearestNumbers (now (text .entry)) start each (now (work .entry)) (now (output .entry)) (now (result .entry)) .answer ⌝ }
-    ensures result { λ n. ⌜ now (result .exit) ≡ dearestNumbers (now (text .entry)) start each (now (work .entry)) (now (output .entry))
-        (now (result .entry)) .result ⌝ }
-    ensures work { λ n. ⌜ now (work .exit) ≡ dearestNumbers (now (text .entry)) start each (now (work .entry)) (now (output .entry))
-        (now (result .entry)) .work ⌝ }
-    ensures output { λ n. ⌜ now (output .exit) ≡ dearestNumbers (now (text .entry)) start each (now (work .entry)) (now (output .entry))
-        (now (result .entry)) .output ⌝ }
+    ensures { λ n. ⌜ called n (now (result .exit)) (writeBuffers (now (work .exit)) (now (output .exit)))
+        ≡ dearestNumbers (now (text .entry)) start each (now (work .entry)) (now (output .entry)) (now (result .entry)) ⌝ }
 {
-    if result.len() < Numbers::ALL {
+    if result.len() < Numbers::WRITE {
         return 0;
     }
-    let written = services::dearest_points(text, start, each, output, work);
-    put_numbers(result, written);
+    let list = services::dearest_points(text, start, each, output, work);
+    let verdict = list.verdict;
+    put_numbers(result, verdict, &[list.written as u64]);
     1
-}
-
-// The numbers of a run's result after code and place: events done, moved and allowed.
-struct RunNumbers;
-
-impl RunNumbers {
-    const DONE: usize = 2;
-
-    const MOVED: usize = 3;
-
-    const ALLOWED: usize = 4;
-    // How many they are with code and place.
-    const ALL: usize = 5;
-}
-
-fn ending_code(e: Ending) -> u32
-    ensures { λ n. ⌜ n ≡ endingCode e ⌝ }
-{
-    match e {
-        Ending::AllDone => 0,
-        Ending::Refused(r) => {
-            let row = r.row;
-            codes::code_of(row)
-        }
-    }
-}
-
-fn ending_place(e: Ending) -> u32
-    ensures { λ n. ⌜ n ≡ endingPlace e ⌝ }
-{
-    match e {
-        Ending::AllDone => 0,
-        Ending::Refused(r) => r.place,
-    }
-}
-
-// Writes the numbers of a run's result over the first of a buffer.
-fn put_run_numbers(buffer: &mut [u64], r: RunResult)
-    requires { ⌜ 5 ≤ length (now buffer) ⌝ }
-    ensures { λ u. ⌜ now (buffer .exit) ≡ over (runResultNumbers r) (now (buffer .entry)) ⌝ }
-{
-    let ending = r.ending;
-    buffer[Numbers::CODE] = ending_code(ending) as u64;
-    buffer[Numbers::PLACE] = ending_place(ending) as u64;
-    buffer[RunNumbers::DONE] = r.done as u64;
-    buffer[RunNumbers::MOVED] = r.moved;
-    buffer[RunNumbers::ALLOWED] = r.allowed;
 }
 
 // Run, with its result in the first five numbers of a buffer. 1, or 0 with nothing touched where that buffer has fewer.
@@ -181,24 +139,20 @@ pub extern "C" fn felknost_run(
     work: &mut [u32],
     result: &mut [u64],
 ) -> u32
-    ensures answer { λ n. ⌜ n ≡ runNumbers Eager (now (text .entry)) start each (now (work .entry)) (now (events .entry)) (now (answers .entry))
-        (now (cache .entry)) (now (memory .entry)) (now (result .entry)) .answer ⌝ }
-    ensures result { λ n. ⌜ now (result .exit) ≡ runNumbers Eager (now (text .entry)) start each (now (work .entry)) (now (events .entry)) (now (answers .entry))
-        (now (cache .entry)) (now (memory .entry)) (now (result .entry)) .result ⌝ }
-    ensures work { λ n. ⌜ now (work .exit) ≡ runNumbers Eager (now (text .entry)) start each (now (work .entry)) (now (events .entry)) (now (answers .entry))
-        (now (cache .entry)) (now (memory .entry)) (now (result .entry)) .work ⌝ }
-    ensures answers { λ n. ⌜ now (answers .exit) ≡ runNumbers Eager (now (text .entry)) start each (now (work .entry)) (now (events .entry)) (now (answers .entry))
-        (now (cache .entry)) (now (memory .entry)) (now (result .entry)) .answers ⌝ }
-    ensures cache { λ n. ⌜ now (cache .exit) ≡ runNumbers Eager (now (text .entry)) start each (now (work .entry)) (now (events .entry)) (now (answers .entry))
-        (now (cache .entry)) (now (memory .entry)) (now (result .entry)) .cache ⌝ }
-    ensures memory { λ n. ⌜ now (memory .exit) ≡ runNumbers Eager (now (text .entry)) start each (now (work .entry)) (now (events .entry)) (now (answers .entry))
-        (now (cache .entry)) (now (memory .entry)) (now (result .entry)) .memory ⌝ }
+    ensures { λ n. ⌜ called n (now (result .exit)) (runBuffers (now (work .exit)) (now (answers .exit)) (now (cache .exit)) (now (memory .exit)))
+        ≡ runNumbers Eager (now (text .entry)) start each (now (work .entry)) (now (events .entry)) (now (answers .entry)) (now (cache .entry))
+        (now (memory .entry)) (now (result .entry)) ⌝ }
 {
-    if result.len() < RunNumbers::ALL {
+    if result.len() < Numbers::RUN {
         return 0;
     }
-    let ran = services::run(text, start, each, events, answers, cache, memory, work);
-    put_run_numbers(result, ran);
+    let run = services::run(text, start, each, events, answers, cache, memory, work);
+    let ending = run.ending;
+    put_numbers(
+        result,
+        verdict_of(ending),
+        &[run.done as u64, run.moved, run.allowed],
+    );
     1
 }
 
@@ -215,23 +169,19 @@ pub extern "C" fn felknost_run_lazy(
     work: &mut [u32],
     result: &mut [u64],
 ) -> u32
-    ensures answer { λ n. ⌜ n ≡ runNumbers Lazy (now (text .entry)) start each (now (work .entry)) (now (events .entry)) (now (answers .entry))
-        (now (cache .entry)) (now (memory .entry)) (now (result .entry)) .answer ⌝ }
-    ensures result { λ n. ⌜ now (result .exit) ≡ runNumbers Lazy (now (text .entry)) start each (now (work .entry)) (now (events .entry)) (now (answers .entry))
-        (now (cache .entry)) (now (memory .entry)) (now (result .entry)) .result ⌝ }
-    ensures work { λ n. ⌜ now (work .exit) ≡ runNumbers Lazy (now (text .entry)) start each (now (work .entry)) (now (events .entry)) (now (answers .entry))
-        (now (cache .entry)) (now (memory .entry)) (now (result .entry)) .work ⌝ }
-    ensures answers { λ n. ⌜ now (answers .exit) ≡ runNumbers Lazy (now (text .entry)) start each (now (work .entry)) (now (events .entry)) (now (answers .entry))
-        (now (cache .entry)) (now (memory .entry)) (now (result .entry)) .answers ⌝ }
-    ensures cache { λ n. ⌜ now (cache .exit) ≡ runNumbers Lazy (now (text .entry)) start each (now (work .entry)) (now (events .entry)) (now (answers .entry))
-        (now (cache .entry)) (now (memory .entry)) (now (result .entry)) .cache ⌝ }
-    ensures memory { λ n. ⌜ now (memory .exit) ≡ runNumbers Lazy (now (text .entry)) start each (now (work .entry)) (now (events .entry)) (now (answers .entry))
-        (now (cache .entry)) (now (memory .entry)) (now (result .entry)) .memory ⌝ }
+    ensures { λ n. ⌜ called n (now (result .exit)) (runBuffers (now (work .exit)) (now (answers .exit)) (now (cache .exit)) (now (memory .exit)))
+        ≡ runNumbers Lazy (now (text .entry)) start each (now (work .entry)) (now (events .entry)) (now (answers .entry)) (now (cache .entry))
+        (now (memory .entry)) (now (result .entry)) ⌝ }
 {
-    if result.len() < RunNumbers::ALL {
+    if result.len() < Numbers::RUN {
         return 0;
     }
-    let ran = services::run_lazy(text, start, each, events, answers, cache, memory, work);
-    put_run_numbers(result, ran);
+    let lazy = services::run_lazy(text, start, each, events, answers, cache, memory, work);
+    let ending = lazy.ending;
+    put_numbers(
+        result,
+        verdict_of(ending),
+        &[lazy.done as u64, lazy.moved, lazy.allowed],
+    );
     1
 }

@@ -1,7 +1,8 @@
 -- Nothing happens, or the points are listed and the result is written.
 use native.Mathlib.Omega.{arith}
-use Rattle.felknost.proofs.Laws.{too-few, enough}
 use borrow.Author.Needs.{needs}
+use Rattle.model.specs.Services.{AfterWrite, resultNumbers, writeLeft}
+use Rattle.felknost.proofs.Laws.{too-few, enough}
 use Rattle.felknost.proofs.felknost_dearest_points.Statement.{statement}
 use Rattle.felknost.proofs.felknost_dearest_points.Tie as tie
 
@@ -10,9 +11,9 @@ returns c = too-few _ _ _ _ (omega (arith, c .if1 .taken))
 
 returns-2 : tie.Need-returns-2
 returns-2 c =
-    let r = c .before .before .before .before .before .before .before .before .dearest-points .ensures in
-    let h = c .before .before .before .before .before .before .before .before .before .before .before .if1 .left in
-    enough _ _ _ _ (omega (arith, h)) (r .0) (r .1 .0) (r .1 .1) (c .before .before .put-numbers .ensures)
+    let c10 = c .before .before .before .before .before .before .before .before .before .before in
+    enough (λ (a : AfterWrite). resultNumbers (a .result)) writeLeft _ _ (c10 .dearest-points .ensures) (omega (arith, c10 .before .before .before .if1 .left))
+    (c .before .before .put-numbers .ensures)
 
 pub felknost-dearest-points-spec : {M : Type 1} → statement M
 felknost-dearest-points-spec =
@@ -20,6 +21,8 @@ felknost-dearest-points-spec =
     (tie.spec
     returns
     (λ c κs. search needs)
+    (λ c. search needs)
+    (λ c. search needs)
     (λ c κs. search needs)
     (λ c. search needs)
     (λ c. search needs)
