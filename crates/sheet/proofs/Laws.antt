@@ -16,7 +16,7 @@ use Rattle.model.specs.Limits.{workLength}
 use Rattle.model.specs.Task.{Judged, refused, task}
 use Rattle.model.specs.Sheet.{lineText}
 use Rattle.model.specs.Refusal.{judged, withRows, judge, workRow, outputRows}
-use Rattle.model.specs.Services.{AfterWrite, over, cleared, writtenAs, writtenOf, reportOf, blocksReportOf}
+use Rattle.model.specs.Services.{AfterWrite, afterWrite, over, cleared, writtenAs, writtenBy, reportOf, blocksReportOf}
 use Rattle.theory.proofs.Prices.{report-blocks}
 use Rattle.print.specs.Print.{Wrote}
 use Rattle.print.proofs.Laws.{line-most, pasted-start}
@@ -54,7 +54,7 @@ rows-fit n (task t) =
       | no h ↦ rw (lt-leb (length (blocksReport t)) n (omega arith)) tt
     ]
 
-report-fits : (text work output : List ℕ) → Fits (length output) (judge (workRow (length work)) (outputRows blocksReport (length output)) text)
+report-fits : (text work output : List ℕ) → Fits (length output) (judge (workRow workLength (length work)) (outputRows blocksReport (length output)) text)
 unfolding judge workRow
 report-fits text work output =
     elim (decLe workLength (length work)) [
@@ -79,41 +79,39 @@ module _ (work output : List ℕ) where
   refused-as (task t) e = let z : _≡_ {A = ℕ} 0 1 = cc in absurd (omega arith)
 
 -- the same of what report returns with start 0 and each 1, r, and leaves
-module _ (text work output : List ℕ) {r : WriteResult} {o w : List ℕ}
-    (a : r ≡ reportOf text 0 1 work output .result) (b : o ≡ reportOf text 0 1 work output .output) (c : w ≡ reportOf text 0 1 work output .work) where
+module _ (text work output : List ℕ) {r : WriteResult} {o w : List ℕ} (e : afterWrite r w o ≡ reportOf text 0 1 work output) where
   -- that is the report of document 01
-  result-is : r ≡ blocksReportOf text work output .result
-  result-is = a ∙ ap (λ (x : AfterWrite). x .result) (report-blocks text work output)
+  blocks-are : afterWrite r w o ≡ blocksReportOf text work output
+  blocks-are = e ∙ report-blocks text work output
 
-  output-is : o ≡ blocksReportOf text work output .output
-  output-is = b ∙ ap (λ (x : AfterWrite). x .output) (report-blocks text work output)
-
-  work-is : w ≡ blocksReportOf text work output .work
-  work-is = c ∙ ap (λ (x : AfterWrite). x .work) (report-blocks text work output)
-
-  work-as : (j : Judged) → writtenAs blocksReport j (cleared work) output .work ≡ cleared work
+  work-as : (j : Judged) → writtenAs blocksReport j (cleared workLength work) output .work ≡ cleared workLength work
   work-as (refused q) = refl
   work-as (task t) = refl
 
   pub report-answers : r .verdict ≡ Accepted → Answers text output work (r .written) o w × Counts (r .written) o
-  unfolding writtenOf answerOf
-  report-answers e =
-      let j = judge (workRow (length work)) (outputRows blocksReport (length output)) text in
-      let k = accepted-as (cleared work) output j (report-fits text work output) (sym (ap (λ (x : WriteResult). x .verdict) result-is) ∙ e) in
-      let n = ap (λ (x : WriteResult). x .written) result-is ∙ k .0 in
-      let s = ap length (output-is ∙ k .1) ∙ length-over (answered j) output (k .2) in
-      (record { size = n; buffer = output-is ∙ k .1; emptied = work-is ∙ work-as j }, counts (r .written) o (omega (arith, k .2)))
+  unfolding writtenBy answerOf
+  report-answers v =
+      let j = judge (workRow workLength (length work)) (outputRows blocksReport (length output)) text in
+      let i = sym (ap (λ (x : AfterWrite). x .result .verdict) blocks-are) ∙ v in
+      let k = accepted-as (cleared workLength work) output j (report-fits text work output) i in
+      let n = ap (λ (x : AfterWrite). x .result .written) blocks-are ∙ k .0 in
+      let b = ap (λ (x : AfterWrite). x .output) blocks-are ∙ k .1 in
+      let s = ap length b ∙ length-over (answered j) output (k .2) in (
+        record { size = n; buffer = b; emptied = ap (λ (x : AfterWrite). x .work) blocks-are ∙ work-as j },
+        counts (r .written) o (omega (arith, k .2)),
+      )
 
   pub refusal-answers : {q : Refusal} {n : ℕ} {o′ : List ℕ} → r .verdict ≡ Refused q → Wrote 0 (refusalLine q) o n o′ → n ≤ length o′
       → Answers text output work n o′ w × Counts n o′
-  unfolding writtenOf answerOf
-  refusal-answers {q} {n} {o′} e p h =
-      let j = judge (workRow (length work)) (outputRows blocksReport (length output)) text in
-      let k = refused-as (cleared work) output j (sym (ap (λ (x : WriteResult). x .verdict) result-is) ∙ e) in (
+  unfolding writtenBy answerOf
+  refusal-answers {q} {n} {o′} v p h =
+      let j = judge (workRow workLength (length work)) (outputRows blocksReport (length output)) text in
+      let k = refused-as (cleared workLength work) output j (sym (ap (λ (x : AfterWrite). x .result .verdict) blocks-are) ∙ v) in
+      let b = ap (λ (x : AfterWrite). x .output) blocks-are ∙ k .1 in (
         record {
           size = p .end ∙ zero-add (length (refusalLine q)) ∙ ap length (k .0);
-          buffer = p .buffer ∙ pasted-start (refusalLine q) o ∙ rw (k .0, output-is ∙ k .1);
-          emptied = work-is ∙ work-as j;
+          buffer = p .buffer ∙ pasted-start (refusalLine q) o ∙ rw (k .0, b);
+          emptied = ap (λ (x : AfterWrite). x .work) blocks-are ∙ work-as j;
         },
         counts n o′ h,
       )

@@ -5,6 +5,7 @@ use mathlib.Core.Path.{_≡_}
 use mathlib.Core.List.{List, [], _∷_}
 use lib.ListN.{length}
 use Rattle.model.specs.declared.Refusal.{Refusal}
+use Rattle.model.specs.Limits.{workLength}
 use Rattle.model.specs.Rows.{codeOf}
 use Rattle.model.specs.Text.{bytes}
 use Rattle.model.specs.Task.{Task, Judged, refused, task}
@@ -26,13 +27,13 @@ answered (task t) = blocksReport t
 
 -- the report of a text, or the line of its refusal, for an output and a working space of these lengths
 unfoldable pub answerOf : List ℕ → ℕ → ℕ → List ℕ
-answerOf text output work = answered (judge (workRow work) (outputRows blocksReport output) text)
+answerOf text output work = answered (judge (workRow workLength work) (outputRows blocksReport output) text)
 
 -- the answer to a text stands at the front of the output and has n bytes; the rest of the output is untouched, and the working space is cleared
 pub record Answers (text output work : List ℕ) (n : ℕ) (output′ work′ : List ℕ) : Type 0 where
   pub size : n ≡ length (answerOf text (length output) (length work))
   pub buffer : output′ ≡ over (answerOf text (length output) (length work)) output
-  pub emptied : work′ ≡ cleared work
+  pub emptied : work′ ≡ cleared workLength work
 
 -- bytes that are enough for the line of any refusal: its word, a space and at most ten digits twice, the closing bracket and the line feed
 abbrev pub mostLine : ℕ

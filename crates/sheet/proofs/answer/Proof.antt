@@ -7,7 +7,7 @@ use Rattle.sheet.proofs.answer.Tie as tie
 returns : tie.Need-returns
 returns c =
     let e = c .before .before .before .before .before .before .before .report .ensures in
-    report-answers _ _ _ (e .0) (e .1 .1) (e .1 .0) (c .before .enum-told .given .1)
+    report-answers _ _ _ e (c .before .enum-told .given .1)
 
 pub answer-spec : {M : Type 1} → statement M
 answer-spec =
@@ -26,4 +26,4 @@ answer-spec =
     (λ c.
     let e = c .before .before .before .before .before .before .before .before .before .before .before .report .ensures in
     let p = c .before .before .put-refusal .ensures in
-    refusal-answers _ _ _ (e .0) (e .1 .1) (e .1 .0) (c .before .before .before .before .before .verdict .given .1) (p .0) (p .1)))
+    refusal-answers _ _ _ e (c .before .before .before .before .before .verdict .given .1) (p .0) (p .1)))
