@@ -2,7 +2,7 @@
 use Prim.Native.Nat.{ℕ, _≤_}
 use mathlib.Core.Bool.{true}
 use mathlib.Core.List.{List, [], _∷_, _++_}
-use mathlib.Core.Option.{Option}
+use mathlib.Core.Option.{Option, none, some}
 use mathlib.Core.Path.{_≡_}
 use lib.ListN.{length, drop, replicate}
 use lib.Dec.{ltb}
@@ -67,10 +67,14 @@ pub record AfterWrite : Type 0 where
 abbrev pub afterWrite : WriteResult → (work output : List ℕ) → AfterWrite
 afterWrite r work output = record { result = r; work = work; output = output }
 
+-- refused by this row, or these bytes are written over the first of the output
+abbrev pub writtenOr : Option Refusal → (bytes work output : List ℕ) → AfterWrite
+writtenOr none bytes work output = afterWrite (record { verdict = Accepted; written = length bytes }) work (over bytes output)
+writtenOr (some r) bytes work output = afterWrite (record { verdict = verdict.Refused r; written = 0 }) work output
+
 abbrev pub writtenAs : (Task → List ℕ) → Judged → List ℕ → List ℕ → AfterWrite
-writtenAs print (refused r) work output = afterWrite (record { verdict = verdict.Refused r; written = 0 }) work output
-writtenAs print (task t) work output =
-    afterWrite (record { verdict = Accepted; written = length (print t) }) work (over (print t) output)
+writtenAs print (refused r) work output = writtenOr (some r) [] work output
+writtenAs print (task t) work output = writtenOr none (print t) work output
 
 -- asked: the numbers of the working space that the service asks for; first: the rows that come before those of the text; rows: those of the service
 -- that come after them and before 14

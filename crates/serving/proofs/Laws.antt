@@ -15,8 +15,7 @@ use Rattle.model.specs.declared.WriteResult.{WriteResult}
 use Rattle.model.specs.Rows.{refuse, rowVerdict}
 use Rattle.model.specs.Task.{Task, Judged, refused, task}
 use Rattle.model.specs.Refusal.{orTask, withRows, judged, pricedRows, judge, noRows, rowsBefore, outputRows}
-use Rattle.model.specs.Services.{cleared, over, afterWrite, writtenAs, writtenBy}
-use Rattle.theory.specs.Without.{writtenOr}
+use Rattle.model.specs.Services.{cleared, over, afterWrite, writtenOr, writtenAs, writtenBy}
 use Rattle.theory.proofs.Accepted.{accepted}
 use Rattle.theory.proofs.Firsts.{unless-none}
 use Rattle.theory.proofs.Search.{verdict-none, verdict-some}

@@ -15,8 +15,7 @@ use Rattle.model.specs.Basic.{unless}
 use Rattle.model.specs.Rows.{refuse}
 use Rattle.model.specs.Task.{Task, Judged}
 use Rattle.model.specs.Refusal.{judge, noRows, withRows, rowsBefore, outputRows}
-use Rattle.model.specs.Services.{cleared, AfterWrite, afterWrite, writtenAs}
-use Rattle.theory.specs.Without.{writtenOr}
+use Rattle.model.specs.Services.{cleared, AfterWrite, afterWrite, writtenOr, writtenAs}
 use Rattle.tables.specs.Valid.{Settled}
 use Rattle.prices.specs.declared.Price.{Price}
 use Rattle.prices.specs.Prices.{Small}

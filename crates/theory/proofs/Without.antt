@@ -22,10 +22,10 @@ use Rattle.model.specs.Dearest.{dearestText}
 use Rattle.model.specs.Refusal.{workRow, pricedRows, outputRows, runRows, judged, judge, noRows, orTask, withRows}
 use Rattle.model.specs.Plain.{Event, eventsOf, plain}
 use Rattle.model.specs.Run.{Ran, ran, allowed}
-use Rattle.model.specs.Services.{cleared, over, verdictOf, AfterCheck, afterCheck, checkOf, checkNumber, AfterWrite, writtenAs, writtenBy, writtenOf, reportOf}
+use Rattle.model.specs.Services.{cleared, over, verdictOf, AfterCheck, afterCheck, checkOf, checkNumber, AfterWrite, writtenOr, writtenAs, writtenBy, writtenOf, reportOf}
 use Rattle.model.specs.Services.{dearestOf, AfterRun, servedAs, runAs, runJudged, runWith, runOf}
 use Rattle.model.specs.Opened.{opened}
-use Rattle.theory.specs.Without.{emptyReport, writtenOr, firstRow, noneRan, nonePlain, untouched}
+use Rattle.theory.specs.Without.{emptyReport, firstRow, noneRan, nonePlain, untouched}
 use Rattle.theory.proofs.Accepted.{judged-as}
 use Rattle.theory.proofs.Reading.{read-some}
 use Rattle.theory.proofs.Decimal.{decimal-some}

@@ -2,10 +2,8 @@
 use Prim.Native.Nat.{ℕ}
 use mathlib.Core.List.{List, [], _∷_, _++_}
 use mathlib.Core.Option.{Option, none, some}
-use lib.ListN.{length}
 use Rattle.model.specs.declared.Refusal.{Refusal}
 use Rattle.model.specs.declared.Row.the-variants.{AfterFinish}
-use Rattle.model.specs.declared.Verdict.the-variants as verdict
 use Rattle.model.specs.declared.Ending.{Ending}
 use Rattle.model.specs.declared.Ending.the-variants as ending
 use Rattle.model.specs.declared.RunResult.{RunResult}
@@ -14,17 +12,11 @@ use Rattle.model.specs.Rows.{refuse}
 use Rattle.model.specs.Core.{Core}
 use Rattle.model.specs.Plain.{Event, Plain}
 use Rattle.model.specs.Run.{Ran}
-use Rattle.model.specs.Services.{over, AfterWrite, afterWrite, AfterRun, afterRun}
+use Rattle.model.specs.Services.{AfterRun, afterRun}
 
 -- the report of the empty text
 abbrev pub emptyReport : List ℕ
 emptyReport = bytes "(report\n" ++ bytes "  (total 0)\n" ++ bytes ")\n"
-
--- a service that writes: refused by this row, or these bytes are written
-abbrev pub writtenOr : Option Refusal → (bytes work output : List ℕ) → AfterWrite
-writtenOr none bytes work output =
-    afterWrite (record { verdict = verdict.Accepted; written = length bytes }) work (over bytes output)
-writtenOr (some r) bytes work output = afterWrite (record { verdict = verdict.Refused r; written = 0 }) work output
 
 -- the first event, if there is one, of a task that has finished is refused
 abbrev pub firstRow : List Event → Option Refusal

@@ -8,10 +8,7 @@ pub felknost-check-spec : {M : Type 1} → statement M
 felknost-check-spec =
     tie.close
     (tie.spec
-    (λ c. search needs)
-    (λ c κs. search needs)
-    (λ c. search needs)
-    (λ c. search needs)
+    (λ c. search needs) (λ c κs. search needs) (λ c. search needs) (λ c. search needs)
     (λ c κs. fits (c .before .before .before .before .before .before .before .args .text .now)
     (c .before .before .before .before .judge-text .ensures) (c .before .r .given .1))
     (λ c. accepted (c .before .before .before .before .before .before .args .text .now) (c .before .before .before .judge-text .ensures)

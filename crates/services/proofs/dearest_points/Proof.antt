@@ -7,7 +7,5 @@ pub dearest-points-spec : {M : Type 1} → statement M
 dearest-points-spec =
     tie.close
     (tie.spec
-    (λ c κs. search needs)
-    (λ c. search needs)
-    (λ c. search needs)
+    (λ c κs. search needs) (λ c. search needs) (λ c. search needs)
     (λ c. c .before .before .before .before .write .ensures))

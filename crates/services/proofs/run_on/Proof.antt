@@ -29,9 +29,5 @@ run-on-spec =
     (λ c κs. search needs)
     judge-lent-requires
     run-judged-requires
-    (λ c κs. search needs)
-    (λ c. search needs)
-    (λ c. search needs)
-    (λ c. search needs)
-    (λ c. search needs)
+    (λ c κs. search needs) (λ c. search needs) (λ c. search needs) (λ c. search needs) (λ c. search needs)
     returns)

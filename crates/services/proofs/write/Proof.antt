@@ -27,7 +27,5 @@ write-spec =
     (λ c κs. search needs)
     judge-lent-requires
     write-judged-requires
-    (λ c κs. search needs)
-    (λ c. search needs)
-    (λ c. search needs)
+    (λ c κs. search needs) (λ c. search needs) (λ c. search needs)
     returns)

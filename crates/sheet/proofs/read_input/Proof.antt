@@ -20,13 +20,7 @@ read-input-spec =
     Inv-loop
     μ-loop
     (λ c. (omega arith, refl))
-    (λ c κs. omega arith)
-    (λ c. search needs)
-    (λ c. search needs)
-    (λ c. omega arith)
-    (λ c. search needs)
-    (λ c. omega arith)
-    (λ c. omega arith)
+    (λ c κs. omega arith) (λ c. search needs) (λ c. search needs) (λ c. omega arith) (λ c. search needs) (λ c. omega arith) (λ c. omega arith)
     (λ c. let m = rw (c .before .before .more .given .1) at (c .before .before .before .before .before .before .read-more .ensures) in omega arith)
     (λ c. let m = rw (c .before .before .more .given .1) at (c .before .before .before .before .before .before .read-more .ensures) in omega arith)
     (λ c. let m = rw (c .before .before .more .given .1) at (c .before .before .before .before .before .before .read-more .ensures) in

@@ -27,6 +27,5 @@ report-row-spec =
     (tie.spec
     most-length-requires
     returns
-    (λ c κs. search needs)
-    (λ c κs. search needs)
+    (λ c κs. search needs) (λ c κs. search needs)
     returns-2)
