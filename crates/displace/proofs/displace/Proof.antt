@@ -58,8 +58,8 @@ slice-write-work-2 c =
     let a = c .before .before .before .before .before .before .before .before .before .before .before .before .before .pre in
     simp length-set (omega (arith, ordered-few (a .0) (a .1), a .0 .displacing .ready .room))
 
-place-requires : tie.Need-place-requires
-place-requires c κs =
+insert-requires : tie.Need-insert-requires
+insert-requires c κs =
     let b = c .before .before .before .before .before .before .before .before .before in
     let a = b .before .before .before .before .before .pre in
     let e = longest-here (a .0) (a .1) (b .before .before .span-at .ensures) (b .callee-range .ensures) in
@@ -77,4 +77,4 @@ displace-spec =
     tie.close
     (tie.spec
     (λ c κs. search needs) callee-range-requires shortest-of-requires add-work add-work-2 mul-work slice-write-work add-work-3 mul-work-2
-    slice-write-work-2 place-requires (λ c. returns c .1 .size) returns)
+    slice-write-work-2 insert-requires (λ c. returns c .1 .size) returns)
