@@ -1,10 +1,11 @@
 -- The judgement of a text as one number, and what a service returns as the numbers of a result.
 use Prim.Native.Nat.{ℕ, suc, _+_, _≤_, _<_}
 use mathlib.Core.Path.{_≡_, refl, ap, _∙_}
-use mathlib.Core.List.{List, [], _∷_, _++_}
+use mathlib.Core.List.{List, [], _∷_}
 use native.Mathlib.Omega.{arith}
-use lib.ListN.{length, set}
-use lib.Seq.{take-length, paste}
+use native.Mathlib.Numerals.{add-one}
+use lib.ListN.{length, getD, set}
+use lib.Seq.{take-length, paste, paste-zero, paste-suc}
 use borrow.Author.Tests.{lt-ltb, le-ltb}
 use Rattle.model.specs.declared.Refusal.{Refusal}
 use Rattle.model.specs.Rows.{packed}
@@ -33,13 +34,25 @@ module _ (text : List ℕ) {r : Judgement} {w w′ : List ℕ} (a : Judges (judg
     pub numbered : {n : ℕ} → n ≡ packed q → n ≡ checkNumber text
     numbered i = rw (number-is, e) i
 
--- two numbers and then a list, written over the first of a buffer
-pub put-over : (a b : ℕ) (added l : List ℕ) → 2 + length added ≤ length l
-    → paste (set (set l 0 a) 1 b) 2 added (length added) ≡ over (a ∷ b ∷ added) l
-unfolding over
-put-over a b added [] h = absurd (omega arith)
-put-over a b added (x ∷ []) h = absurd (omega arith)
-put-over a b added (x ∷ y ∷ l) h =
+-- the first n of the numbers that are added, written behind code and place
+unfoldable pub put : List ℕ → ℕ → List ℕ → List ℕ
+put added n l = paste l 2 added n
+
+pub put-none : (added l : List ℕ) → l ≡ put added 0 l
+unfolding put
+put-none added l = paste-zero l 2 added
+
+pub put-more : (added : List ℕ) (n : ℕ) (l : List ℕ) {k : List ℕ} → k ≡ put added n l → n < length added → 2 + length added ≤ length l
+    → set k (2 + n) (getD added n 0) ≡ put added (n + 1) l
+unfolding put
+put-more added n l e h m = rw (e, add-one) (paste-suc l 2 added n 0 (omega arith) h)
+
+-- all of them, with code and place
+pub put-all : (a b : ℕ) (added l : List ℕ) → 2 + length added ≤ length l → put added (length added) (set (set l 0 a) 1 b) ≡ over (a ∷ b ∷ added) l
+unfolding put over
+put-all a b added [] h = absurd (omega arith)
+put-all a b added (x ∷ []) h = absurd (omega arith)
+put-all a b added (x ∷ y ∷ l) h =
     let e : 2 + length added ≡ suc (suc (length added)) = omega arith in
     rw (e, take-length added) refl
 

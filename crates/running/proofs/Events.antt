@@ -273,7 +273,7 @@ module _ {x : Eviction} {first : Option Refusal} {rows : Task → Option Refusal
       ∙ ap (λ (z : Judged). runAs x sheet z (cleared workLength w) (eventsOf events) answers cache memory)
       (sym (own-rows own first text ∙ ap (withRows own) (a .same)))
 
--- what is so of that where it is run or run_lazy, clause by clause
+-- where it is run or run_lazy: this, and what is so of it, clause by clause
 abbrev RunHolds : Eviction → List ℕ → ℕ → ℕ → (work events answers cache memory : List ℕ) → AfterRun → Type 0
 RunHolds x text start each work events answers cache memory after =
     let j = runJudgedOf text start each work events answers cache memory in
@@ -282,9 +282,12 @@ RunHolds x text start each work events answers cache memory after =
     × (start ≡ 0 → each ≡ 1 → PaysOnce sheetOf j (eventsOf events) (after .result .moved)))
 
 pub run-holds : (x : Eviction) (text : List ℕ) (start each : ℕ) (work events answers cache memory : List ℕ) {after : AfterRun}
-    → after ≡ runOf x text start each work events answers cache memory → RunHolds x text start each work events answers cache memory after
-run-holds x text start each work events answers cache memory e =
-    subst (λ (z : AfterRun). RunHolds x text start each work events answers cache memory z) (sym e) (
-      demand-3 x text start each work events answers cache memory,
-      (leaves-clean x text start each work events answers cache memory, services-once x text start each work events answers cache memory),
-    )
+    → after ≡ runOf x text start each work events answers cache memory
+    → (after ≡ runOf x text start each work events answers cache memory) × RunHolds x text start each work events answers cache memory after
+run-holds x text start each work events answers cache memory e = (
+  e,
+  subst (λ (z : AfterRun). RunHolds x text start each work events answers cache memory z) (sym e) (
+    demand-3 x text start each work events answers cache memory,
+    (leaves-clean x text start each work events answers cache memory, services-once x text start each work events answers cache memory),
+  ),
+)

@@ -3,37 +3,19 @@ use Prim.Native.Nat.{_+_, _-_, _≤_}
 use mathlib.Core.Path.{_≡_, refl, _∙_}
 use mathlib.Core.List.{_∷_}
 use native.Mathlib.Omega.{arith}
-use native.Mathlib.Numerals.{add-one}
-use lib.ListN.{length, getD, set, length-set}
-use lib.Seq.{paste, paste-zero, paste-suc}
+use lib.ListN.{length, length-set}
 use borrow.Author.Needs.{needs}
 use Rattle.model.specs.Services.{over}
-use Rattle.felknost.proofs.Laws.{put-over}
+use Rattle.felknost.proofs.Laws.{put, put-none, put-more, put-all}
 use Rattle.felknost.proofs.put_numbers.Statement.{statement}
 use Rattle.felknost.proofs.put_numbers.Tie as tie
 
 abbrev Inv-loop : tie.InvT-loop
 Inv-loop result₀ added i₀ result i =
-    (i ≤ length added) × (2 + length added ≤ length result₀) × (length result ≡ length result₀) × (result ≡ paste result₀ 2 added i)
+    (i ≤ length added) × (2 + length added ≤ length result₀) × (length result ≡ length result₀) × (result ≡ put added i result₀)
 
 abbrev μ-loop : tie.MeasureT-loop
 μ-loop result₀ added i₀ result i = length added - i
-
-loop-holds : tie.Need-loop-holds Inv-loop μ-loop
-loop-holds c =
-    let s = c .before .before .before .before in
-    (omega arith, simp length-set (s .pre), refl, paste-zero _ 2 (s .args .added .now))
-
-loop-again : tie.Need-loop-again Inv-loop μ-loop
-loop-again c =
-    let l = c .before .before .loop in
-    let s = c .before .before .before .before .before .before .before .args in
-    let d = set (set (s .result .now) 0 (c .before .before .before .before .code-of .result)) 1 (c .before .before .before .place-of .result) in (
-      omega arith,
-      l .inv .1,
-      length-set (l .result) (2 + l .i) (getD (s .added .now) (l .i) 0) ∙ l .inv .2,
-      rw (l .inv .3, add-one) (paste-suc d 2 (s .added .now) (l .i) 0 (omega arith) (omega arith)),
-    )
 
 returns : tie.Need-returns Inv-loop μ-loop
 returns c =
@@ -42,8 +24,15 @@ returns c =
     let e : l .i ≡ length (s .args .added .now) = omega arith in
     let p = c .before .before .place-of .ensures in
     let n = c .before .before .before .code-of .ensures in
-    rw e at (l .inv .3) ∙ put-over _ _ (s .args .added .now) (s .args .result .now) (s .pre)
-    ∙ (λ i. over (n i ∷ p i ∷ s .args .added .now) (s .args .result .now))
+    rw e at (l .inv .3) ∙ put-all _ _ _ _ (s .pre) ∙ (λ i. over (n i ∷ p i ∷ s .args .added .now) (s .args .result .now))
+
+loop-holds : tie.Need-loop-holds Inv-loop μ-loop
+loop-holds c = (omega arith, simp length-set (c .before .before .before .before .pre), refl, put-none _ _)
+
+loop-again : tie.Need-loop-again Inv-loop μ-loop
+loop-again c =
+    let l = c .before .before .loop in
+    (omega arith, l .inv .1, length-set (l .result) (2 + l .i) _ ∙ l .inv .2, put-more _ _ _ (l .inv .3) (omega arith) (l .inv .1))
 
 pub put-numbers-spec : {M : Type 1} → statement M
 put-numbers-spec =

@@ -9,9 +9,8 @@ returns : tie.Need-returns
 returns c =
     let o = c .before .before .before .before .before .before .before .before in
     let a = o .before .before .before .before .before .before .before .before .before .before .before .args in
-    let e = o .run-on .ensures in
-    let h = run-holds Eager (a .text .now) (a .start) (a .each) (a .work .now) (a .events .now) (a .answers .now) (a .cache .now) (a .memory .now) e in
-    (e, (h .0, h .1 .1))
+    let h = run-holds Eager (a .text .now) (a .start) (a .each) (a .work .now) (a .events .now) (a .answers .now) (a .cache .now) (a .memory .now) (o .run-on .ensures) in
+    (h .0, (h .1 .0, h .1 .1 .1))
 
 pub run-spec : {M : Type 1} → statement M
 run-spec =

@@ -9,8 +9,7 @@ returns : tie.Need-returns
 returns c =
     let o = c .before .before .before .before .before .before .before .before in
     let a = o .before .before .before .before .before .before .before .before .before .before .before .args in
-    let e = o .run-on .ensures in
-    (e, run-holds Lazy (a .text .now) (a .start) (a .each) (a .work .now) (a .events .now) (a .answers .now) (a .cache .now) (a .memory .now) e)
+    run-holds Lazy (a .text .now) (a .start) (a .each) (a .work .now) (a .events .now) (a .answers .now) (a .cache .now) (a .memory .now) (o .run-on .ensures)
 
 pub run-lazy-spec : {M : Type 1} → statement M
 run-lazy-spec =

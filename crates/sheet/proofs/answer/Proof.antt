@@ -6,8 +6,9 @@ use Rattle.sheet.proofs.answer.Tie as tie
 
 returns : tie.Need-returns
 returns c =
-    let e = c .before .before .before .before .before .before .before .report .ensures in
-    report-answers _ _ _ e (c .before .enum-told .given .1)
+    let r = c .before .before .before .before .before .before .before in
+    let a = r .before .before .before .before .before .before .args in
+    report-answers (a .text .now) (a .work .now) (a .output .now) (r .report .ensures) (c .before .enum-told .given .1)
 
 pub answer-spec : {M : Type 1} → statement M
 answer-spec =
