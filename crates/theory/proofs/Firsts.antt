@@ -70,19 +70,6 @@ module _ {ℓ} {B : Type ℓ} where
     counted-past i (suc m) n h =
         rw (suc-add, counted-step, h i (omega arith) (omega arith), add-suc, ← suc-add) (counted-past (suc i) m n (λ j a b. h j (omega arith) (omega arith)))
 
-    -- the answer of the first number that gives one
-    pub counted-found : {r : B} (i m n : ℕ) → ((j : ℕ) → i ≤ j → j < i + m → g j ≡ none) → g (i + m) ≡ some r → 0 < n
-        → firstOf g (countFrom i (m + n)) ≡ some r
-    counted-found i m zero h e k = absurd (omega arith)
-    counted-found i m (suc n) h e k = counted-past i m (suc n) h ∙ rw (counted-step, e)
-
-    -- the answer of the lowest number that gives one
-    pub below-found : {r : B} (n j : ℕ) → j < n → ((i : ℕ) → i < j → g i ≡ none) → g j ≡ some r → firstOf g (upTo n) ≡ some r
-    below-found n j h k e =
-        let s : n ≡ j + (n - j) = omega arith in
-        let z : 0 + j ≡ j = omega arith in
-        rw s (counted-found 0 j (n - j) (λ i a b. k i (omega arith)) (rw z e) (omega arith))
-
 -- the element that a first answer comes from
 pub first-some : {A : Type 0} (g : A → Option Refusal) (l : List A) (r : Refusal) → firstOf g l ≡ some r
     → (a : A) × List·Memᴰ a l × (g a ≡ some r)
