@@ -9,7 +9,6 @@ use Rattle.prices.specs.declared.Price.{Price}
 use Rattle.prices.specs.Prices.{priceOf}
 use Rattle.readout.specs.Sheet.{sheetIn}
 use Rattle.readout.specs.Readable.{Readable}
-pub use Rattle.columns.specs.Columns.{columnsEnd}
 
 -- the columns can be read, and the sheet in them is that of the task at this price
 pub record Figured (price : Price) (w : List ℕ) (h : Header) : Type 0 where

@@ -21,7 +21,7 @@ use Rattle.tables.specs.Valid.{Kept}
 use Rattle.prices.specs.declared.Price.{Price}
 use Rattle.readout.specs.Sheet.{sheetIn}
 use Rattle.bounds.specs.Bounds.{Bounded}
-pub use Rattle.steps.specs.Frames.{framesEnd}
+use Rattle.steps.specs.Frames.{framesEnd}
 
 -- the working space has the task, a sheet that obeys the rules and the bounds of its events, the task has a function 0, and rows 16 to 19 refuse none
 -- of the buffers
