@@ -24,7 +24,7 @@ use Rattle.model.specs.Refusal.{judged, workRow, pricedRows, judge, noRo
 use Rattle.model.specs.Plain.{eventsOf, plain}
 use Rattle.model.specs.Run.{Place, allowed}
 use Rattle.model.specs.Preemptions.{preemptions, spillsAndFills}
-use Rattle.model.specs.Services.{cleared, afterWrite, writtenBy, reportOf, dearestOf, runOf, called, exported}
+use Rattle.model.specs.Services.{cleared, afterWrite, writtenBy, reportOf, dearestOf, runJudged, runOf, called, exported}
 use Rattle.model.specs.Opened.{opened}
 use Rattle.model.specs.Examples.{lines, sample, sevenSteps, withPreemption}
 
@@ -219,7 +219,7 @@ pub priceRows :
 unfolding opened lines sample
 priceRows = (refl, refl, refl, refl, refl, refl, refl, refl)
 
--- a service that asks for another length: 15 gives that length, and so many numbers become 0. Rows of a service come after those of the text and before 14.
+-- a service that asks for another length: 15 gives that length, and so many numbers become 0. Rows of a service come after those of the text and before 14, and before 16.
 -- As C calls it: the numbers of what it returns over the first of the result, or nothing where the result has fewer
 pub buffers :
     (judge (workRow 262144 16384) noRows sample ≡ refused (refuse WorkTooSmall 262144))
@@ -229,10 +229,11 @@ pub buffers :
     ≡ afterWrite (record { verdict = verdict.Refused (refuse Choice 6); written = 0 }) (0 ∷ 0 ∷ 3 ∷ []) [])
     × (writtenBy 2 none noRows (λ t. 1 ∷ []) sample (3 ∷ 3 ∷ 3 ∷ []) []
     ≡ afterWrite (record { verdict = verdict.Refused (refuse OutputTooSmall 1); written = 0 }) (0 ∷ 0 ∷ 3 ∷ []) [])
+    × (runJudged none (λ t. some (refuse Choice 6)) sample (1 ∷ []) [] [] [] ≡ refused (refuse Choice 6))
     × (exported {A = ℕ} (7 ∷ 8 ∷ []) 1 0 (9 ∷ 9 ∷ 9 ∷ []) ≡ called 1 (7 ∷ 8 ∷ 9 ∷ []) 1)
     × (exported {A = ℕ} (7 ∷ 8 ∷ []) 1 0 (9 ∷ []) ≡ called 0 (9 ∷ []) 0)
 unfolding opened lines sample
-buffers = (refl, refl, refl, refl, refl, refl, refl)
+buffers = (refl, refl, refl, refl, refl, refl, refl, refl)
 
 -- document 02, request 5, on the example of document 01: its total in blocks and at a price, and what the service returns and leaves of an output that has
 -- room for all but the last byte

@@ -197,15 +197,16 @@ writeBuffers work output = record { work = work; output = output }
 abbrev pub writeLeft : AfterWrite → WriteBuffers
 writeLeft after = writeBuffers (after .work) (after .output)
 
+abbrev pub writtenNumbers : AfterWrite → WriteBuffers → List ℕ → Called WriteBuffers
+writtenNumbers after lent result = exported (resultNumbers (after .result)) (writeLeft after) lent result
+
 abbrev pub reportNumbers : List ℕ → ℕ → ℕ → List ℕ → List ℕ → List ℕ → Called WriteBuffers
 reportNumbers text start each work output result =
-    let after = reportOf text start each work output in
-    exported (resultNumbers (after .result)) (writeLeft after) (writeBuffers work output) result
+    writtenNumbers (reportOf text start each work output) (writeBuffers work output) result
 
 abbrev pub dearestNumbers : List ℕ → ℕ → ℕ → List ℕ → List ℕ → List ℕ → Called WriteBuffers
 dearestNumbers text start each work output result =
-    let after = dearestOf text start each work output in
-    exported (resultNumbers (after .result)) (writeLeft after) (writeBuffers work output) result
+    writtenNumbers (dearestOf text start each work output) (writeBuffers work output) result
 
 -- run, on either core: code, place, events done, moved and allowed
 abbrev pub runResultNumbers : RunResult → List ℕ

@@ -1,7 +1,7 @@
 -- The turn of the model that a call, an ensure and a preemption are, and what the columns have for each.
 use Prim.Native.Nat.{ℕ, suc, _+_, _-_, _≤_, _<_}
 use mathlib.Core.List.{List, _∷_}
-use mathlib.Core.Path.{_≡_, refl, ap, sym, subst, _∙_}
+use mathlib.Core.Path.{_≡_, refl, ap, sym, _∙_}
 use native.Mathlib.Omega.{arith}
 use lib.ListN.{length}
 use Rattle.model.specs.declared.Point.the-variants.{Call, Ensure}
@@ -14,12 +14,12 @@ use Rattle.tables.specs.declared.Span.{Span}
 use Rattle.tables.specs.Tables.{item, spanAt, taskOf}
 use Rattle.tables.specs.Valid.{Lies}
 use Rattle.tables.proofs.Laws.{count-is, frame-is}
-use Rattle.tables.proofs.Valid.{lies-in, settled-fits}
+use Rattle.tables.proofs.Valid.{settled-fits}
 use Rattle.prices.specs.declared.Price.{Price}
 use Rattle.prices.specs.Prices.{priceOf}
 use Rattle.columns.specs.Columns.{deadColumn, needColumn, Points}
 use Rattle.readout.specs.Sheet.{sheetIn}
-use Rattle.readout.proofs.Read.{dead-there, need-there}
+use Rattle.readout.proofs.Read.{lies-there, dead-there, need-there}
 use Rattle.bounds.specs.Bounds.{costBounds, fillBounds, spillBounds, boundsEnd}
 use Rattle.machine.specs.declared.Moved.{Moved}
 use Rattle.machine.specs.declared.Preempted.{Preempted}
@@ -125,7 +125,7 @@ inside-small {x = x} {s = s} k =
 module _ {price : Price} {w : List ℕ} {h : Header} {x : State} {s : Span} (k : Inside price w h x s) where
   pub read-inside : (column : ℕ) → column + mostInAll ≤ boundsEnd → Lies w s × (x .p < s .size) × (column + mostInAll ≤ length w)
   read-inside column l = (
-    subst (λ (s : Span). Lies w s) (sym (k .span)) (lies-in (k .bounded .readable .settled .holds) (x .f) (k .fn-in)),
+    lies-there (k .bounded .readable) (k .fn-in) (k .span),
     k .at-in,
     omega (arith, k .bounded .readable .room),
   )

@@ -32,7 +32,7 @@ pub size-low : {price : Price} {w : List ℕ} {h : Header} {f : ℕ} {s : Span} 
 size-low {f = f} k = omega (arith, ap (λ (s : Span). s .size) (k .span), settled-fits (k .readable .settled) f (k .low) .small)
 
 module _ {price : Price} {w : List ℕ} {h : Header} {f : ℕ} {s : Span} (k : Readable price w h) (l : f < h .funcs) (e : s ≡ spanAt w f) where
-  lies-there : Lies w s
+  pub lies-there : Lies w s
   lies-there = subst (λ (s : Span). Lies w s) (sym e) (lies-in (k .settled .holds) f l)
 
   pub read-there : (column : ℕ) {p : ℕ} → column ≤ fillColumn → p < s .size → Lies w s × (p < s .size) × (column + mostInAll ≤ length w)

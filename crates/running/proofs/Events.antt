@@ -273,7 +273,7 @@ module _ {x : Eviction} {first : Option Refusal} {rows : Task → Option Refusal
       ∙ ap (λ (z : Judged). runAs x sheet z (cleared workLength w) (eventsOf events) answers cache memory)
       (sym (own-rows own first text ∙ ap (withRows own) (a .same)))
 
--- where it is run or run_lazy: this, and what is so of it, clause by clause
+-- what follows of run and run_lazy from the equation of what they return and leave, in the order of their clauses
 abbrev RunHolds : Eviction → List ℕ → ℕ → ℕ → (work events answers cache memory : List ℕ) → AfterRun → Type 0
 RunHolds x text start each work events answers cache memory after =
     let j = runJudgedOf text start each work events answers cache memory in

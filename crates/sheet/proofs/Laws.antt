@@ -29,8 +29,8 @@ numbers-small a b h k zero = h
 numbers-small a b h k (suc zero) = k
 numbers-small a b h k (suc (suc i)) = omega arith
 
-pub row-fits : (w : List ℕ) (a b n : ℕ) → length w ≤ 8 → a < 2 ^ 32 → b < 2 ^ 32 → mostLine ≤ n → 0 + length (lineText w (a ∷ b ∷ [])) ≤ n
-row-fits w a b n l h k m = omega (arith, line-most w (a ∷ b ∷ []) (numbers-small a b h k))
+pub line-fits : (w : List ℕ) (a b n : ℕ) → length w ≤ 8 → a < 2 ^ 32 → b < 2 ^ 32 → mostLine ≤ n → 0 + length (lineText w (a ∷ b ∷ [])) ≤ n
+line-fits w a b n l h k m = omega (arith, line-most w (a ∷ b ∷ []) (numbers-small a b h k))
 
 -- bytes written over the front of a buffer that is long enough leave its length
 pub length-over : (l out : List ℕ) → length l ≤ length out → length (over l out) ≡ length out

@@ -22,7 +22,7 @@ use Rattle.theory.specs.Sound.{Ground, Marked, SoundCall, SoundAt, Sound
 use Rattle.theory.specs.Agree.{Agree}
 use Rattle.theory.proofs.Lists.{map-same, joined-same, mem-upTo}
 use Rattle.theory.proofs.Links.{closed, callee-later, ensure-after-call}
-use Rattle.theory.proofs.Frames.{places, frames-step, Standing, standing-start, standing-step}
+use Rattle.theory.proofs.Frames.{places, frames-turn, Standing, standing-start, standing-step}
 use Rattle.theory.proofs.Fair.{state-is, by-start}
 
 module _ {t : Task} {s r : Sheet} (a : Agree t s r) where
@@ -91,13 +91,6 @@ module _ {t : Task} {s r : Sheet} (a : Agree t s r) where
   standing-event w (x ∷ fs) (takes v) (Standing.runs i b) = standing-step t w x fs (point (func t (x .fn)) (x .at)) v refl i b
   standing-event w (x ∷ fs) (preempted v) j = j
 
-  frames-event : (fs : List Frame) (c : Core) (e : Act)
-      → turn t s (record { frames = places fs; core = c }) e .state .frames ≡ places (afterEvent t fs e)
-  unfolding turn places afterEvent
-  frames-event [] c e = refl
-  frames-event (x ∷ fs) c (takes v) = frames-step t x fs c (point (func t (x .fn)) (x .at)) v
-  frames-event (x ∷ fs) c (preempted v) = refl
-
   -- the same run
   ran-from : WellFormed t → (i : ℕ) (es : List Event) (fs : List Frame) (c : Core) → Standing t fs
       → ranFrom t s i (record { frames = places fs; core = c }) es ≡ ranFrom t r i (record { frames = places fs; core = c }) es
@@ -107,7 +100,7 @@ module _ {t : Task} {s r : Sheet} (a : Agree t s r) where
       let u = turn t s (record { frames = places fs; core = c }) (act e) in
       let same = turn-agree fs c (act e) j in
       let rest = ran-from w (suc i) es (afterEvent t fs (act e)) (u .state .core) (standing-event w fs (act e) j) in
-      let state = state-is (u .state) (afterEvent t fs (act e)) (frames-event fs c (act e)) in
+      let state = state-is (u .state) (afterEvent t fs (act e)) (frames-turn t s fs c (act e)) in
       let later =
       ap (λ (x : State). ranFrom t s (suc i) x es) state ∙ rest ∙ ap (λ (x : State). ranFrom t r (suc i) x es) (sym state)
       ∙ ap (λ (v : Turn). ranFrom t r (suc i) (v .state) es) same in

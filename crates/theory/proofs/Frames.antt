@@ -15,8 +15,8 @@ use Rattle.model.specs.Walk.{leads, called, isCall}
 use Rattle.model.specs.Core.{Core}
 use Rattle.model.specs.Figures.{longest}
 use Rattle.model.specs.Sheet.{Sheet}
-use Rattle.model.specs.Plain.{Frame, movedTo, running, stepped, mainFrames, firstFrames}
-use Rattle.model.specs.Run.{Place, runningPlace, stepTurn}
+use Rattle.model.specs.Plain.{Frame, Act, takes, preempted, movedTo, running, stepped, afterEvent, mainFrames, firstFrames}
+use Rattle.model.specs.Run.{Place, runningPlace, stepTurn, turn}
 use Rattle.theory.proofs.Lists.{by-test}
 use Rattle.model.specs.WellFormed.{WellFormed}
 use Rattle.theory.proofs.Links.{closed, callee-later, ensure-after-call}
@@ -46,6 +46,14 @@ frames-step t x fs c (Ensure k) v = refl
 frames-step t x fs c (Goto q) v = refl
 frames-step t x fs c (Either q r) v = refl
 frames-step t x fs c Return v = refl
+
+-- the frames after an event do not depend on the core
+pub frames-turn : (t : Task) (s : Sheet) (fs : List Frame) (c : Core) (e : Act)
+    → turn t s (record { frames = places fs; core = c }) e .state .frames ≡ places (afterEvent t fs e)
+unfolding turn places afterEvent
+frames-turn t s [] c e = refl
+frames-turn t s (x ∷ fs) c (takes v) = frames-step t x fs c (point (func t (x .fn)) (x .at)) v
+frames-turn t s (x ∷ fs) c (preempted v) = refl
 
 -- a frame is at a point of a function of the task
 pub record In (t : Task) (x : Frame) : Type 0 where

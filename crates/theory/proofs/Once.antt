@@ -32,7 +32,7 @@ use Rattle.theory.specs.Cores.{eagerly}
 use Rattle.theory.proofs.Lists.{sum-append}
 use Rattle.theory.proofs.Blocks.{length-filled}
 use Rattle.theory.proofs.Clean.{effective-between, clean-idle}
-use Rattle.theory.proofs.Frames.{places, running-same, frames-step, In, Standing, Window, Needed}
+use Rattle.theory.proofs.Frames.{places, running-same, frames-turn, In, Standing, Window, Needed}
 use Rattle.theory.proofs.Window.{window-idle}
 use Rattle.theory.proofs.Occupancy.{Occupied}
 use Rattle.theory.proofs.Potential.{potential, paid, potential-start, save-covers, reload-covers, left-delayed}
@@ -134,14 +134,6 @@ closer-turn t s (x ∷ fs) a b (preempted v) h =
           rw (all-written a (h .first-eager), all-written b (h .second-eager))
           (closer-preempt (a .occupancy) (b .occupancy) (y .dead) (y .need) (h .fewer));
     }
-
--- the frames after an event do not depend on the core
-frames-turn : (t : Task) (s : Sheet) (fs : List Frame) (c : Core) (e : Act)
-    → turn t s (record { frames = places fs; core = c }) e .state .frames ≡ places (afterEvent t fs e)
-unfolding turn places afterEvent
-frames-turn t s [] c e = refl
-frames-turn t s (x ∷ fs) c (takes v) = frames-step t x fs c (point (func t (x .fn)) (x .at)) v
-frames-turn t s (x ∷ fs) c (preempted v) = refl
 
 module _ (t : Task) (s : Sheet) (counted : s .price ≡ inBlocks) where
   price-is : (n : ℕ) → s .price n ≡ n

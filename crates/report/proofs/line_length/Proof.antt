@@ -1,4 +1,4 @@
--- The row of the numbers, with once or without.
+-- The line of the numbers, with once or without.
 use mathlib.Core.Bool.{true, false}
 use mathlib.Core.Path.{ap, sym, _∙_}
 use lib.ListN.{length}

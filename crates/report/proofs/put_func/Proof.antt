@@ -11,14 +11,14 @@ use Rattle.report.proofs.put_func.Tie as tie
 
 returns : tie.Need-returns
 returns c =
-    let row = c .before .before .before .before .before .before .before in
-    let span = row .before .before .before .before .before .span-at .ensures in
-    let start = row .before .before .before .before .before .before .before .before in
+    let line = c .before .before .before .before .before .before .before in
+    let span = line .before .before .before .before .before .span-at .ensures in
+    let start = line .before .before .before .before .before .before .before .before in
     let a = start .args in
     let k = there (start .pre .0) (start .pre .1) span in
     let part = headPart (a .price) (a .work .now) (a .h) (a .f) in
-    let own = row .before .before .func-numbers .ensures .0 in
-    let head = line-added part refl own (row .put-line .ensures) (c .before .before .before .before .and-line .ensures) in
+    let own = line .before .before .func-numbers .ensures .0 in
+    let head = line-added part refl own (line .put-line .ensures) (c .before .before .before .before .and-line .ensures) in
     rw (opened-func k) (adds-both (room-start (start .pre .2)) head (c .before .before .put-points .ensures))
 
 put-line-requires : tie.Need-put-line-requires
@@ -34,15 +34,15 @@ put-line-requires c κs =
 
 put-points-requires : tie.Need-put-points-requires
 put-points-requires c κs =
-    let row = c .before .before .before .before in
-    let span = row .before .before .before .before .before .span-at in
-    let start = row .before .before .before .before .before .before .before .before in
+    let line = c .before .before .before .before in
+    let span = line .before .before .before .before .before .span-at in
+    let start = line .before .before .before .before .before .before .before .before in
     let a = start .args in
     let k = there (start .pre .0) (start .pre .1) (span .ensures) in
     let part = headPart (a .price) (a .work .now) (a .h) (a .f) in
     let points = pointsPart (a .price) (a .work .now) (a .h) (a .f) (span .result .size) in
-    let own = row .before .before .func-numbers .ensures .0 in
-    let head = line-added part refl own (row .put-line .ensures) (c .before .and-line .ensures) in
+    let own = line .before .before .func-numbers .ensures .0 in
+    let head = line-added part refl own (line .put-line .ensures) (c .before .and-line .ensures) in
     let room = room-second part points (rw (opened-func k) at (start .pre .2)) (adds-counts head) in
     (k, record { bytes = omega (arith, room .bytes); sum = room .sum })
 

@@ -37,8 +37,8 @@ returns c =
     let funcs = after .put-funcs .ensures in
     let first = after .before .before .before .before in
     let a = first .before .before .before .before .before .args in
-    let row = c .before .before .before .before .before .before .before .put-line .ensures in
-    let foot = rw (foot-text (a .price) (a .work .now) (a .h) _ (funcs .total)) at row in
+    let line = c .before .before .before .before .before .before .before .put-line .ensures in
+    let foot = rw (foot-text (a .price) (a .work .now) (a .h) _ (funcs .total)) at line in
     report-wrote (a .price) (a .work .now) (a .h) (first .put .ensures) (funcs .wrote) foot (c .before .before .put2 .ensures)
 
 pub put-report-spec : {M : Type 1} → statement M

@@ -1,8 +1,8 @@
--- The line of a refusal is a row of its code and its place, and there is room for it.
+-- The line of a refusal has its code and its place, and there is room for it.
 use native.Mathlib.Omega.{arith}
 use borrow.Author.Needs.{needs}
 use Rattle.sheet.specs.Answer.{refusalLine}
-use Rattle.sheet.proofs.Laws.{row-fits}
+use Rattle.sheet.proofs.Laws.{line-fits}
 use Rattle.sheet.proofs.put_refusal.Statement.{statement}
 use Rattle.sheet.proofs.put_refusal.Tie as tie
 
@@ -12,8 +12,8 @@ put-refusal-spec =
     tie.close
     (tie.spec
     (λ c. search needs) (λ c κs. search needs) (λ c. search needs)
-    (λ c κs. row-fits _ _ _ _ (omega arith) (omega arith) (omega arith) (omega arith))
+    (λ c κs. line-fits _ _ _ _ (omega arith) (omega arith) (omega arith) (omega arith))
     (λ c. search needs)
     (λ c.
     let p = c .before .before .put-line .ensures in
-    (rw (c .before .before .before .before .code-of .ensures) at p, rw (p .end) (row-fits _ _ _ _ (omega arith) (omega arith) (omega arith) (omega arith)))))
+    (rw (c .before .before .before .before .code-of .ensures) at p, rw (p .end) (line-fits _ _ _ _ (omega arith) (omega arith) (omega arith) (omega arith)))))
