@@ -1,4 +1,6 @@
 // The backward gen/kill data-flow kernel over the points of one function: rounds from the last point to the first until a round changes nothing.
+#![tactic(auto)]
+
 ghost use Rattle.std.specs.Prelude.{◌≡◌, ◌<◌, ◌≤◌, length};
 ghost use Rattle.model.specs.Walk.{leads};
 ghost use Rattle.tables.specs.Tables.{func_in};

@@ -1,4 +1,6 @@
 // Sets of 64 bits: one bit, the lowest bits, the reading of a bit, the highest and the lowest bit, and the operators by name.
+#![tactic(auto)]
+
 ghost use Rattle.std.specs.Prelude.{◌≡◌, ◌<◌, ◌≤◌, length};
 ghost use Rattle.bits.specs.Bits.{set_bits, bit, Single, Low, Top, Lowest, union, difference, transfer, cleared};
 

@@ -1,5 +1,7 @@
 // What the sheet allows at each event of a run: the cost of a preemption, the fill of an ensure, the spill of a call. A run reads one of them at
 // every event, and a price takes a multiplication; so they are worked out once, into columns behind the figures, and an event reads one number.
+#![tactic(auto)]
+
 ghost use Rattle.std.specs.Prelude.{◌≡◌, ◌+◌, ◌<◌, ◌≤◌, length};
 ghost use Rattle.tables.specs.Tables.{span_at};
 ghost use Rattle.problems.specs.Problems.{Filled};

@@ -1,4 +1,6 @@
 // The numbers that a refusal stands for: a code and a place, or both in one number.
+#![tactic(auto)]
+
 ghost use Rattle.std.specs.Prelude.{◌≡◌, ◌≤◌};
 ghost use Rattle.model.specs.Rows.{code_of, packed};
 

@@ -1,5 +1,7 @@
 // The columns of figures behind the tables: the numbers that the points of a function are given from the tables and the columns,
 // and the writes into one column.
+#![tactic(auto)]
+
 ghost use Rattle.std.specs.Prelude.{◌≡◌, ◌+◌, ◌<◌, ◌≤◌, length};
 ghost use Rattle.model.specs.Limits.{most_stack, most_funcs, most_in_all};
 ghost use Rattle.tables.specs.Tables.{item};

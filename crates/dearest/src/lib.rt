@@ -1,5 +1,7 @@
 // The ten dearest points of a task by the sheet in the columns: found in one pass over the points, and printed, a line each. A point has a rank,
 // one number that is higher where the point comes earlier in the list, so the pass compares numbers.
+#![tactic(auto)]
+
 ghost use Rattle.std.specs.Prelude.{◌≡◌, ◌+◌, ◌<◌, ◌≤◌, length, replicate};
 ghost use Rattle.model.specs.Limits.{most_funcs, most_points, most_dearest};
 ghost use Rattle.model.specs.Text.{bytes};

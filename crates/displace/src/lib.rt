@@ -1,5 +1,7 @@
 // D and d of every function of the task in the tables, from the last function to the first. d comes from the walks of a function: the functions behind it
 // have levels in the order of their d, and the levels are the bits of one gen/kill problem.
+#![tactic(auto)]
+
 ghost use Rattle.std.specs.Prelude.{◌≡◌, ℕ, ◌+◌, ◌<◌, ◌≤◌, min, ltb, length};
 ghost use Rattle.model.specs.Basic.{if◌then◌else◌};
 ghost use Rattle.model.specs.Figures.{shortest};

@@ -1,4 +1,6 @@
 // The gen/kill problems as data: what a point gives and what it takes, for each problem.
+#![tactic(auto)]
+
 ghost use Rattle.std.specs.Prelude.{◌≡◌, ℕ, suc, ◌≤◌, T, eqb};
 ghost use Rattle.model.specs.declared.Point.{Point as PointOf};
 ghost use Rattle.model.specs.Limits.{most_stack};

@@ -1,4 +1,6 @@
 // The C interface. include/felknost.h declares it.
+#![tactic(auto)]
+
 ghost use Rattle.std.specs.Prelude.{◌≡◌, ◌+◌, ◌≤◌, length};
 ghost use Rattle.model.specs.declared.Eviction.TheVariants.{Eager, Lazy};
 ghost use Rattle.model.specs.Rows.{verdict_code, verdict_place, ending_verdict, verdict_numbers};

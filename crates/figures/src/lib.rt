@@ -1,4 +1,6 @@
 // The figures of a task that judge accepted, for every function and point, worked out in columns behind the tables.
+#![tactic(auto)]
+
 ghost use Rattle.std.specs.Prelude.{◌≡◌, suc, ◌+◌, ◌-◌, ◌<◌, ◌≤◌, length};
 ghost use Rattle.model.specs.Limits.{work_length};
 ghost use Rattle.tables.specs.Tables.{task_of};

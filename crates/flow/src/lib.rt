@@ -1,4 +1,6 @@
 // What the two data-flow kernels share: what they are given, and where a point leads.
+#![tactic(auto)]
+
 ghost use Rattle.std.specs.Prelude.{◌≡◌, ◌<◌};
 ghost use Rattle.model.specs.Limits.{most_in_all};
 ghost use Rattle.model.specs.Walk.{leads_from, leads};

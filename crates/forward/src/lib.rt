@@ -1,4 +1,6 @@
 // The forward gen/kill data-flow kernel over the points of one function, with a worklist of the points still to visit.
+#![tactic(auto)]
+
 ghost use Rattle.std.specs.Prelude.{◌≡◌, ◌<◌, ◌≤◌, length};
 ghost use Rattle.model.specs.Limits.{most_points};
 ghost use Rattle.model.specs.Walk.{leads};

@@ -1,4 +1,6 @@
 // What a text is, for every service: it is read, linked and walked, in the order of the refusals. An accepted task is handed on in the tables.
+#![tactic(auto)]
+
 ghost use Rattle.std.specs.Prelude.{◌≡◌, ◌≤◌, length};
 ghost use Rattle.model.specs.Rows.{row_verdict};
 ghost use Rattle.model.specs.Refusal.{with_rows, judged, task_rows};

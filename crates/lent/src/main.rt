@@ -1,6 +1,8 @@
 // Runs check over a working space that is longer than asked for and over one that is one number short, neither of them zero before, and says what it returned and
 // what they hold then. The C and Rust tests lend such buffers to the other services, through the archive. felknost_check has a working space of its own, so
 // services::check is run here.
+#![tactic(auto)]
+
 use libc::STDOUT_FILENO;
 use model::{Limits, Verdict};
 

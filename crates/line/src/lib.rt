@@ -1,4 +1,6 @@
 // The first line of a text, read by its pattern to its line feed. A byte of the line picks the pattern that is tried.
+#![tactic(auto)]
+
 ghost use Rattle.std.specs.Prelude.{◌≡◌, ◌≤◌, length};
 ghost use Rattle.line.specs.Lines.{StackAs, FuncAs, InsideAs};
 ghost use Rattle.line.specs.Patterns.{made, numbered, either, return, ensure_or_either, points, parse, parse_by, parsed_as};

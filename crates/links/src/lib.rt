@@ -1,4 +1,6 @@
 // Judges a read task in the tables: refusals 7 to 10, by line and then by number.
+#![tactic(auto)]
+
 ghost use Rattle.std.specs.Prelude.{◌≡◌, ◌&&◌, ◌-◌, ◌<◌, ltb};
 ghost use Rattle.std.proofs.Math.Option.{some};
 ghost use Rattle.model.specs.Rows.{row_verdict};

@@ -1,5 +1,7 @@
 // The core with a stack cache, with or without a lazy pointer LP: what each move does to ST, the occupancy, LP, the cache and the memory, and how
 // many blocks it moves.
+#![tactic(auto)]
+
 ghost use Rattle.std.specs.Prelude.{◌≡◌, List, ℕ, ◌+◌, ◌%◌, ◌-◌, ◌<◌, ◌≤◌, max, length, replicate};
 ghost use Rattle.model.specs.Core as core;
 ghost use Rattle.model.specs.declared.Eviction.TheVariants.{Eager};

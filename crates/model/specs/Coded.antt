@@ -159,7 +159,7 @@ pub events :
     × (run_on sample (0 ∷ 0 ∷ []) 0 5 6 ≡ 17 ∷ 1 ∷ 0 ∷ 0 ∷ 0 ∷ [])
     × (run_on sample (0 ∷ 0 ∷ []) 1 4 6 ≡ 18 ∷ 5 ∷ 0 ∷ 0 ∷ 0 ∷ [])
     × (run_on sample (0 ∷ 0 ∷ []) 1 5 5 ≡ 19 ∷ 6 ∷ 0 ∷ 0 ∷ 0 ∷ [])
-unfolding opened lines sample
+unfolding opened lines sample space
 events = (refl, refl, refl, refl, refl, refl, refl)
 
 -- 23 for a start above 255 and for each 0 or above 255, after 15 and before 1

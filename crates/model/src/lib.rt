@@ -1,4 +1,5 @@
 // The declared types of the kit: what a line, a point, a refusal and a result can be. Nothing runs here; the definitions are in specs/.
+#![tactic(auto)]
 
 // The limits of a task text, and the lengths that bound the buffers.
 #[derive(Drop)]

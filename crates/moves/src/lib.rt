@@ -1,5 +1,7 @@
 // The events that move blocks between cache and memory: a call, an ensure and a preemption. Each adds the price of what it moves, and what the sheet
 // allows it, to the totals.
+#![tactic(auto)]
+
 ghost use Rattle.std.specs.Prelude.{ℕ, ◌+◌, ◌≤◌, length};
 ghost use Rattle.model.specs.declared.Point.TheVariants.{Call, Ensure};
 ghost use Rattle.model.specs.Limits.{most_stack};

@@ -1,4 +1,6 @@
 // The smaller and the larger of two numbers, what one has above another, and a number as an index. A name without a type is of u32.
+#![tactic(auto)]
+
 ghost use Rattle.std.specs.Prelude.{◌≡◌, ◌-◌, min, max};
 
 pub fn smaller(a: u32, b: u32) -> u32

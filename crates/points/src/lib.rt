@@ -1,4 +1,6 @@
 // Tests on a point, and the function that it calls. Each is a definition of the model.
+#![tactic(auto)]
+
 ghost use Rattle.std.specs.Prelude.{◌≡◌};
 ghost use Rattle.model.specs.Refusal.{is_either};
 ghost use Rattle.model.specs.Task.{offset_fits};

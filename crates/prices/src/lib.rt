@@ -1,4 +1,6 @@
 // The price of a move: nothing where no block moves, else a start and the same for each block.
+#![tactic(auto)]
+
 ghost use Rattle.std.specs.Prelude.{◌≡◌, ◌+◌, ◌≤◌};
 ghost use Rattle.model.specs.Limits.{most_stack};
 ghost use Rattle.prices.specs.Prices.{start_of, price_of, most_price, Small};

@@ -1,4 +1,6 @@
 // Words, decimal numbers and lines of them, written into a lent buffer from a byte on.
+#![tactic(auto)]
+
 ghost use Rattle.std.specs.Prelude.{◌≡◌, ◌+◌, ◌*◌, ◌≤◌, length};
 ghost use Rattle.model.specs.Sheet.{decimal, line_text};
 ghost use Rattle.print.specs.Print.{Wrote, spaced};

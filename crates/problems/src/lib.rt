@@ -1,5 +1,7 @@
 // The figures within a function of the task in the tables, each read off the sets that a kernel finds for one gen/kill problem. Scratch is lent: an entry for
 // each point of the function.
+#![tactic(auto)]
+
 ghost use Rattle.std.specs.Prelude.{◌≡◌, ℕ, ◌≤◌, length};
 ghost use Rattle.model.specs.Limits.{most_stack};
 ghost use Rattle.model.specs.Task.{Task};

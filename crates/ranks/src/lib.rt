@@ -1,5 +1,7 @@
 // The ten highest ranks of those met so far, from the highest on, in a lent array. A rank is a number by which something is put in order.
 // The functions go through a slice of the array, since that tells the proof that there are ten places.
+#![tactic(auto)]
+
 ghost use Rattle.std.specs.Prelude.{◌≡◌, [], ◌∷◌};
 ghost use Rattle.ranks.specs.Ranks.{Falling, sunk, best};
 

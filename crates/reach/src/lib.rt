@@ -1,5 +1,7 @@
 // Judges a read and linked task in the tables by refusals 11, 12 and 13, in this order. Functions that pass the sweep have no refusal 11 or 13. From
 // the first function that does not pass, the forward kernel decides.
+#![tactic(auto)]
+
 ghost use Rattle.std.specs.Prelude.{true, ◌≡◌, ℕ, ◌+◌, ◌<◌, ◌≤◌, length};
 ghost use Rattle.bits.specs.Bits.{Marks};
 ghost use Rattle.model.specs.declared.Row.TheVariants.{Unreachable, Uninitialised};

@@ -1,4 +1,6 @@
 // Reads a task text, line by line, into the tables of the working space, or refuses it with the line that is at fault (refusals 2 to 6).
+#![tactic(auto)]
+
 ghost use Rattle.std.specs.Prelude.{◌≡◌, ◌+◌, ◌-◌, ◌<◌, ◌≤◌, min, length};
 ghost use Rattle.model.specs.declared.Line.TheVariants.{At};
 ghost use Rattle.model.specs.Limits.{most_funcs, most_points, most_in_all, most_bytes};

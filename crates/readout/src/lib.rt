@@ -1,5 +1,7 @@
 // The figures that stand in the columns, read back as one record: of a point, and of a function. What costs work to find has a column; what is a
 // difference or a sum is computed here, where it is read.
+#![tactic(auto)]
+
 ghost use Rattle.std.specs.Prelude.{◌≡◌, ◌+◌, ◌-◌, ◌<◌, ◌≤◌};
 ghost use Rattle.model.specs.Limits.{most_stack};
 ghost use Rattle.tables.specs.Tables.{span_at};

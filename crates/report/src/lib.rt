@@ -1,5 +1,7 @@
 // The report of a task by the sheet in the columns: how long it is, and its bytes in a lent buffer. The costs are summed while their lines are
 // counted or written, because the foot line shows the sum.
+#![tactic(auto)]
+
 ghost use Rattle.std.specs.Prelude.{◌≡◌, ◌+◌, ◌<◌, ◌≤◌, length, true, false};
 ghost use Rattle.model.specs.Limits.{most_funcs, most_points, most_in_all};
 ghost use Rattle.model.specs.Text.{bytes};

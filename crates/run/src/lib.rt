@@ -1,5 +1,7 @@
 // A run over an event list: every event in its order, until one is refused or all are done. The answers, the cache, the memory and the counts are
 // those of the model's run.
+#![tactic(auto)]
+
 ghost use Rattle.std.specs.Prelude.{◌≡◌};
 ghost use Rattle.run.specs.Events.{Fitting, ended_with, ServesIn};
 

@@ -1,4 +1,6 @@
 // What run does with a text that is judged: a refusal before the first event, or the events.
+#![tactic(auto)]
+
 ghost use Rattle.std.specs.Prelude.{◌≡◌, ◌≤◌, length};
 ghost use Rattle.model.specs.Limits.{work_length};
 ghost use Rattle.model.specs.Rows.{row_verdict};

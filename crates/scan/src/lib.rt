@@ -1,4 +1,6 @@
 // The words and numbers that a text begins with.
+#![tactic(auto)]
+
 ghost use Rattle.std.specs.Prelude.{◌≡◌, ◌+◌, ◌%◌, ◌^◌, ◌≤◌, min, true};
 ghost use Rattle.model.specs.Text.{starts};
 ghost use Rattle.scan.specs.Answers.{delimits, scan_number, scan_one, scan_two, limit, TakenAs};

@@ -1,6 +1,8 @@
 // The services over a task text. Each judges what it was lent and refuses; none has a requires. Each goes the same way: 15 (and 23 where there are
 // prices), the judgement of the text, its own rows, its own work, and the working space cleared. In left: what a service returns and what it leaves of
 // every buffer. In numbers: code and place, by the table of the rules; those of a run are the plain stack's.
+#![tactic(auto)]
+
 ghost use Rattle.std.specs.Prelude.{◌≡◌, []};
 ghost use Rattle.model.specs.Rows.{verdict_numbers, ending_numbers};
 ghost use Rattle.model.specs.declared.Eviction.TheVariants.{Eager, Lazy};

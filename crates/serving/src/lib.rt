@@ -1,5 +1,7 @@
 // What every service starts and ends with: the rows before those of the text, the judgement of the text, the row of an output, and the working space
 // cleared.
+#![tactic(auto)]
+
 ghost use Rattle.std.specs.Prelude.{◌≡◌, length, ℕ, ◌≤◌, ◌<◌, ◌^◌};
 ghost use Rattle.std.proofs.Math.Option.{Option, none};
 ghost use Rattle.model.specs.declared.Refusal.{Refusal};

@@ -1,4 +1,6 @@
 // The preemption sheet of the task text on standard input, written to standard output. A text that is refused gives `(refused CODE PLACE)`.
+#![tactic(auto)]
+
 ghost use Rattle.std.specs.Prelude.{◌-◌, ◌≤◌, length};
 ghost use Rattle.io.specs.Counts.{IsPrefixLen};
 ghost use Rattle.print.specs.Print.{Wrote};

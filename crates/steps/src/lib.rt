@@ -1,5 +1,7 @@
 // The state of a run, and the steps that move nothing: a load, a store, a goto, an either and a return. The running frame is by value and its callers
 // are in the working space, behind the bounds, so that only a call and a return touch them.
+#![tactic(auto)]
+
 ghost use Rattle.std.specs.Prelude.{◌≡◌, List, ℕ, ◌<◌, ◌≤◌, length};
 ghost use Rattle.model.specs.declared.Point.TheVariants.{Load, Store, Goto, Either, Return};
 ghost use Rattle.model.specs.Limits.{most_funcs, most_points};

@@ -1,5 +1,7 @@
 // The tables of a decoded task in the working space: a point has a kind and two arguments, a function a frame, its first point and its
 // number of points. Functions and points are read and written here and nowhere else.
+#![tactic(auto)]
+
 ghost use Rattle.std.specs.Prelude.{◌≡◌, ◌+◌, ◌<◌, ◌≤◌, length};
 ghost use Rattle.model.specs.Limits.{most_funcs, most_in_all};
 ghost use Rattle.tables.specs.Layout.{tables_length};

@@ -180,7 +180,7 @@ module _ {A : Type 0} (f : A → ℕ) where
   smallest-bounds {l = []} m = absurd (Memᴰ.not-nil m)
   smallest-bounds {l = b ∷ []} m = let k = ap f (Memᴰ.eq_of_singleton m) in omega arith
   smallest-bounds {l = b ∷ c ∷ l} m =
-      ⊎_elim (λ e. let k = ap f e in omega arith) (λ n. let k = smallest-bounds n in omega arith) (Memᴰ.cases_cons m)
+      ⊎_elim (λ e. let k = ap f e in omega arith) (λ n. let k = smallest-bounds {l = c ∷ l} n in omega arith) (Memᴰ.cases_cons m)
 
   smallest-among : (a : A) (l : List A) → (b : A) × Memᴰ b (a ∷ l) × (smallest f (a ∷ l) ≡ f b)
   unfolding smallest

@@ -1,4 +1,6 @@
 // One event of a run: a step, by the kind of the point at which the running frame stands, or a preemption; and the rows that refuse an event.
+#![tactic(auto)]
+
 ghost use Rattle.std.specs.Prelude.{◌≡◌, ◌<◌, ◌≤◌};
 ghost use Rattle.model.specs.Rows.{row_verdict};
 ghost use Rattle.model.specs.Figures.{longest};

@@ -1,4 +1,6 @@
 // The points of one function that are still to visit: a worklist of bytes, at most Limits::POINTS of them and none twice.
+#![tactic(auto)]
+
 ghost use Rattle.std.specs.Prelude.{◌≡◌, ◌-◌, ◌<◌, ◌≤◌, length};
 ghost use Rattle.tables.specs.Tables.{item};
 ghost use Rattle.worklist.specs.Worklist.{worklist_of, added, taken, Distinct, Absent, Ends};

@@ -1,4 +1,6 @@
 // What a service that writes bytes does with a text that is judged: a refusal, or the bytes of the task.
+#![tactic(auto)]
+
 ghost use Rattle.std.specs.Prelude.{◌≤◌, length};
 ghost use Rattle.model.specs.Limits.{work_length};
 ghost use Rattle.model.specs.Task.{task};
