@@ -5,7 +5,7 @@ ghost use Rattle.std.specs.Prelude.{◌≡◌, ◌<◌, ◌≤◌, length};
 ghost use Rattle.bits.specs.Bits.{set_bits, bit, Single, Low, Top, Lowest, union, difference, transfer, cleared};
 
 // How many bits a set can have.
-#[derive(Drop)]
+#[derive(Clone, Copy)]
 pub struct Set;
 
 impl Set {

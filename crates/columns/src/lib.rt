@@ -19,7 +19,7 @@ use tables::{Header, Span};
 
 // A number for each point: its fill; what is kept at it; what its callee leaves of the cache; its high; the level of its callee; the chain of its callee,
 // where that of the caller and the price of a move are given. specs/Values.antt says each.
-#[derive(Drop)]
+#[derive(Clone, Copy)]
 pub enum Value {
     Fill,
     Kept,

@@ -20,7 +20,7 @@ use readout::PointFigures;
 use tables::{Header, Span};
 
 // How many prices of what is saved, functions of a task and points of a function a rank has room for.
-#[derive(Drop)]
+#[derive(Clone, Copy)]
 struct Rank;
 
 impl Rank {

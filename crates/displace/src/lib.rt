@@ -21,7 +21,7 @@ use model::Limits;
 use tables::{Header, Span};
 
 // The largest D and the smallest d of the functions that a function calls, and whether it calls some.
-#[derive(Drop)]
+#[derive(Clone, Copy)]
 struct CalleeRange {
     most: u32,
     least: u32,

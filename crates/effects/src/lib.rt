@@ -13,7 +13,7 @@ use model::Point;
 
 // A problem over sets of 64 bits. specs/Effects.antt says what a point gives and takes. The first four go backward from each point, the last
 // one forward from point 0. Three have a column, a number for each point.
-#[derive(Drop)]
+#[derive(Clone, Copy)]
 pub enum Problem {
     // Offsets that a walk loads with no store of them before.
     Live,
@@ -29,7 +29,7 @@ pub enum Problem {
 }
 
 // What a point does: the offset that it loads and the offset that it stores, as sets; whether it is a call, an ensure, a return.
-#[derive(Drop)]
+#[derive(Clone, Copy)]
 pub struct Effect {
     pub loaded: u64,
     pub stored: u64,

@@ -12,7 +12,7 @@ use model::{Ending, Verdict};
 use tables::Layout;
 
 // The numbers of a result: code, place, and then those that a service adds.
-#[derive(Drop)]
+#[derive(Clone, Copy)]
 struct Numbers;
 
 impl Numbers {

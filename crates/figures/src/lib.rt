@@ -18,7 +18,7 @@ use prices::Price;
 use tables::{Header, Span};
 
 // A figure that each point has in a column.
-#[derive(Drop)]
+#[derive(Clone, Copy)]
 enum Figure {
     High,
     Dead,

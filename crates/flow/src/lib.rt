@@ -12,7 +12,7 @@ use model::Point;
 use tables::Span;
 
 // The points to which a point leads.
-#[derive(Drop)]
+#[derive(Clone, Copy)]
 pub enum Next {
     Nowhere,
     To(usize),

@@ -17,14 +17,14 @@ use tables::Span;
 use worklist::Visit;
 
 // The last point of the worklist, and its set.
-#[derive(Drop)]
+#[derive(Clone, Copy)]
 struct Last {
     point: usize,
     set: u64,
 }
 
 // The length of the worklist, and its last point where it has one.
-#[derive(Drop)]
+#[derive(Clone, Copy)]
 struct End {
     count: usize,
     last: Last,

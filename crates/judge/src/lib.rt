@@ -16,7 +16,7 @@ use reader::Read;
 use tables::Header;
 
 // A task, which the tables hold, or a refusal.
-#[derive(Drop)]
+#[derive(Clone, Copy)]
 pub enum Judgement {
     Task(Header),
     Refused(Refusal),

@@ -6,7 +6,7 @@
 use libc::STDOUT_FILENO;
 use model::{Limits, Verdict};
 
-#[derive(Drop)]
+#[derive(Clone, Copy)]
 struct Lent;
 
 impl Lent {

@@ -9,7 +9,7 @@ use model::Point;
 use scan::{Num, Pair};
 
 // What a line inside a function is: a point, and how many bytes the line takes; the closing line, which takes two; or none of these.
-#[derive(Drop)]
+#[derive(Clone, Copy)]
 pub enum Inside {
     Point(Point, usize),
     Close,
@@ -17,14 +17,14 @@ pub enum Inside {
 }
 
 // A point, and how many bytes its line takes.
-#[derive(Drop)]
+#[derive(Clone, Copy)]
 enum Parsed {
     Point(Point, usize),
     Absent,
 }
 
 // The points with one number.
-#[derive(Drop)]
+#[derive(Clone, Copy)]
 enum Form {
     Load,
     Store,

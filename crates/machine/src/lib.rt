@@ -14,7 +14,7 @@ use model::Limits;
 // Where the stack stands: the stack top ST, its block, how many blocks from ST up are cached, and how many of them lie below LP. The block is kept so
 // that no load and no store divides. lazy: which blocks are written back, all where it is 0, else those below LP. It is a number as the others are, and no
 // enum, for speed.
-#[derive(Drop)]
+#[derive(Clone, Copy)]
 pub struct Machine {
     pub st: usize,
     pub top: usize,
@@ -24,14 +24,14 @@ pub struct Machine {
 }
 
 // A machine after a move, and how many blocks moved.
-#[derive(Drop)]
+#[derive(Clone, Copy)]
 pub struct Moved {
     pub machine: Machine,
     pub blocks: usize,
 }
 
 // A machine after a preemption, and how many blocks went out and came back.
-#[derive(Drop)]
+#[derive(Clone, Copy)]
 pub struct Preempted {
     pub machine: Machine,
     pub out: usize,

@@ -2,7 +2,7 @@
 #![tactic(auto)]
 
 // The limits of a task text, and the lengths that bound the buffers.
-#[derive(Drop)]
+#[derive(Clone, Copy)]
 pub struct Limits;
 
 impl Limits {
@@ -29,7 +29,7 @@ impl Limits {
 }
 
 // A point of a function. Offsets, callees, frame sizes and targets are numbers of the text.
-#[derive(Drop)]
+#[derive(Clone, Copy)]
 pub enum Point {
     Load(u32),
     Store(u32),
@@ -41,7 +41,7 @@ pub enum Point {
 }
 
 // A line of a task text, decoded by itself.
-#[derive(Drop)]
+#[derive(Clone, Copy)]
 pub enum Line {
     Stack(u32),
     Func(u32),
@@ -52,7 +52,7 @@ pub enum Line {
 }
 
 // A row of the table of refusals. specs/Rows.antt gives the number of each.
-#[derive(Drop)]
+#[derive(Clone, Copy)]
 pub enum Row {
     WorkTooSmall,
     PriceRange,
@@ -81,42 +81,42 @@ pub enum Row {
 
 // Why a service refuses: the row that is met, and its place. That is a line, counted from 1; an event, counted from 0; a length, a number of
 // events or of blocks that would do; or 0.
-#[derive(Drop)]
+#[derive(Clone, Copy)]
 pub struct Refusal {
     pub row: Row,
     pub place: u32,
 }
 
 // What check and report say of a text and the lent buffers.
-#[derive(Drop)]
+#[derive(Clone, Copy)]
 pub enum Verdict {
     Accepted,
     Refused(Refusal),
 }
 
 // How a core evicts: blocks are written back whenever they leave the cache, or only those below a lazy pointer.
-#[derive(Drop)]
+#[derive(Clone, Copy)]
 pub enum Eviction {
     Eager,
     Lazy,
 }
 
 // How a run ends.
-#[derive(Drop)]
+#[derive(Clone, Copy)]
 pub enum Ending {
     AllDone,
     Refused(Refusal),
 }
 
 // What a service that writes bytes returns beside the buffers.
-#[derive(Drop)]
+#[derive(Clone, Copy)]
 pub struct WriteResult {
     pub verdict: Verdict,
     pub written: u32,
 }
 
 // What run returns beside the buffers.
-#[derive(Drop)]
+#[derive(Clone, Copy)]
 pub struct RunResult {
     pub ending: Ending,
     pub done: u32,

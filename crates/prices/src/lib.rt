@@ -5,7 +5,7 @@ ghost use Rattle.std.specs.Prelude.{◌≡◌, ◌+◌, ◌≤◌};
 ghost use Rattle.model.specs.Limits.{most_stack};
 ghost use Rattle.prices.specs.Prices.{start_of, price_of, most_price, Small};
 
-#[derive(Drop)]
+#[derive(Clone, Copy)]
 pub struct Price {
     pub start: u32,
     pub each: u32,

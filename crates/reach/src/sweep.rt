@@ -19,7 +19,7 @@ use model::{Limits, Point};
 use tables::{Header, Span};
 
 // What a point does with its set: it may be at fault, it leads to the next point with a set, or it leads elsewhere.
-#[derive(Drop)]
+#[derive(Clone, Copy)]
 pub enum Step {
     Fails,
     Falls(u64),

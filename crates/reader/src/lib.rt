@@ -16,21 +16,21 @@ use scan::Num;
 use tables::{Header, put_func, put_point};
 
 // What a text is: a task, which the tables hold, or a refusal.
-#[derive(Drop)]
+#[derive(Clone, Copy)]
 pub enum Read {
     Task(Header),
     Refused(Refusal),
 }
 
 // Where a line begins: its number, counted from 1, and its first byte.
-#[derive(Drop)]
+#[derive(Clone, Copy)]
 struct Position {
     line: u32,
     byte: usize,
 }
 
 // A whole function: the position after its closing line, and the header that counts it.
-#[derive(Drop)]
+#[derive(Clone, Copy)]
 enum FuncRead {
     Whole(Position, Header),
     Refused(Refusal),

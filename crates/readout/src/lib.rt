@@ -15,7 +15,7 @@ use prices::Price;
 use tables::{Header, Span};
 
 // All figures of a point.
-#[derive(Drop)]
+#[derive(Clone, Copy)]
 pub struct PointFigures {
     pub high: u32,
     pub dead: u32,
@@ -29,7 +29,7 @@ pub struct PointFigures {
 }
 
 // All figures of a function.
-#[derive(Drop)]
+#[derive(Clone, Copy)]
 pub struct FuncFigures {
     pub frame: u32,
     pub shortest: u32,

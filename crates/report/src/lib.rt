@@ -17,7 +17,7 @@ use readout::PointFigures;
 use tables::{Header, Span};
 
 // The most bytes of the first and the last line together, of a function's first line, of a point's line, and of the foot line.
-#[derive(Drop)]
+#[derive(Clone, Copy)]
 struct Most;
 
 impl Most {
@@ -31,7 +31,7 @@ impl Most {
 }
 
 // The lines so far: the byte at which they end, and the sum of the costs that they show.
-#[derive(Drop)]
+#[derive(Clone, Copy)]
 struct Lines {
     end: usize,
     total: u32,

@@ -6,14 +6,14 @@ ghost use Rattle.model.specs.Text.{starts};
 ghost use Rattle.scan.specs.Answers.{delimits, scan_number, scan_one, scan_two, limit, TakenAs};
 
 // A number, and how many bytes it takes with the words around it.
-#[derive(Drop)]
+#[derive(Clone, Copy)]
 pub enum Num {
     Value(u32, usize),
     Absent,
 }
 
 // Two numbers, and how many bytes they take with the words around them.
-#[derive(Drop)]
+#[derive(Clone, Copy)]
 pub enum Pair {
     Values(u32, u32, usize),
     Absent,

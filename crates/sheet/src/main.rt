@@ -10,7 +10,7 @@ ghost use Rattle.sheet.specs.Answer.{refusal_line, Answers, most_line};
 use libc::{STDIN_FILENO, STDOUT_FILENO};
 use model::{Limits, Refusal, Verdict};
 
-#[derive(Drop)]
+#[derive(Clone, Copy)]
 struct Buffers;
 
 impl Buffers {
@@ -21,7 +21,7 @@ impl Buffers {
 }
 
 // The price of a move that counts its blocks.
-#[derive(Drop)]
+#[derive(Clone, Copy)]
 struct InBlocks;
 
 impl InBlocks {
@@ -31,7 +31,7 @@ impl InBlocks {
 }
 
 // What was read: so many bytes, or a failure.
-#[derive(Drop)]
+#[derive(Clone, Copy)]
 enum Input {
     Bytes(usize),
     Failed,

@@ -16,7 +16,7 @@ use tables::Frames;
 
 // How many frames there are, function and point of the running one, where the stack stands, and what was moved and what the sheet allows so far: both
 // as prices. A finished task has no frames. A step that moves nothing touches neither total.
-#[derive(Drop)]
+#[derive(Clone, Copy)]
 pub struct State {
     pub depth: usize,
     pub f: usize,
@@ -27,7 +27,7 @@ pub struct State {
 }
 
 // A state after an event, and its answer.
-#[derive(Drop)]
+#[derive(Clone, Copy)]
 pub struct Turned {
     pub state: State,
     pub answer: u32,

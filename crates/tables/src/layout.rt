@@ -3,7 +3,7 @@
 use model::Limits;
 
 // The tables of a task. The kinds of the points begin at 0; behind them are the arguments of the points, then frame, first point and size of the functions.
-#[derive(Drop)]
+#[derive(Clone, Copy)]
 pub struct Layout;
 
 impl Layout {
@@ -21,7 +21,7 @@ impl Layout {
 }
 
 // The columns of figures: first those of the points, then those of the functions.
-#[derive(Drop)]
+#[derive(Clone, Copy)]
 pub struct Columns;
 
 impl Columns {
@@ -51,7 +51,7 @@ impl Columns {
 }
 
 // What the sheet allows in a run: cost and fill of the points, spill of the functions.
-#[derive(Drop)]
+#[derive(Clone, Copy)]
 pub struct Bounds;
 
 impl Bounds {
@@ -65,7 +65,7 @@ impl Bounds {
 }
 
 // The callers of a run: two numbers for each, its function and its point.
-#[derive(Drop)]
+#[derive(Clone, Copy)]
 pub struct Frames;
 
 impl Frames {

@@ -13,7 +13,7 @@ use model::Point;
 mod layout;
 
 // What is known of a task beside its tables: the cache blocks, how many functions, and how many points in all.
-#[derive(Drop)]
+#[derive(Clone, Copy)]
 pub struct Header {
     pub stack: u32,
     pub funcs: usize,
@@ -21,7 +21,7 @@ pub struct Header {
 }
 
 // What the tables keep of a function: its frame, the number of its first point, and how many points it has.
-#[derive(Drop)]
+#[derive(Clone, Copy)]
 pub struct Span {
     pub frame: u32,
     pub base: usize,

@@ -6,7 +6,7 @@ ghost use Rattle.tables.specs.Tables.{item};
 ghost use Rattle.worklist.specs.Worklist.{worklist_of, added, taken, Distinct, Absent, Ends};
 
 // The state of a point: no walk has come to it; one has; one has, and the point is in the worklist.
-#[derive(Drop)]
+#[derive(Clone, Copy)]
 pub struct Visit;
 
 impl Visit {

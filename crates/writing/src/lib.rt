@@ -21,7 +21,7 @@ mod listing;
 mod reporting;
 
 // The bytes of a task that a service writes.
-#[derive(Drop)]
+#[derive(Clone, Copy)]
 pub enum Print {
     Report,
     Dearest,
