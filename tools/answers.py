@@ -54,8 +54,9 @@ class Places:
     def __init__(self, d):
         self.d = d
         self.by = {}
-        for n, (place, parent, step, _callee, _) in enumerate(d["places"]):
+        for n, (place, parent, step, _callee, fields) in enumerate(d["places"]):
             self.by[place] = (n, parent, step)
+        self.fields = [dict(it[4] or []) for it in d["places"]]
 
     def chain(self, place):
         out = []
@@ -95,7 +96,8 @@ class Turn:
             if step[0] and norm(step[0]) == norm(first):
                 score = (abs(depth - k), 0)
                 if best is None or score < best[0]:
-                    best = (score, [step[1]] + rest, None)
+                    field = [self.places.fields[n].get(rest[0], rest[0])] + rest[1:] if rest else []
+                    best = (score, [step[1]] + field, None)
         if best:
             return [x if x != "came" else "branch" for x in best[1]]
         self.left.append(f"{self.name}: no step {first}")
@@ -317,8 +319,8 @@ def turn_file(crate, fn, d, path):
         if t in ("search rules", "omega arith", "tt"):
             continue
         rhs = names_in(turn.term(t, place, params[0]))
-        if "\n" in rhs:
-            rhs = re.sub(r"\n    ", "\n", rhs)
+        if mm.group(0).startswith("(λ") and "\n" in rhs:
+            rhs = "\n    " + rhs
         answers.append((new, "\n".join([f"pub {new} : goal.{new}"] + ul + [f"{new} {' '.join(params)} = {rhs}"])))
     folder = os.path.dirname(path)
     keep = [u for u in uses if not re.search(r"\.(Statement|Tie)(\.|\b| as)", u)]

@@ -45,6 +45,11 @@ returns c =
 pub returns-then-s-lt1 : goal.returns-then-s-lt1
 returns-then-s-lt1 c = omega (arith, digits-fit c.args.s.now)
 
+pub returns-then-v-gt9 : goal.returns-then-v-gt9
+returns-then-v-gt9 c =
+    let d = c.digit-v in
+    digits-stop c.args.s.now 0 d.result (omega arith) d.ensures (omega arith) (omega arith)
+
 pub overflow_mul-v : goal.overflow_mul-v
 overflow_mul-v c = omega (arith, below-most c.loop-i.i (omega arith))
 

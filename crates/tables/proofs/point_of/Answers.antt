@@ -22,12 +22,12 @@ returns-in-5 c = rw c.in-5.is
 
 pub returns-in_default : goal.returns-in_default
 returns-in_default c =
-    let k = c.in_default.rest.0.0 in
+    let k = c.in_default.in_default-own.rest.0.0 in
     simp (
       ne_eqb _ _ k.0.0.0.1,
       ne_eqb _ _ k.0.0.1,
       ne_eqb _ _ k.0.1,
       ne_eqb _ _ k.1,
-      ne_eqb _ _ c.in_default.rest.0.1,
-      ne_eqb _ _ c.in_default.rest.1,
+      ne_eqb _ _ c.in_default.in_default-own.rest.0.1,
+      ne_eqb _ _ c.in_default.in_default-own.rest.1,
     )

@@ -7,4 +7,4 @@ use Rattle.machine.proofs.Machine.fresh.Goals as goal
 pub returns : goal.returns
 returns c =
     let e = c.reserved-cached.ensures in
-    entered _ _ _ _ _ (omega arith) refl e e zero-eager c.Block-of.ensures.0
+    entered _ _ _ _ _ (omega arith) refl e e zero-eager c.block_of.ensures.0
