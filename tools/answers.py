@@ -188,6 +188,44 @@ def blocks(text):
     return head, uses, decls
 
 
+def aligned(args, needs, decls):
+    """The arguments without those whose goals are no longer asked: tactics alone, by a cheapest alignment."""
+    kinds = {name: re.search(r": tie\.Need-(\S+)", body[0]) for name, _, body in decls}
+
+    def drop(a):
+        return 0 if re.fullmatch(r"\(λ [^.]*\.\s+(search rules|omega arith|tt)\)", a) else 20
+
+    def fit(a, need):
+        old = norm(need[0])
+        if re.fullmatch(ID, a) and kinds.get(a):
+            asked = norm(re.sub(r"^overflow-", "", kinds[a].group(1)))
+            return 0 if asked == old else 9
+        takes = bool(re.match(r"\(λ \S+ (κs|_)\.", a))
+        wants = bool(re.search(r"-requires(-\d+)?$", need[0]))
+        if takes != wants:
+            return 5
+        if not drop(a) and need[0].startswith("returns"):
+            return 1
+        return 0
+
+    m, k = len(args), len(needs)
+    best = {(0, 0): (0, [])}
+    for i in range(m + 1):
+        for j in range(k + 1):
+            if (i, j) == (0, 0):
+                continue
+            options = []
+            if i and (i - 1, j) in best:
+                cost, way = best[i - 1, j]
+                options.append((cost + drop(args[i - 1]), way))
+            if i and j and (i - 1, j - 1) in best:
+                cost, way = best[i - 1, j - 1]
+                options.append((cost + fit(args[i - 1], needs[j - 1]), way + [args[i - 1]]))
+            if options:
+                best[i, j] = min(options, key=lambda x: x[0])
+    return best[m, k][1] if (m, k) in best else args
+
+
 def turn_file(crate, fn, d, path):
     text = open(path, encoding="utf-8").read()
     head, uses, decls = blocks(text)
@@ -225,6 +263,8 @@ def turn_file(crate, fn, d, path):
     loops = d["loops"]
     needs = d["needs"]
     extra = 2 * len(loops)
+    if len(args) > extra + len(needs):
+        args = args[:extra] + aligned(args[extra:], needs, decls)
     if len(args) != extra + len(needs):
         left.append(f"{fn}: {len(args)} arguments, {extra} + {len(needs)} wanted: {[n[0] for n in needs]}")
     invariants, answers, helpers = [], [], []
@@ -278,16 +318,21 @@ def turn_file(crate, fn, d, path):
             if len(params) != len(want):
                 left.append(f"{fn}: {name} has {len(params)} parameters, {len(want)} wanted: {want}")
             table = {}
+            if len(params) != len(want):
+                flag = dict(zip(variables, changed))
+                for p in params:
+                    v = p.rstrip("₀")
+                    table[p] = f"l.initial.{v}" if p != v and flag.get(v) else f"l.{v}"
+                params = []
             for i, (p, v) in enumerate(zip(params, want)):
                 if i < len(variables):
                     table[p] = f"l.initial.{v}" if changed[i] else f"l.{v}"
                 else:
                     table[p] = f"l.{v}"
-            for p, v in table.items():
-                if p == "_":
-                    continue
-                rhs = re.sub(rf"(?<![\w'′.\-₀]){re.escape(p)}(?![\w'′\-₀])", "\0" + v[2:] + "\1", rhs)
-            rhs = re.sub("\0([^\1]*)\1", r"l.\1", rhs)
+            table.pop("_", None)
+            if table:
+                one = "|".join(sorted(map(re.escape, table), key=len, reverse=True))
+                rhs = re.sub(rf"(?<![\w'′.\-])({one})(?![\w'′\-₀])", lambda m: table[m.group(1)], rhs)
             extra_unf = [l for l in body[1:k] if l.startswith("unfolding")]
             new_name = sub_names[name]
             invariants.append("\n".join(comment + [f"abbrev pub {new_name} : goal.{new_name}"] + extra_unf + [f"{new_name} l ={rhs}"]))
@@ -302,6 +347,8 @@ def turn_file(crate, fn, d, path):
             ctx = params[0] if params else "c"
             rhs = turn.term(definition[mm.end():], place, ctx)
             answers.append((new, "\n".join(comment + [f"pub {new} : goal.{new}"] + (own if own else []) + [f"{new} {' '.join(params)} ={names_in(rhs)}"])))
+            continue
+        if re.search(r": tie\.Need-", body[0]):
             continue
         helpers.append("\n".join(comment + [names_in(x) for x in body]))
     for n, a in enumerate(args[extra:]):
