@@ -83,7 +83,13 @@ class Turn:
             if first == "ranges":
                 pass
             return parts
-        # typed facts and arms
+        # what the type of a slice says of its elements
+        if rest and rest[0] == "given":
+            for depth, (n, step) in enumerate(chain):
+                for var, oldstep in (self.d["typed"][n] if self.d["typed"] else []):
+                    if norm(oldstep) == norm(first):
+                        return ["type_inv", var] + rest[1:]
+        rest = ["type_inv" if x == "type-inv" else x for x in rest]
         best = None
         for depth, (n, step) in enumerate(chain):
             arm = self.d["arms"][n]
@@ -119,6 +125,8 @@ class Turn:
             else:
                 break
         names = "|".join(sorted(map(re.escape, alias), key=len, reverse=True))
+
+        text = re.sub(r"\.type-inv(?![\w-])", ".type_inv", text)
 
         def one(m):
             base, befores, tail = m.group(1), m.group(2), m.group(3)
@@ -301,9 +309,37 @@ def turn_file(crate, fn, d, path):
     def strip_taken(params):
         return [p for p in params if p not in ("κs",)]
 
+    new_place = dict(zip([it[0] for it in d["places"]], d["places_by_name"]))
+    takes = {}
+    for name, comment, body in decls:
+        m = re.match(rf"{re.escape(name)} :\s+\(({ID}) : tie\.({ID})[^)]*\)", " ".join(x.strip() for x in body))
+        if m and m.group(2) in new_place:
+            takes[name] = (m.group(1), m.group(2))
+        elif m:
+            for old in new_place:
+                if norm(old) == norm(m.group(2)):
+                    takes[name] = (m.group(1), old)
+
+    def with_contexts(text, place, ctx):
+        """Calls of helpers that take the context of an earlier place."""
+        steps = [place]
+        while turn.places.by[steps[-1]][1] is not None:
+            steps.append(turn.places.by[steps[-1]][1])
+        for helper, (_, at) in takes.items():
+            if at in steps:
+                back = ".before" * steps.index(at)
+                text = re.sub(rf"(?<![\w'′.\-]){re.escape(helper)} {re.escape(ctx)}(?![\w'′.\-])", f"{helper} {ctx}{back}", text)
+        return text
+
     for name, comment, body in decls:
         joined = "\n".join(body)
         if name == spec[0]:
+            continue
+        if name in takes:
+            ctx, at = takes[name]
+            out = re.sub(rf"tie\.{ID}[^)]*\)", f"goal.{new_place[at]})", joined, count=1)
+            out = turn.term(out, at, ctx)
+            helpers.append("\n".join(comment + [names_in(with_contexts(out, at, ctx))]))
             continue
         if name in loop_of:
             n = loop_of[name]
@@ -332,7 +368,7 @@ def turn_file(crate, fn, d, path):
             table.pop("_", None)
             if table:
                 one = "|".join(sorted(map(re.escape, table), key=len, reverse=True))
-                rhs = re.sub(rf"(?<![\w'′.\-])({one})(?![\w'′\-₀])", lambda m: table[m.group(1)], rhs)
+                rhs = re.sub(rf"(?<![\w'′.\-])({one})(?![\w'′\-₀])(?! = )", lambda m: table[m.group(1)], rhs)
             extra_unf = [l for l in body[1:k] if l.startswith("unfolding")]
             new_name = sub_names[name]
             invariants.append("\n".join(comment + [f"abbrev pub {new_name} : goal.{new_name}"] + extra_unf + [f"{new_name} l ={rhs}"]))
@@ -345,7 +381,7 @@ def turn_file(crate, fn, d, path):
             mm = re.match(rf"{re.escape(name)}(.*?)=(?= |\n|$)", definition, re.S)
             params = strip_taken(arguments(mm.group(1)))
             ctx = params[0] if params else "c"
-            rhs = turn.term(definition[mm.end():], place, ctx)
+            rhs = with_contexts(turn.term(definition[mm.end():], place, ctx), place, ctx)
             answers.append((new, "\n".join(comment + [f"pub {new} : goal.{new}"] + (own if own else []) + [f"{new} {' '.join(params)} ={names_in(rhs)}"])))
             continue
         if re.search(r": tie\.Need-", body[0]):
@@ -365,7 +401,7 @@ def turn_file(crate, fn, d, path):
         t = mm.group(2).strip()
         if t in ("search rules", "omega arith", "tt"):
             continue
-        rhs = names_in(turn.term(t, place, params[0]))
+        rhs = names_in(with_contexts(turn.term(t, place, params[0]), place, params[0]))
         if mm.group(0).startswith("(λ") and "\n" in rhs:
             rhs = "\n    " + rhs
         answers.append((new, "\n".join([f"pub {new} : goal.{new}"] + ul + [f"{new} {' '.join(params)} = {rhs}"])))

@@ -77,7 +77,7 @@ module _ {w : List ℕ} {s : Span} (k : Fits w s) where
     held q j h (inr i) = absurd (omega (arith, i.0))
 
     -- a walk that stores an offset nowhere brings it
-    brings : {p q : ℕ} (j : ℕ) → Walk (leads x) (stores x j) p q → j < set_bits → p < s.size → bit (item sets p) j ≡ 1 → bit (item sets q) j ≡ 1
+    brings : (j : ℕ) {p q : ℕ} → Walk (leads x) (stores x j) p q → j < set_bits → p < s.size → bit (item sets p) j ≡ 1 → bit (item sets q) j ≡ 1
     brings j Walk.here l h b = b
     brings j (Walk.step {p = p} {q = q} t m v) l h b =
         let i = k.inside p q h m in brings j v l i (held q j i (g.passed p q j (omega arith) m l t b))

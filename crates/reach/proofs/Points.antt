@@ -6,11 +6,8 @@ use mathlib.Core.Bool.{Bool, true, false, not, true≢false}
 use mathlib.Core.List.{List, [], ◌∷◌}
 use mathlib.Core.Option.{none}
 use lib.Dec.{T_not, eqb→eq}
-use denote.Enum.Declared.{tag_of}
-use types.Run.{OneOf, miss}
 use Rattle.bits.specs.Bits.{set_bits, bit, Marks, difference}
 use Rattle.bits.proofs.Laws.{bit_le, bit-difference, marked}
-use Rattle.model.specs.contracts.Point as P
 use Rattle.model.specs.declared.Point.{Point}
 use Rattle.model.specs.declared.Point.TheVariants.{Load, Store, Call, Ensure, Goto, Either, Return}
 use Rattle.model.specs.Task.{point}
@@ -23,9 +20,9 @@ use Rattle.reach.specs.declared.sweep.Step.TheVariants.{Fails, Falls, Leaves}
 use Rattle.reach.specs.Reach.{has}
 use Rattle.reach.specs.Sweep.{Passes, Accessed, Stepped}
 
--- a point of a kind that is left when one is ruled out
-pub not-load : (x : Point) → OneOf (1 ∷ 2 ∷ 3 ∷ 4 ∷ 5 ∷ 6 ∷ []) (tag_of P.the_type x) → loaded x ≡ none
-not-load (Load o) h = absurd (miss (1 ∷ 2 ∷ 3 ∷ 4 ∷ 5 ∷ 6 ∷ []) 0 tt h)
+-- a point that is not of one kind
+pub not-load : (x : Point) → ((o : ℕ) → x ≡ Load o → ⊥) → loaded x ≡ none
+not-load (Load o) h = absurd (h o refl)
 not-load (Store o) h = refl
 not-load (Call g) h = refl
 not-load (Ensure k) h = refl
@@ -33,19 +30,19 @@ not-load (Goto p) h = refl
 not-load (Either p q) h = refl
 not-load Return h = refl
 
-pub not-store : (x : Point) → OneOf (0 ∷ 2 ∷ 3 ∷ 4 ∷ 5 ∷ 6 ∷ []) (tag_of P.the_type x) → stored x ≡ none
+pub not-store : (x : Point) → ((o : ℕ) → x ≡ Store o → ⊥) → stored x ≡ none
 not-store (Load o) h = refl
-not-store (Store o) h = absurd (miss (0 ∷ 2 ∷ 3 ∷ 4 ∷ 5 ∷ 6 ∷ []) 1 tt h)
+not-store (Store o) h = absurd (h o refl)
 not-store (Call g) h = refl
 not-store (Ensure k) h = refl
 not-store (Goto p) h = refl
 not-store (Either p q) h = refl
 not-store Return h = refl
 
-pub not_call : (x : Point) → OneOf (0 ∷ 1 ∷ 3 ∷ 4 ∷ 5 ∷ 6 ∷ []) (tag_of P.the_type x) → called x ≡ none
+pub not_call : (x : Point) → ((g : ℕ) → x ≡ Call g → ⊥) → called x ≡ none
 not_call (Load o) h = refl
 not_call (Store o) h = refl
-not_call (Call g) h = absurd (miss (0 ∷ 1 ∷ 3 ∷ 4 ∷ 5 ∷ 6 ∷ []) 2 tt h)
+not_call (Call g) h = absurd (h g refl)
 not_call (Ensure k) h = refl
 not_call (Goto p) h = refl
 not_call (Either p q) h = refl

@@ -8,7 +8,7 @@ returns c =
     let p = c.requires in
     start-solved c.args.s.size c.args.entry c.args.sets.now c.args.state.now c.args.points.now
     p.0.fits.some p.0.fits.small p.1 p.2 p.3 c.clear_sets.ensures c.clear_marks.ensures
-    _ _ _ c.add_to_list-count.ensures p.0.fits.inside (λ c. (c.shared_slice_known-3-1.given c).fits)
+    _ _ _ c.add_to_list-count.ensures p.0.fits.inside (λ k. (c.type_inv.kills k).fits)
     c.drain.ensures refl
 
 pub add_to_list-count-requires : goal.add_to_list-count-requires

@@ -6,26 +6,23 @@ use Rattle.worklist.proofs.Laws.{last_within}
 use Rattle.forward.proofs.Steps.{ready-take, ready-visit, visited, preserved-visited}
 use Rattle.forward.proofs.visit.Goals as goal
 
-place : (s : tie.Start) → s.args.at.point < s.args.s.size
-place s = rw (s.requires.3 s.requires.2).0 (last_within s.requires.1.pending s.requires.2)
-
 pub take-left-requires : goal.take-left-requires
 take-left-requires c = let p = c.requires in ready-take p.1 p.2 (p.3 p.2).0
 
 pub offset_bounds-kills-p : goal.offset_bounds-kills-p
-offset_bounds-kills-p c = omega (arith, place c, c.requires.1.pending.small)
+offset_bounds-kills-p c = let h : c.args.at.point < c.args.s.size = rw (c.requires.3 c.requires.2).0 (last_within c.requires.1.pending c.requires.2) in omega (arith, c.requires.1.pending.small)
 
 pub bounds-kills-p : goal.bounds-kills-p
-bounds-kills-p c = let h = place c in omega arith
+bounds-kills-p c = let h : c.args.at.point < c.args.s.size = (rw (c.requires.3 c.requires.2).0 (last_within c.requires.1.pending c.requires.2)) in omega arith
 
 pub offset_bounds-gens-p : goal.offset_bounds-gens-p
-offset_bounds-gens-p c = omega (arith, place c, c.requires.1.pending.small)
+offset_bounds-gens-p c = let h : c.args.at.point < c.args.s.size = rw (c.requires.3 c.requires.2).0 (last_within c.requires.1.pending c.requires.2) in omega (arith, c.requires.1.pending.small)
 
 pub bounds-gens-p : goal.bounds-gens-p
-bounds-gens-p c = let h = place c in omega arith
+bounds-gens-p c = let h : c.args.at.point < c.args.s.size = (rw (c.requires.3 c.requires.2).0 (last_within c.requires.1.pending c.requires.2)) in omega arith
 
 pub next_at-requires : goal.next_at-requires
-next_at-requires c = let h = place c in search rules
+next_at-requires c = let h : c.args.at.point < c.args.s.size = (rw (c.requires.3 c.requires.2).0 (last_within c.requires.1.pending c.requires.2)) in search rules
 
 pub propagate-requires : goal.propagate-requires
 propagate-requires c =

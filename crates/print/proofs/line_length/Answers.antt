@@ -9,13 +9,13 @@ use Rattle.print.proofs.Laws.{length_none, length-next, length-room, length-line
 use Rattle.print.proofs.line_length.Goals as goal
 
 -- with the next number n is still small
-small : (c : tie.After-number-length invariant-loop decreases-loop) → c.before.before.before.loop.n + (1 + c.number-length.result) ≤ 194
+small : (c : goal.After-number_length) → c.loop-k.n + (1 + c.number_length.result) ≤ 194
 small c =
-    let numbers = c.before.before.before.before.before.before.args.numbers.now in
+    let numbers = c.args.numbers.now in
     omega (
       arith,
-      length-room numbers c.before.before.before.loop.k (omega arith),
-      spaced-most numbers (λ k. (c.before.shared-slice-known3.given k).fits),
+      length-room numbers c.loop-k.k (omega arith),
+      spaced-most numbers (λ k. (c.type_inv.numbers k).fits),
     )
 
 pub overflow_add-n : goal.overflow_add-n
@@ -55,5 +55,5 @@ returns c =
     let l = c.loop-k in
     let a = c.args in
     let n = rw (take_all l.k a.numbers.now (omega arith)) at l.invariant.1 in
-    let most = line-most a.word.now a.numbers.now (λ k. (c.shared_slice_known-2-1.given k).fits) in
+    let most = line-most a.word.now a.numbers.now (λ k. (c.type_inv.numbers k).fits) in
     omega (arith, length-line a.word.now a.numbers.now)

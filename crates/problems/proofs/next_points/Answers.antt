@@ -1,0 +1,9 @@
+-- The figure is read off the set of each point.
+use Rattle.problems.proofs.Laws.{filled-as}
+use Rattle.problems.proofs.Figures.{next-read}
+use Rattle.problems.proofs.next_points.Goals as goal
+
+pub returns : goal.returns
+returns c =
+    let i = c.requires in
+    (filled-as (next-read _ _ i.0.fits i.1 c.solve.ensures.0) c.highest_each.ensures, c.solve.ensures.1)

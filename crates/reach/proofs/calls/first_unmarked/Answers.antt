@@ -1,0 +1,34 @@
+-- Of the functions from 1 on, those from f on decide.
+use Prim.Native.Nat.{◌-◌}
+use native.Mathlib.Omega.{arith}
+use mathlib.Core.Path.{refl, ap}
+use Rattle.theory.proofs.Search.{search-on, search-off, search-end}
+use Rattle.tables.specs.declared.Span.{Span}
+use Rattle.tables.proofs.Valid.{lies_in}
+use Rattle.reach.proofs.Called.{calls-start, row-called, row-uncalled}
+use Rattle.reach.proofs.calls.first_unmarked.Goals as goal
+
+pub opening_line-requires : goal.opening_line-requires
+opening_line-requires c =
+    let k = lies_in c.requires.0 _ c.loop-f-test.true in
+    omega (arith, ap (λ (s : Span). s.base) c.span_at-s.ensures)
+
+pub returns-then-not-marks-f : goal.returns-then-not-marks-f
+returns-then-not-marks-f c =
+    let t = c.loop-f-test.true in
+    let k = c.requires in
+    let b = ap (λ (s : Span). s.base) c.span_at-s.ensures in
+    let r = row-uncalled k.0 _ t (k.1 _ t) c.if-not-marks-f.true-raw b c.opening_line.ensures in
+    search-off _ _ _ c.loop-f.invariant.1 r refl t
+
+pub loop-f-preserved : goal.loop-f-preserved
+loop-f-preserved c =
+    let t = c.loop-f-test.true in
+    let k = c.requires in
+    (omega arith, search-on _ _ _ c.loop-f.invariant.1 (row-called k.0 _ t (k.1 _ t) c.if-not-marks-f.false-raw) refl t)
+
+pub loop-f-init : goal.loop-f-init
+loop-f-init c = (omega arith, calls-start _ c.args.h)
+
+pub returns : goal.returns
+returns c = search-end _ _ _ c.loop-f.invariant.1 c.loop-f-test.false
