@@ -79,7 +79,7 @@ class Turn:
         if not parts:
             return []
         first, rest = parts[0], parts[1:]
-        if first in ("args", "requires", "ranges", "lifetimes", "well_formed"):
+        if first in ("args", "requires", "ranges", "lifetimes", "well_formed", "well-formed"):
             if first == "ranges":
                 pass
             return parts

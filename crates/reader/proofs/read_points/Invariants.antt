@@ -1,0 +1,11 @@
+-- The answer is that of what is left after m points.
+use Prim.Native.Nat.{◌-◌}
+use lib.ListN.{length}
+use Rattle.reader.proofs.Laws.{Body}
+use Rattle.reader.proofs.read_points.Given as goal
+
+abbrev pub invariant-loop-x : goal.invariant-loop-x
+invariant-loop-x l = Body l.text l.initial.work l.h l.k l.at l.work l.a l.m
+
+abbrev pub decreases-loop-x : goal.decreases-loop-x
+decreases-loop-x l = length l.text - l.a

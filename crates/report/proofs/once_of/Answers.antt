@@ -1,0 +1,8 @@
+-- The sum by its parts.
+use native.Mathlib.Omega.{arith}
+use Rattle.model.specs.Sheet.{once_of}
+use Rattle.report.proofs.once_of.Goals as goal
+
+pub returns : goal.returns
+unfolding once_of
+returns c = omega (arith, c.smaller.ensures, c.above-missing.ensures, c.larger.ensures)

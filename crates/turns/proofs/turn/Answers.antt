@@ -1,0 +1,39 @@
+-- A step or a preemption, by the kind.
+use native.Mathlib.Omega.{arith}
+use Rattle.turns.proofs.Given.{runs-placed, runs-good, runs-inside, placed-few, placed-point, placed-is}
+use Rattle.turns.proofs.Events.{step-turns, preempt-turns}
+use Rattle.turns.proofs.turn.Goals as goal
+
+pub returns-then-kind-eq0 : goal.returns-then-kind-eq0
+returns-then-kind-eq0 c =
+    let e = placed-is (runs-placed c.requires.0) c.requires.1 _ _ c.span_at-s.ensures c.point_at-y.ensures in
+    step-turns _ _ _ c.args.x _ _ c.requires.1 _ _ _ e c.if-kind-eq0.true c.step.ensures.0 c.step.ensures.1
+
+pub returns : goal.returns
+returns c =
+    preempt-turns _ _ _ c.args.x _ _ c.requires.1 _ _ c.if-kind-eq0.false c.preempt.ensures
+
+pub step-requires : goal.step-requires
+step-requires c =
+    let e = c.span_at-s.ensures in
+    record {
+      runs = c.requires.0;
+      inside = runs-inside c.requires.0 c.requires.1 _ e c.requires.2;
+      here = placed-is (runs-placed c.requires.0) c.requires.1 _ _ e c.point_at-y.ensures;
+    }
+
+pub preempt-requires : goal.preempt-requires
+preempt-requires c =
+    (runs-inside c.requires.0 c.requires.1 _ c.span_at-s.ensures c.requires.2, c.requires.0.on, runs-good c.requires.0 c.requires.1)
+
+pub point_at-y-requires : goal.point_at-y-requires
+point_at-y-requires c =
+    let k = runs-placed c.requires.0 in
+    (placed-point k c.requires.1 _ c.span_at-s.ensures, (placed-few k c.requires.1).1)
+
+pub overflow_add-base : goal.overflow_add-base
+overflow_add-base c =
+    let l = placed-point (runs-placed c.requires.0) c.requires.1 _ c.span_at-s.ensures in omega arith
+
+pub span_at-s-requires : goal.span_at-s-requires
+span_at-s-requires c = placed-few (runs-placed c.requires.0) c.requires.1
