@@ -186,7 +186,7 @@ def blocks(text):
                         i = j
                         continue
                     break
-                if n.startswith(" ") or n.startswith("unfolding") or (re.match(rf"{re.escape(name)}(?![\w'′\-])", n)):
+                if n.startswith((" ", ")", "]")) or n.startswith("unfolding") or (re.match(rf"{re.escape(name)}(?![\w'′\-])", n)):
                     body.append(n)
                     i += 1
                 else:
