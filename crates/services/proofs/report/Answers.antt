@@ -1,0 +1,6 @@
+-- What is written is the report.
+use Rattle.services.proofs.Laws.{write-numbers}
+use Rattle.services.proofs.report.Goals as goal
+
+pub returns : goal.returns
+returns c = let e = c.write.ensures in record { left = e; numbers = write-numbers _ _ _ _ _ e }
