@@ -90,13 +90,6 @@ opens t = read_line 9 (between t) (line.Func 0)
 abbrev adds : Task → Func → Step
 adds t x = read_line 9 (inside t x) (line.At Return)
 
--- a text of so many bytes is, or is not, longer than a text may be
-fits : (text : List ℕ) → length text ≡ 32768 → ltb most_bytes (length text) ≡ false
-fits text h = rw h refl
-
-is_longer : (text : List ℕ) → length text ≡ 32769 → ltb most_bytes (length text) ≡ true
-is_longer text h = rw h refl
-
 -- each limit at both its sides. S (65 is starred) and its least; the digits of a number; functions; points of one function and of all; bytes of a text;
 -- numbers of an event list; an output that just fits (one byte less is in totals). The crate cases has whole texts of so many functions and points
 pub limits :
@@ -119,7 +112,7 @@ pub limits :
     ≡ after_write (record { verdict = verdict.Accepted; written = 297 }) space_after sample_report)
 unfolding opened lines sample sample_report space space_after
 limits =
-    (refl, refl, refl, refl, refl, refl, refl, refl, refl, refl, refl, λ text h. rw (fits text h) refl, λ text h. rw (is_longer text h) refl, refl, refl, refl)
+    (refl, refl, refl, refl, refl, refl, refl, refl, refl, refl, refl, λ text h. let fits : ltb most_bytes (length text) ≡ false = rw h refl in rw fits refl, λ text h. let longer : ltb most_bytes (length text) ≡ true = rw h refl in rw longer refl, refl, refl, refl)
 
 -- where several rows hold: 11 before 12 before 13 whatever the lines; 7 before 8 on one line, 9 before 7 by line, 8 before 10; 4 by
 -- line before 5; 3 before 2 by line; the first of two lines; 15 before all
