@@ -4,7 +4,7 @@ use native.Mathlib.Omega.{arith}
 use native.Mathlib.Decide.{ℕ_discrete}
 use mathlib.Core.Path.{◌≡◌, refl, ap, sym, ◌∙◌}
 use mathlib.Core.List.{List, Memᴰ}
-use lib.ListN.{length, set, length-set}
+use lib.ListN.{length, length-set}
 use Rattle.bits.specs.Bits.{set_bits, union, transfer}
 use Rattle.bits.proofs.Laws.{union-ge}
 use Rattle.model.specs.Walk.{leads}

@@ -7,23 +7,15 @@ use Rattle.model.specs.declared.Row.TheVariants.{Target, LastPoint, Unreachable,
 use Rattle.model.specs.declared.Row.TheVariants.{AnswersTooSmall, CacheSize, MemoryTooSmall, AfterFinish, Kind, Choice}
 use Rattle.model.specs.declared.Point.TheVariants.{Return}
 use Rattle.model.specs.declared.Line.TheVariants as line
-use Rattle.model.specs.declared.Eviction.TheVariants.{Eager, Lazy}
+use Rattle.model.specs.declared.Eviction.TheVariants.{Eager}
 use Rattle.model.specs.declared.Verdict.TheVariants as verdict
-use Rattle.model.specs.declared.Ending.TheVariants.{AllDone, Refused}
-use Rattle.model.specs.declared.RunResult.{RunResult}
 use Rattle.model.specs.Limits.{most_bytes, work_length}
 use Rattle.model.specs.Basic.{count_from}
 use Rattle.model.specs.Text.{bytes}
 use Rattle.model.specs.Task.{Func, Task, without, Judged, refused, task, Step, goes, stop, between, inside, read_line, read_text}
-use Rattle.model.specs.Figures.{shortest}
-use Rattle.model.specs.Sheet.{move_price, in_blocks, priced_sheet, sheet_of, once_of, charging_once, records_of, total_of, report_text}
-use Rattle.model.specs.Dearest.{dearest_text}
 use Rattle.model.specs.Rows.{code_of, verdict_code, verdict_place, refuse}
 use Rattle.model.specs.Refusal.{with_rows, task_rows, judged, work_row, priced_rows, judge, no_rows, run_rows}
-use Rattle.model.specs.Plain.{events_of, plain}
-use Rattle.model.specs.Run.{Place, allowed}
-use Rattle.model.specs.Preemptions.{preemptions, spills_and_fills}
-use Rattle.model.specs.Services.{judged_numbers, check_of, check_number, result_numbers, cleared, after_write, written_by, report_of, dearest_of, run_judged, run_of, run_result_numbers, called, exported}
+use Rattle.model.specs.Services.{judged_numbers, check_of, check_number, result_numbers, after_write, report_of, run_judged, run_of, run_result_numbers}
 use Rattle.model.specs.Opened.{opened}
 use Rattle.model.specs.Examples.{lines, five, sample, sample_report, space, space_after, seven_steps, with_preemption, sample_run}
 

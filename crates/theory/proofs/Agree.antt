@@ -1,6 +1,6 @@
 -- Only the figures at the points of a task matter: sheets that agree there give the same report, the same list, the same runs, and allow the same; and
 -- one obeys the rules where the other does. So the figures may be held in any form that has those of the task's points.
-use Prim.Native.Nat.{ℕ, suc, ◌+◌, ◌<◌}
+use Prim.Native.Nat.{ℕ, suc, ◌<◌}
 use mathlib.Core.Bool.{Bool}
 use mathlib.Core.List.{List, [], ◌∷◌, ◌++◌, Memᴰ}
 use mathlib.Core.Path.{◌≡◌, refl, ap, sym, ◌∙◌}

@@ -1,26 +1,15 @@
 -- A core is clean after each of its moves, whatever it writes back: the blocks from LP up to MT equal memory.
 use Prim.Native.Nat.{ℕ, ◌+◌, ◌-◌, ◌%◌, ◌≤◌, ◌<◌}
-use mathlib.Core.List.{List, ◌∷◌}
-use mathlib.Core.Path.{◌≡◌, ap, sym, ◌∙◌}
+use mathlib.Core.List.{List}
+use mathlib.Core.Path.{ap, sym, ◌∙◌}
 use native.Mathlib.Decide.{dec_lt}
 use native.Mathlib.Omega.{arith}
-use lib.Dec.{eqb_refl}
 use lib.ListN.{length, get_or, length-set}
 use lib.Seq.{get_or-set_other}
 use Rattle.model.specs.declared.Eviction.{Eviction}
 use Rattle.model.specs.declared.Eviction.TheVariants.{Eager, Lazy}
-use Rattle.model.specs.declared.Point.{Point}
-use Rattle.model.specs.declared.Point.TheVariants.{Load, Store, Call, Ensure, Goto, Either, Return}
-use Rattle.model.specs.Task.{Task, func, point}
 use Rattle.model.specs.Core.{Core, Clean, block, written, effective, reserve_moves, ensure_moves, saved_from, resume_moves, reserve, free, ensure, store, resume, idle}
-use Rattle.model.specs.Sheet.{Sheet}
-use Rattle.model.specs.Plain.{Frame}
-use Rattle.model.specs.Run.{step_turn}
-use Rattle.model.specs.WellFormed.{WellFormed}
-use Rattle.theory.specs.Sound.{Sound}
 use Rattle.theory.proofs.Blocks.{apart, length-filled, spilled-out, filled_in, filled-out}
-use Rattle.theory.proofs.Frames.{places, In, Below, Window}
-use Rattle.theory.proofs.Window.{room-below, touched-cached, ensures-frame}
 
 -- either core writes back at least the blocks below LP, and at most those that are cached
 pub written-between : (x : Eviction) (n m : ℕ) → m ≤ n → (m ≤ written x n m) × (written x n m ≤ n)
@@ -86,17 +75,3 @@ clean-resume c d n l =
 -- nothing is cached before the first reserve
 pub clean-idle : (x : Eviction) (cache memory : List ℕ) → Clean (idle x cache memory)
 clean-idle x cache memory = record { within = omega arith; equal = λ a l m. absurd (omega arith) }
-
-module _ (t : Task) (s : Sheet) (w : WellFormed t) (r : Sound t s) where
-  -- a step, by the point at which the running frame stands
-  pub clean_step : (x : Frame) (fs : List Frame) (c : Core) (y : Point) (v : ℕ) → point (func t x.fn) x.at ≡ y → In t x → Below t x.fn fs
-      → Window t s (x ∷ fs) c → Clean c → Clean (step_turn t x.fn x.at (places fs) c y v).state.core
-  clean_step x fs c (Load o) v e i b u k = k
-  clean_step x fs c (Store o) v e i b u k =
-      clean-store c k o v (touched-cached t s w r x fs c o i (rw e (eqb_refl o)) u).1 (omega (arith, u.fits, u.blocks))
-  clean_step x fs c (Call g) v e i b u k = clean-reserve c k (func t g).frame (room-below t s w r x fs c g i b e u)
-  clean_step x fs c (Ensure n) v e i b u k =
-      clean-ensure c k n (omega (arith, ensures-frame t w x n i e, u.blocks, w.shaped.frames x.fn i.fn_in)) (omega (arith, u.fits, u.blocks))
-  clean_step x fs c (Goto q) v e i b u k = k
-  clean_step x fs c (Either q p) v e i b u k = k
-  clean_step x fs c Return v e i b u k = clean_free c k (func t x.fn).frame

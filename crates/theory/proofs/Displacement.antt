@@ -1,5 +1,5 @@
 -- The shortest displacement d: the computed `minimax` is the smallest, over walks of every length, of the largest d called, and d satisfies its equation.
-use Prim.Native.Nat.{ℕ, zero, suc, ◌+◌, ◌-◌, ◌≤◌, ◌<◌}
+use Prim.Native.Nat.{ℕ, zero, suc, ◌+◌, ◌≤◌, ◌<◌}
 use mathlib.Core.Bool.{Bool}
 use mathlib.Core.List.{Memᴰ}
 use mathlib.Core.Option.{Option, none, some}

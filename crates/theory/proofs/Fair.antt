@@ -23,7 +23,8 @@ use Rattle.model.specs.WellFormed.{WellFormed}
 use Rattle.theory.specs.Sound.{Ground, Sound}
 use Rattle.theory.specs.Without.{first_row, none_ran, none_plain}
 use Rattle.theory.proofs.Frames.{places, running-same, frames-step, In, Below, Standing, first-main, first-none, standing-start, standing-step, Window, Needed}
-use Rattle.theory.proofs.Clean.{effective-between, clean-reserve, clean-resume, clean_step}
+use Rattle.theory.proofs.Clean.{effective-between, clean-reserve, clean-resume}
+use Rattle.theory.proofs.CleanStep.{clean_step}
 use Rattle.theory.proofs.Window.{room-start, window-start, window-step, window-save, window-between, window-resume}
 use Rattle.theory.proofs.Contents.{Coherent, Stored, coherent-start, coherent-step, coherent-save, coherent-resume, answer-step}
 use Rattle.theory.proofs.Occupancy.{Occupied, occupied-start, occupied-step, fewer}

@@ -46,6 +46,7 @@ pub mod Frames
 pub mod Blocks
 pub mod Window
 pub mod Clean
+pub mod CleanStep
 pub mod Pointer
 pub mod Numbers
 pub mod Contents

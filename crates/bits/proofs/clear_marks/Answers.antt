@@ -1,5 +1,4 @@
 -- The loop clears one entry a turn, from the front.
-use Prim.Native.Nat.{◌-◌}
 use native.Mathlib.Omega.{arith}
 use Rattle.bits.proofs.Laws.{clearing-none, clearing-more, clearing-end}
 use Rattle.bits.proofs.clear_marks.Goals as goal

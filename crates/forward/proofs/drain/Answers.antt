@@ -2,7 +2,7 @@
 use native.Mathlib.Omega.{arith}
 use mathlib.Core.Path.{◌≡◌, sym, ◌∙◌}
 use Rattle.forward.specs.Visits.{Visits}
-use Rattle.forward.proofs.Steps.{cost, preserved-none, preserved-on, listed-last, preserved-visited}
+use Rattle.forward.proofs.Steps.{preserved-none, preserved-on, listed-last, preserved-visited}
 use Rattle.forward.proofs.drain.Goals as goal
 
 pub last_of-at-requires : goal.last_of-at-requires

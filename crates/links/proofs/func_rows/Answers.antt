@@ -1,9 +1,6 @@
 -- The points that are left give the answer of all, and in the end only the last is left.
-use Prim.Native.Nat.{◌-◌}
 use native.Mathlib.Omega.{arith}
 use mathlib.Core.Path.{refl}
-use mathlib.Core.Logic.{⊎_elim}
-use Rattle.model.specs.Refusal.{link_row}
 use Rattle.tables.proofs.Valid.{lies_in}
 use Rattle.theory.proofs.Search.{search-on, search-off, search-last, search-end}
 use Rattle.links.proofs.Laws.{func-start, row-access}

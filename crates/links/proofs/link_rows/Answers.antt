@@ -1,9 +1,7 @@
 -- The functions that are left give the answer of all.
-use Prim.Native.Nat.{◌-◌}
 use native.Mathlib.Omega.{arith}
 use borrow.Author.Rules.{rules}
 use Rattle.theory.proofs.Search.{search-on, search-off, search-end}
-use Rattle.links.specs.Links.{func_row}
 use Rattle.links.proofs.Laws.{links-start}
 use Rattle.links.proofs.link_rows.Goals as goal
 

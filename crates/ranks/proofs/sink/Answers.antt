@@ -1,5 +1,4 @@
 -- Each turn of the loop is one place that the rank sinks through.
-use Prim.Native.Nat.{◌-◌}
 use native.Mathlib.Omega.{arith}
 use Rattle.ranks.proofs.Laws.{sinking-first, sinking-on, sinking-end}
 use Rattle.ranks.proofs.sink.Goals as goal

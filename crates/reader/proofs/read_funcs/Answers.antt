@@ -1,5 +1,4 @@
 -- The answer is that of what is left after the functions in the tables.
-use Prim.Native.Nat.{◌-◌}
 use native.Mathlib.Omega.{arith}
 use Rattle.reader.proofs.Laws.{funcs-first, funcs-on, funcs-off, funcs-none, funcs-task}
 use Rattle.reader.proofs.read_funcs.Goals as goal

@@ -1,5 +1,4 @@
 -- The answer is that of what is left after m points.
-use Prim.Native.Nat.{◌-◌}
 use native.Mathlib.Omega.{arith}
 use Rattle.reader.proofs.Laws.{body-first, body-line, body-on, body-off, body-empty, body-close, body-other}
 use Rattle.reader.proofs.read_points.Goals as goal

@@ -1,6 +1,5 @@
 -- `scan::number` meets its contract. The loop's invariant: the first i bytes are digits, and v is their value.
-use Rattle.std.proofs.Common.{◌-◌, take, arith}
-use Rattle.model.specs.Text.{digits, value}
+use Rattle.std.proofs.Common.{arith}
 use Rattle.scan.proofs.Laws.{digits-stop, digits_more, digits-fit, value-first, value-more, below_more, below-most, taken_is}
 use Rattle.scan.proofs.number.Goals as goal
 

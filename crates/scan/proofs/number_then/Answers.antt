@@ -1,6 +1,5 @@
 -- `scan::number_then` meets its contract.
 use Rattle.std.proofs.Common.{sym, ◌∙◌, arith}
-use Rattle.scan.specs.Answers.{Taken}
 use Rattle.scan.proofs.Laws.{number-absent, number-taken}
 use Rattle.scan.proofs.number_then.Goals as goal
 

@@ -1,6 +1,5 @@
 -- `scan::one` meets its contract.
-use Rattle.std.proofs.Common.{◌≡◌, true, length, sym, ◌∙◌, arith}
-use Rattle.model.specs.Text as Text
+use Rattle.std.proofs.Common.{length, sym, ◌∙◌, arith}
 use borrow.Author.Tests.{not-true, not-false}
 use Rattle.scan.proofs.Laws.{starts-fits, tail-fits, one-off, one_on}
 use Rattle.scan.proofs.one.Goals as goal

@@ -1,5 +1,5 @@
 -- `scan::starts` meets its contract. The loop's invariant: `all` is the answer for the bytes from i on.
-use Rattle.std.proofs.Common.{◌≡◌, ◌-◌, ◌≤◌, length, drop}
+use Rattle.std.proofs.Common.{◌≡◌, ◌≤◌, length, drop}
 use Rattle.model.specs.Text as Text
 use Rattle.scan.proofs.starts.Given as goal
 

@@ -1,7 +1,5 @@
 -- `scan::two` meets its contract.
-use Rattle.std.proofs.Common.{◌≡◌, ◌≤◌, length, sym, ◌∙◌, arith}
-use Rattle.scan.specs.declared.Num.TheVariants as num
-use Rattle.scan.specs.Answers.{scan_one}
+use Rattle.std.proofs.Common.{sym, ◌∙◌, arith}
 use Rattle.scan.proofs.Laws.{tail-fits, one-fits, two-by, two-on}
 use Rattle.scan.proofs.two.Goals as goal
 
