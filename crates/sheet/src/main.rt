@@ -2,6 +2,7 @@
 #![tactic(auto)]
 
 ghost use Rattle.std.specs.Prelude.{◌-◌, ◌≤◌, length};
+ghost use Rattle.std.specs.Io.{StartsWith};
 ghost use Rattle.print.specs.Print.{Wrote};
 ghost use Rattle.sheet.specs.Input.{ReadWithin};
 ghost use Rattle.sheet.specs.Answer.{refusal_line, Answers, most_line, IsPrefixLen};
@@ -20,6 +21,8 @@ impl Buffers {
     const TEXT: usize = Limits::BYTES + 1;
     // More than any report has: report_length of the crate report bounds it.
     const OUTPUT: usize = 131072;
+    // More than the text of an error has.
+    const ERROR: usize = 300;
 }
 
 // The price of a move that counts its blocks.
@@ -56,15 +59,14 @@ fn read_input(input: &mut impl Read, text: &mut [u8]) -> Input
 {
     let mut done = 0;
     while done < text.len() {
-        match read_more(input, text, done) {
-            Input::Bytes(more) => {
-                if more == 0 {
-                    return Input::Bytes(done);
-                }
-                done += more;
-            }
-            Input::Failed(e) => return Input::Failed(e),
+        let read = read_more(input, text, done);
+        let Input::Bytes(more) = read else {
+            return read;
+        };
+        if more == 0 {
+            return Input::Bytes(done);
         }
+        done += more;
     }
     Input::Bytes(done)
 }
@@ -94,7 +96,9 @@ fn answer(text: &[u8], output: &mut [u8], work: &mut [u32]) -> usize
 }
 
 // The words of the C library for an error, without the number that the error's own text has behind them.
-fn words_of(text: &str) -> &str {
+fn words_of(text: &str) -> &str
+    ensures { StartsWith text.now result.now }
+{
     match text.split_once(" (os error ") {
         Some((words, _)) => words,
         None => text,
@@ -103,7 +107,7 @@ fn words_of(text: &str) -> &str {
 
 // Says on standard error what failed, and why.
 fn fail(rt: &impl Eprint, what: &str, e: io::Error) -> ExitCode {
-    let text = InlineText::<300>::of(e);
+    let text = InlineText::<{ Buffers::ERROR }>::of(e);
     let words = words_of(text.as_str());
     let _ = eprintln!(rt; "{what}: {words}");
     ExitCode::FAILURE
