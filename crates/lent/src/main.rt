@@ -3,8 +3,8 @@
 // services::check is run here.
 #![tactic(auto)]
 
-use libc::STDOUT_FILENO;
 use model::{Limits, Verdict};
+use std::io;
 
 #[derive(Clone, Copy)]
 struct Lent;
@@ -44,70 +44,70 @@ fn untouched(work: &[u32], from: usize) -> usize {
     n
 }
 
-fn say(bytes: &[u8]) {
-    io::write_all(STDOUT_FILENO, bytes);
+fn say(rt: &impl Print, bytes: &[u8]) -> io::Result<()> {
+    rt.write_all(bytes)
 }
 
-fn say_number(n: u64) {
-    io::print_decimal(STDOUT_FILENO, n);
+fn say_number(rt: &impl Print, n: u64) -> io::Result<()> {
+    print!(rt; "{n}")
 }
 
-fn say_refusal(code: u32, place: u32) {
-    say(b"  code ");
-    say_number(code as u64);
-    say(b" place ");
-    say_number(place as u64);
-    say(b"\n");
+fn say_refusal(rt: &impl Print, code: u32, place: u32) -> io::Result<()> {
+    say(rt, b"  code ")?;
+    say_number(rt, code as u64)?;
+    say(rt, b" place ")?;
+    say_number(rt, place as u64)?;
+    say(rt, b"\n")
 }
 
-fn say_verdict(v: Verdict) {
+fn say_verdict(rt: &impl Print, v: Verdict) -> io::Result<()> {
     match v {
-        Verdict::Accepted => say_refusal(0, 0),
+        Verdict::Accepted => say_refusal(rt, 0, 0),
         Verdict::Refused(r) => {
             let row = r.row;
-            say_refusal(codes::code_of(row), r.place)
+            say_refusal(rt, codes::code_of(row), r.place)
         }
     }
 }
 
-fn say_work(work: &[u32]) {
+fn say_work(rt: &impl Print, work: &[u32]) -> io::Result<()> {
     let n = zeros(work);
     let m = untouched(work, n);
-    say(b"  work: 0 at the first ");
-    say_number(n as u64);
-    say(b", untouched ");
-    say_number(m as u64);
-    say(b" of the others\n");
+    say(rt, b"  work: 0 at the first ")?;
+    say_number(rt, n as u64)?;
+    say(rt, b", untouched ")?;
+    say_number(rt, m as u64)?;
+    say(rt, b" of the others\n")
 }
 
-fn check_over(text: &[u8], work: &mut [u32]) {
+fn check_over(rt: &impl Print, text: &[u8], work: &mut [u32]) -> io::Result<()> {
     let verdict = services::check(text, work);
-    say_verdict(verdict);
-    say_work(work);
+    say_verdict(rt, verdict)?;
+    say_work(rt, work)
 }
 
-fn check_long(text: &[u8]) {
+fn check_long(rt: &impl Print, text: &[u8]) -> io::Result<()> {
     let mut work = [Lent::NUMBER; Lent::WORK];
-    check_over(text, &mut work);
+    check_over(rt, text, &mut work)
 }
 
-fn check_short(text: &[u8]) {
+fn check_short(rt: &impl Print, text: &[u8]) -> io::Result<()> {
     let mut work = [Lent::NUMBER; Lent::SHORT_WORK];
-    check_over(text, &mut work);
+    check_over(rt, text, &mut work)
 }
 
-fn check_cases(task: &[u8], refused: &[u8]) {
-    say(b"check of a task\n");
-    check_long(task);
-    say(b"check of a task that is refused\n");
-    check_long(refused);
-    say(b"check with a working space that is one number short\n");
-    check_short(task);
+fn check_cases(rt: &impl Print, task: &[u8], refused: &[u8]) -> io::Result<()> {
+    say(rt, b"check of a task\n")?;
+    check_long(rt, task)?;
+    say(rt, b"check of a task that is refused\n")?;
+    check_long(rt, refused)?;
+    say(rt, b"check with a working space that is one number short\n")?;
+    check_short(rt, task)
 }
 
-fn main() {
+fn main(rt: HostRuntime) -> io::Result<()> {
     // The second loads an offset that was not stored before.
     let task = b"(stack 2)\n(func 1\n  (store 0)\n  (load 0)\n  (return)\n)\n";
     let refused = b"(stack 2)\n(func 1\n  (load 0)\n  (return)\n)\n";
-    check_cases(task, refused);
+    check_cases(&rt, task, refused)
 }

@@ -7,7 +7,6 @@ use native.Mathlib.Omega.{arith}
 use native.Mathlib.Nat.{zero-add}
 use lib.ListN.{length, get_or, drop, length-append, length-drop}
 use lib.Seq.{length-take-le}
-use Rattle.io.specs.Counts.{IsPrefixLen}
 use borrow.Author.Tests.{lt-leb, le-leb}
 use Rattle.model.specs.declared.Refusal.{Refusal}
 use Rattle.model.specs.declared.Verdict.TheVariants.{Accepted, Refused}
@@ -20,7 +19,7 @@ use Rattle.model.specs.Services.{AfterWrite, after_write, over, cleared, written
 use Rattle.theory.proofs.Prices.{report-blocks}
 use Rattle.print.specs.Print.{Wrote}
 use Rattle.print.proofs.Laws.{line-most, pasted-start}
-use Rattle.sheet.specs.Answer.{refusal_line, blocks_report, answered, answer_of, Answers, most_line}
+use Rattle.sheet.specs.Answer.{refusal_line, blocks_report, answered, answer_of, Answers, most_line, IsPrefixLen}
 
 -- a row of a word of eight bytes and two numbers of 32 bits
 

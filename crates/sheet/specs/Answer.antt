@@ -1,5 +1,5 @@
 -- What the program writes for a text.
-use Rattle.std.specs.Prelude.{ℕ, true, ◌≡◌, List, [], ◌∷◌, length}
+use Rattle.std.specs.Prelude.{ℕ, true, ◌≡◌, ◌≤◌, List, [], ◌∷◌, length, take}
 use Rattle.model.specs.declared.Refusal.{Refusal}
 use Rattle.model.specs.Limits.{work_length}
 use Rattle.model.specs.Rows.{code_of}
@@ -34,3 +34,7 @@ pub record Answers (text output work : List ℕ) (n : ℕ) (output' work' : List
 -- bytes that are enough for the line of any refusal: its word, a space and at most ten digits twice, the closing bracket and the line feed
 abbrev pub most_line : ℕ
 most_line = 32
+
+-- the first n elements of a list are there; the second part follows from the first
+abbrev pub IsPrefixLen : ℕ → List ℕ → Type 0
+IsPrefixLen n l = (n ≤ length l) × (n ≡ length (take n l))

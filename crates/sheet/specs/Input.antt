@@ -6,4 +6,4 @@ use Rattle.sheet.specs.declared.Input.TheVariants.{Bytes, Failed}
 -- no more bytes were read than there is room for
 abbrev pub ReadWithin : ℕ → Input → Type 0
 ReadWithin n (Bytes m) = m ≤ n
-ReadWithin n Failed = Unit {0}
+ReadWithin n (Failed e) = Unit {0}

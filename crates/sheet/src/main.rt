@@ -2,13 +2,16 @@
 #![tactic(auto)]
 
 ghost use Rattle.std.specs.Prelude.{◌-◌, ◌≤◌, length};
-ghost use Rattle.io.specs.Counts.{IsPrefixLen};
+ghost use Rattle.std.specs.Io.{StartsWith};
 ghost use Rattle.print.specs.Print.{Wrote};
 ghost use Rattle.sheet.specs.Input.{ReadWithin};
-ghost use Rattle.sheet.specs.Answer.{refusal_line, Answers, most_line};
+ghost use Rattle.sheet.specs.Answer.{refusal_line, Answers, most_line, IsPrefixLen};
 
-use libc::{STDIN_FILENO, STDOUT_FILENO};
 use model::{Limits, Refusal, Verdict};
+use std::fmt::InlineText;
+use std::io;
+use std::io::Read;
+use std::process::ExitCode;
 
 #[derive(Clone, Copy)]
 struct Buffers;
@@ -18,6 +21,8 @@ impl Buffers {
     const TEXT: usize = Limits::BYTES + 1;
     // More than any report has: report_length of the crate report bounds it.
     const OUTPUT: usize = 131072;
+    // More than the text of an error has.
+    const ERROR: usize = 300;
 }
 
 // The price of a move that counts its blocks.
@@ -34,29 +39,29 @@ impl InBlocks {
 #[derive(Clone, Copy)]
 enum Input {
     Bytes(usize),
-    Failed,
+    Failed(io::Error),
 }
 
 // Reads once, behind the bytes that are there. A read may bring fewer bytes than there is room for; at the end of the input it brings none.
-fn read_more(text: &mut [u8], done: usize) -> Input
+fn read_more(input: &mut impl Read, text: &mut [u8], done: usize) -> Input
     requires { done ≤ length text.old }
     ensures { ReadWithin (length text.new - done) result }
 {
-    let got = libc::read(STDIN_FILENO, &mut text[done..]);
-    if got < 0 {
-        return Input::Failed;
+    match input.read(&mut text[done..]) {
+        Ok(more) => Input::Bytes(more),
+        Err(e) => Input::Failed(e),
     }
-    Input::Bytes(io::count(got, &text[done..]))
 }
 
 // Reads until text is full or the input ends.
-fn read_input(text: &mut [u8]) -> Input
+fn read_input(input: &mut impl Read, text: &mut [u8]) -> Input
     ensures { ReadWithin (length text.new) result }
 {
     let mut done = 0;
     while done < text.len() {
-        let Input::Bytes(more) = read_more(text, done) else {
-            return Input::Failed;
+        let read = read_more(input, text, done);
+        let Input::Bytes(more) = read else {
+            return read;
         };
         if more == 0 {
             return Input::Bytes(done);
@@ -90,24 +95,43 @@ fn answer(text: &[u8], output: &mut [u8], work: &mut [u32]) -> usize
     }
 }
 
-// What could not be written is said on standard error.
-fn write_out(bytes: &[u8]) {
-    if !io::write_all(STDOUT_FILENO, bytes) {
-        os::fail(b"standard output");
+// The words of the C library for an error, without the number that the error's own text has behind them.
+fn words_of(text: &str) -> &str
+    ensures { StartsWith text.now result.now }
+{
+    match text.split_once(" (os error ") {
+        Some((words, _)) => words,
+        None => text,
     }
 }
 
-fn write_answer(text: &[u8]) {
+// Says on standard error what failed, and why.
+fn fail(rt: &impl Eprint, what: &str, e: io::Error) -> ExitCode {
+    let text = InlineText::<{ Buffers::ERROR }>::of(e);
+    let words = words_of(text.as_str());
+    let _ = eprintln!(rt; "{what}: {words}");
+    ExitCode::FAILURE
+}
+
+// What could not be written is said on standard error.
+fn write_out(rt: &(impl Print + Eprint), bytes: &[u8]) -> ExitCode {
+    match rt.write_all(bytes) {
+        Ok(()) => ExitCode::SUCCESS,
+        Err(e) => fail(rt, "standard output", e),
+    }
+}
+
+fn write_answer(rt: &(impl Print + Eprint), text: &[u8]) -> ExitCode {
     let mut output = [0u8; Buffers::OUTPUT];
     let mut work = [0u32; Limits::WORK];
     let n = answer(text, &mut output, &mut work);
-    write_out(&output[..n]);
+    write_out(rt, &output[..n])
 }
 
-fn main() {
+fn main(rt: HostRuntime) -> ExitCode {
     let mut text = [0u8; Buffers::TEXT];
-    match read_input(&mut text) {
-        Input::Failed => os::fail(b"standard input"),
-        Input::Bytes(n) => write_answer(&text[..n]),
+    match read_input(&mut rt.stdin(), &mut text) {
+        Input::Failed(e) => fail(&rt, "standard input", e),
+        Input::Bytes(n) => write_answer(&rt, &text[..n]),
     }
 }
