@@ -1,5 +1,4 @@
 -- The loop fills the gens and the kills of one point a turn.
-use Prim.Native.Nat.{◌-◌}
 use native.Mathlib.Omega.{arith}
 use mathlib.Core.Path.{◌≡◌}
 use Rattle.tables.proofs.Valid.{offsets-fit}

@@ -1,5 +1,4 @@
 -- The loop reads one set a turn.
-use Prim.Native.Nat.{◌-◌}
 use native.Mathlib.Omega.{arith}
 use mathlib.Core.Path.{◌≡◌}
 use Rattle.problems.proofs.Laws.{filled_none, filled_more}
