@@ -1,7 +1,6 @@
 -- The numbers that a point is given, and what a write into one column does.
-use Rattle.std.specs.Prelude.{ℕ, zero, suc, ◌+◌, ◌-◌, ◌*◌, ◌≤◌, ◌<◌, max, Bool, List, ◌≡◌, ltb}
+use Rattle.std.specs.Prelude.{if◌then◌else◌, ℕ, zero, suc, ◌+◌, ◌-◌, ◌*◌, ◌≤◌, ◌<◌, max, Bool, List, ◌≡◌, ltb}
 use Rattle.std.proofs.Math.Option.{some}
-use Rattle.model.specs.Basic.{if◌then◌else◌}
 use Rattle.model.specs.Limits.{most_funcs}
 use Rattle.model.specs.Walk.{called, ensured, present, calls}
 use Rattle.points.specs.Points.{numbered}

@@ -1,4 +1,5 @@
 -- The functions that a function calls, from its last point to its first, and what D and d are of theirs.
+use Rattle.std.specs.Prelude.{if◌then◌else◌}
 use Prim.Native.Nat.{ℕ, ◌+◌, ◌≤◌, ◌<◌, min, max}
 use native.Mathlib.Omega.{arith}
 use native.Mathlib.Numerals.{add-one}
@@ -9,7 +10,7 @@ use mathlib.Core.Path.{◌≡◌, refl, ap, sym, ◌∙◌}
 use lib.ListN.{drop}
 use lib.Seq.{drop-cons, drop-length}
 use Rattle.model.specs.declared.Point.TheVariants.{Return}
-use Rattle.model.specs.Basic.{if◌then◌else◌, joined, largest, smallest}
+use Rattle.model.specs.Basic.{joined, largest, smallest}
 use Rattle.model.specs.Limits.{most_funcs}
 use Rattle.model.specs.Walk.{called}
 use Rattle.model.specs.Figures.{the_called, callees}

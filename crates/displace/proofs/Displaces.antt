@@ -1,4 +1,5 @@
 -- D, d and the level of a function from those of the functions behind it.
+use Rattle.std.specs.Prelude.{if◌then◌else◌}
 use Prim.Native.Nat.{ℕ, ◌+◌, ◌-◌, ◌≤◌, ◌<◌}
 use native.Mathlib.Omega.{arith}
 use native.Mathlib.Decide.{dec_lt, ℕ_discrete}
@@ -9,7 +10,7 @@ use mathlib.Core.Path.{◌≡◌, refl, ap, sym, subst, ◌∙◌}
 use lib.Dec.{ltb}
 use lib.ListN.{length, set, length-set}
 use borrow.Author.Tests.{lt-ltb, le-ltb}
-use Rattle.model.specs.Basic.{if◌then◌else◌, largest, smallest}
+use Rattle.model.specs.Basic.{largest, smallest}
 use Rattle.model.specs.Limits.{most_stack, most_funcs}
 use Rattle.model.specs.Task.{Func, Task, size, count, func, point}
 use Rattle.model.specs.Walk.{Met, leads, called, returns, never}

@@ -2,8 +2,7 @@
 // have levels in the order of their d, and the levels are the bits of one gen/kill problem.
 #![tactic(auto)]
 
-ghost use Rattle.std.specs.Prelude.{◌≡◌, ℕ, ◌+◌, ◌<◌, ◌≤◌, min, ltb, length};
-ghost use Rattle.model.specs.Basic.{if◌then◌else◌};
+ghost use Rattle.std.specs.Prelude.{if◌then◌else◌, ◌≡◌, ℕ, ◌+◌, ◌<◌, ◌≤◌, min, ltb, length};
 ghost use Rattle.model.specs.Figures.{shortest};
 ghost use Rattle.bits.specs.Bits.{set_bits};
 ghost use Rattle.tables.specs.Tables.{span_at, task_of};

@@ -1,11 +1,11 @@
 -- Laws of sets as tests of their bits, and of the effect of a point.
+use Rattle.std.specs.Prelude.{if◌then◌else◌}
 use Prim.Native.Nat.{ℕ, zero, suc, ◌≤◌, max}
 use native.Mathlib.Omega.{arith}
 use mathlib.Core.Path.{◌≡◌, refl, ap, sym, ◌∙◌}
 use mathlib.Core.Bool.{Bool, true, false, ◌&&◌, ◌||◌}
 use lib.Dec.{eqb, eqb-suc-zero, eqb-suc-suc}
 use Rattle.model.specs.declared.Point.{Point}
-use Rattle.model.specs.Basic.{if◌then◌else◌}
 use Rattle.model.specs.Walk.{loaded, stored, called, ensured, is_return, is, present}
 use Rattle.bits.specs.Bits.{all_bits, bit, Marks, Single, union}
 use Rattle.bits.proofs.Laws.{bit_le, bit-union, marks-none, marks-all, marks-single}

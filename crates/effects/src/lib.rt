@@ -1,10 +1,9 @@
 // The gen/kill problems as data: what a point gives and what it takes, for each problem.
 #![tactic(auto)]
 
-ghost use Rattle.std.specs.Prelude.{◌≡◌, ℕ, suc, ◌≤◌, T, eqb};
+ghost use Rattle.std.specs.Prelude.{if◌then◌else◌, ◌≡◌, ℕ, suc, ◌≤◌, T, eqb};
 ghost use Rattle.model.specs.declared.Point.{Point as PointOf};
 ghost use Rattle.model.specs.Limits.{most_stack};
-ghost use Rattle.model.specs.Basic.{if◌then◌else◌};
 ghost use Rattle.model.specs.Task.{offset_fits};
 ghost use Rattle.bits.specs.Bits.{Marks};
 ghost use Rattle.effects.specs.Effects.{gives, takes, effect_with, HasEffect};

@@ -1,4 +1,5 @@
 -- The largest number over the points that call a function, worked out caller by caller.
+use Rattle.std.specs.Prelude.{if◌then◌else◌}
 use Prim.Native.Nat.{ℕ, zero, suc, ◌+◌, ◌≤◌, ◌<◌, max}
 use native.Mathlib.Omega.{arith}
 use native.Mathlib.Decide.{ℕ_discrete}
@@ -7,7 +8,6 @@ use mathlib.Core.Bool.{Bool, true, false}
 use mathlib.Core.Logic.{◌⊎◌, inl, inr, ⊎_elim}
 use mathlib.Core.Path.{◌≡◌, refl, ap, ◌∙◌}
 use lib.Dec.{T}
-use Rattle.model.specs.Basic.{if◌then◌else◌}
 use Rattle.model.specs.Task.{Func, Task, size, count, func}
 use Rattle.model.specs.Walk.{Largest, calls}
 use Rattle.model.specs.Figures.{over_calls}

@@ -1,4 +1,5 @@
 -- One function of the task: the numbers that its points are given are its figures, and so are what the kernels answer.
+use Rattle.std.specs.Prelude.{if◌then◌else◌}
 use Prim.Native.Nat.{ℕ, suc, ◌+◌, ◌-◌, ◌≤◌, ◌<◌, min}
 use native.Mathlib.Omega.{arith}
 use native.Mathlib.Numerals.{add-one}
@@ -8,7 +9,6 @@ use mathlib.Core.Path.{◌≡◌, refl, ap, sym, subst, ◌∙◌}
 use lib.Dec.{T, ltb}
 use lib.ListN.{length}
 use borrow.Author.Tests.{lt-ltb}
-use Rattle.model.specs.Basic.{if◌then◌else◌}
 use Rattle.model.specs.Limits.{most_stack, most_funcs, most_points}
 use Rattle.model.specs.Task.{Func, Task, size, func}
 use Rattle.model.specs.Walk.{called}

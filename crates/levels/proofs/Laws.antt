@@ -1,4 +1,5 @@
 -- The laws of levels: function by function from the last on, their order and how many there are.
+use Rattle.std.specs.Prelude.{if◌then◌else◌}
 use Prim.Native.Nat.{ℕ, suc, ◌+◌, ◌-◌, ◌≤◌, ◌<◌, max}
 use native.Mathlib.Omega.{arith}
 use native.Mathlib.Decide.{ℕ_discrete}
@@ -9,7 +10,7 @@ use mathlib.Core.Path.{◌≡◌, refl, ap, ◌∙◌}
 use lib.Dec.{T, leb, ltb, not_T, ltb→lt, lt→ltb}
 use borrow.Author.Tests.{le-ltb, le-leb, lt-leb}
 use lib.ListN.{length, set}
-use Rattle.model.specs.Basic.{if◌then◌else◌, select, largest, count_from}
+use Rattle.model.specs.Basic.{select, largest, count_from}
 use Rattle.model.specs.Limits.{most_funcs}
 use Rattle.theory.proofs.Lists.{mem-select, mem-count_from, length-count_from, select-cong, select-most, select-less}
 use Rattle.theory.proofs.Between.{largest-cong}

@@ -1,7 +1,7 @@
 -- Levels: the functions from m on and below n in the order of their d. One that displaces more has a higher level, and those that displace the same share
 -- one. There are no more levels than functions, so that a set of 64 bits holds them all.
-use Rattle.std.specs.Prelude.{ℕ, suc, ◌+◌, ◌-◌, ◌≤◌, ◌<◌, List, ◌≡◌, leb, ltb, length}
-use Rattle.model.specs.Basic.{if◌then◌else◌, select, largest, count_from}
+use Rattle.std.specs.Prelude.{if◌then◌else◌, ℕ, suc, ◌+◌, ◌-◌, ◌≤◌, ◌<◌, List, ◌≡◌, leb, ltb, length}
+use Rattle.model.specs.Basic.{select, largest, count_from}
 use Rattle.model.specs.Limits.{most_funcs}
 use Rattle.tables.specs.Tables.{item}
 use Rattle.columns.specs.Columns.{columns_end, shortest_column, level_column, Funcs, Changed}

@@ -1,8 +1,7 @@
 // The functions in the order of their d, in a column: a function finds its level among those behind it, and a level gives the largest d up to it.
 #![tactic(auto)]
 
-ghost use Rattle.std.specs.Prelude.{◌≡◌, suc, ◌+◌, ◌≤◌, ltb};
-ghost use Rattle.model.specs.Basic.{if◌then◌else◌};
+ghost use Rattle.std.specs.Prelude.{if◌then◌else◌, ◌≡◌, suc, ◌+◌, ◌≤◌, ltb};
 ghost use Rattle.model.specs.Limits.{most_funcs};
 ghost use Rattle.levels.specs.Levels.{level_among, largest_within, shortest_in, level_in, Room, SmallLevels, Lifted, Inserted};
 

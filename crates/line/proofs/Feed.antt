@@ -1,4 +1,5 @@
 -- A text is cut at its first line feed: what it begins with, read by words that end in a line feed, is what the line before that line feed is.
+use Rattle.std.specs.Prelude.{if◌then◌else◌}
 use Prim.Native.Nat.compare
 use Prim.Native.Nat.{ℕ, zero, suc, ◌+◌, ◌≤◌}
 use mathlib.Core.Path.{◌≡◌, refl, sym, ap, ◌∙◌}
@@ -11,7 +12,6 @@ use lib.ListN.{length, drop, length-append, length-drop}
 use lib.Seq.{take-append-le, drop-append-le, drop-append-add, drop-drop}
 use lib.Dec.{eqb, leb}
 use borrow.Author.Tests.{not-true, eqb-false, ne_eqb, lt-leb, leb-true}
-use Rattle.model.specs.Basic.{if◌then◌else◌}
 use Rattle.model.specs.Text.{starts, same, is_digit, digits, is_number, number_of, after_number, line_of, lines_from, lines_of}
 use Rattle.model.specs.Text.{number_then, one_number, with_first, numbers_then, two_numbers}
 use Rattle.model.specs.declared.Line.{Line}

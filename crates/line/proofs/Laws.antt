@@ -1,4 +1,5 @@
 -- The first line of a text by its patterns. A byte rules out every pattern whose opening word has another byte there.
+use Rattle.std.specs.Prelude.{if◌then◌else◌}
 use Prim.Native.Nat.{ℕ, ◌+◌, ◌<◌}
 use mathlib.Core.Path.{◌≡◌, refl, sym, ap, ◌∙◌}
 use mathlib.Core.Bool.{Bool, true, false, ◌&&◌}
@@ -9,7 +10,7 @@ use native.Mathlib.Omega.{arith}
 use lib.ListN.{length, get_or}
 use lib.Dec.{eqb}
 use borrow.Author.Tests.{eqb-false, ne_eqb}
-use Rattle.model.specs.Basic.{if◌then◌else◌, ◌or_else◌, first_of, select}
+use Rattle.model.specs.Basic.{◌or_else◌, first_of, select}
 use Rattle.model.specs.Text.{bytes, starts, same, one_number, two_numbers, or_one, or_two, point_form, line_of, lines_of}
 use Rattle.model.specs.declared.Point.{Point}
 use Rattle.model.specs.declared.Line.{Line}

@@ -1,9 +1,9 @@
 -- The figures of a task that come from its walks and its calls, in blocks; Sheet puts cost together from them. The walks run inside one
 -- function; displacements go from callees to callers, the entry occupancy and the chain from callers to callees. Calls lead to later
 -- functions, which bounds the depth of both.
-use Rattle.std.specs.Prelude.{ℕ, zero, suc, pred, ◌+◌, ◌-◌, ◌*◌, min, max, Bool, ◌&&◌, List, [], ◌∷◌, ltb, eqb}
+use Rattle.std.specs.Prelude.{if◌then◌else◌, ℕ, zero, suc, pred, ◌+◌, ◌-◌, ◌*◌, min, max, Bool, ◌&&◌, List, [], ◌∷◌, ltb, eqb}
 use Rattle.std.proofs.Math.Option.{Option, none, some}
-use Rattle.model.specs.Basic.{if◌then◌else◌, joined, select, largest, smallest, up_to, above_all, lowest}
+use Rattle.model.specs.Basic.{joined, select, largest, smallest, up_to, above_all, lowest}
 use Rattle.model.specs.Task.{Func, Task, size, count, func, point}
 use Rattle.model.specs.Walk.{leads, called, loads, stores, touches, calls, is_ensure, returns, never, some_walk, arrival}
 

@@ -1,13 +1,12 @@
 -- The plain stack: the reference semantics, a stack in memory without a cache. It fixes what loads answer and what is refused, and is fed
 -- the task of a text and the events, nothing else.
-use Rattle.std.specs.Prelude.{ℕ, suc, List, [], ◌∷◌, get_or, set, replicate, eqb}
+use Rattle.std.specs.Prelude.{if◌then◌else◌, ℕ, suc, List, [], ◌∷◌, get_or, set, replicate, eqb}
 use Rattle.std.proofs.Math.Option.{Option, none, some}
 use Rattle.model.specs.declared.Point.{Point}
 use Rattle.model.specs.declared.Point.TheVariants.{Load, Store, Call, Ensure, Goto, Either, Return}
 use Rattle.model.specs.declared.Refusal.{Refusal}
 use Rattle.model.specs.declared.Ending.{Ending}
 use Rattle.model.specs.declared.Ending.TheVariants.{AllDone, Refused}
-use Rattle.model.specs.Basic.{if◌then◌else◌}
 use Rattle.model.specs.Task.{Task, func, point, stackless}
 use Rattle.model.specs.Refusal.{event_rows}
 

@@ -1,5 +1,5 @@
 -- The rows of the table that a read task, the buffers and an event may meet, and their order.
-use Rattle.std.specs.Prelude.{ℕ, suc, ◌-◌, ◌/◌, ◌%◌, Bool, true, false, not, ◌&&◌, ◌||◌, List, length, leb, ltb, eqb}
+use Rattle.std.specs.Prelude.{if◌then◌else◌, ℕ, suc, ◌-◌, ◌/◌, ◌%◌, Bool, true, false, not, ◌&&◌, ◌||◌, List, length, leb, ltb, eqb}
 use Rattle.std.proofs.Math.Option.{Option, none, some}
 use Rattle.model.specs.declared.Point.{Point}
 use Rattle.model.specs.declared.Point.TheVariants.{Load, Store, Call, Ensure, Goto, Either, Return}
@@ -9,7 +9,7 @@ use Rattle.model.specs.declared.Row.TheVariants.{Uninitialised, OutputTooSmall, 
 use Rattle.model.specs.declared.Row.TheVariants.{AfterFinish, Kind, Choice}
 use Rattle.model.specs.Limits.{most_bytes, most_event_numbers, most_start, most_each}
 use Rattle.model.specs.Rows.{refuse}
-use Rattle.model.specs.Basic.{if◌then◌else◌, unless, ◌or_else◌, first_of, any, up_to, count_from}
+use Rattle.model.specs.Basic.{unless, ◌or_else◌, first_of, any, up_to, count_from}
 use Rattle.model.specs.Task.{Func, Task, Judged, refused, task, size, count, func, point, stackless, func_line, point_line, read_text}
 use Rattle.model.specs.Walk.{loaded, called, ensured, calls, is_call, is_ensure}
 use Rattle.model.specs.Figures.{reached, uninitialised, longest}

@@ -1,12 +1,11 @@
 -- A run on the core: what each event does to the frames, the cache and the memory, what it moves, and what the sheet allows.
-use Rattle.std.specs.Prelude.{ℕ, suc, ◌+◌, ◌≤◌, ◌≡◌, List, [], ◌∷◌, eqb}
+use Rattle.std.specs.Prelude.{if◌then◌else◌, ℕ, suc, ◌+◌, ◌≤◌, ◌≡◌, List, [], ◌∷◌, eqb}
 use Rattle.std.proofs.Math.Option.{Option, none, some}
 use Rattle.model.specs.declared.Point.{Point}
 use Rattle.model.specs.declared.Point.TheVariants.{Load, Store, Call, Ensure, Goto, Either, Return}
 use Rattle.model.specs.declared.Refusal.{Refusal}
 use Rattle.model.specs.declared.Ending.{Ending}
 use Rattle.model.specs.declared.Ending.TheVariants.{AllDone, Refused}
-use Rattle.model.specs.Basic.{if◌then◌else◌}
 use Rattle.model.specs.Task.{Task, func, point, stackless}
 use Rattle.model.specs.Core.{Core, Clean, effective, save_moves, resume_moves, reserve, free, ensure, load, store, preempt, filled_with}
 use Rattle.model.specs.Sheet.{Sheet}

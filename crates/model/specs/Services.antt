@@ -1,5 +1,5 @@
 -- What each service returns and what every lent buffer holds afterwards, for every input; and demand 3 of run, on either core.
-use Rattle.std.specs.Prelude.{ℕ, ◌≤◌, true, List, [], ◌∷◌, ◌++◌, ◌≡◌, length, drop, replicate, ltb}
+use Rattle.std.specs.Prelude.{if◌then◌else◌, ℕ, ◌≤◌, true, List, [], ◌∷◌, ◌++◌, ◌≡◌, length, drop, replicate, ltb}
 use Rattle.std.proofs.Math.Option.{Option, none, some}
 use Rattle.model.specs.declared.Refusal.{Refusal}
 use Rattle.model.specs.declared.Eviction.{Eviction}
@@ -12,7 +12,6 @@ use Rattle.model.specs.declared.WriteResult.{WriteResult}
 use Rattle.model.specs.declared.RunResult.{RunResult}
 use Rattle.model.specs.Limits.{work_length}
 use Rattle.model.specs.Rows.{packed, ending_verdict, verdict_numbers}
-use Rattle.model.specs.Basic.{if◌then◌else◌}
 use Rattle.model.specs.Task.{Task, Judged, refused, task}
 use Rattle.model.specs.Sheet.{Sheet, move_price, in_blocks, counts_blocks, priced_sheet, sheet_of, charging_once, report_text}
 use Rattle.model.specs.Dearest.{dearest_text}

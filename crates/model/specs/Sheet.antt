@@ -1,6 +1,6 @@
 -- The preemption sheet: the figures as one record, the formulas of the cost and its parts, and the bytes of the report.
-use Rattle.std.specs.Prelude.{ℕ, zero, suc, ◌+◌, ◌-◌, ◌*◌, ◌/◌, ◌%◌, min, max, Bool, true, false, ◌&&◌, List, [], ◌∷◌, ◌++◌, map, eqb, ltb}
-use Rattle.model.specs.Basic.{if◌then◌else◌, joined, sum_of, up_to}
+use Rattle.std.specs.Prelude.{if◌then◌else◌, ℕ, zero, suc, ◌+◌, ◌-◌, ◌*◌, ◌/◌, ◌%◌, min, max, Bool, true, false, ◌&&◌, List, [], ◌∷◌, ◌++◌, map, eqb, ltb}
+use Rattle.model.specs.Basic.{joined, sum_of, up_to}
 use Rattle.model.specs.Text.{bytes}
 use Rattle.model.specs.Task.{Task, func, size, count}
 use Rattle.model.specs.Figures as Figures

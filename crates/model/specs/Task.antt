@@ -1,5 +1,5 @@
 -- A task, and how the lines of a text are read into one (refusals 2 to 6).
-use Rattle.std.specs.Prelude.{ℕ, suc, ◌+◌, ◌*◌, Bool, true, not, ◌&&◌, ◌||◌, List, [], ◌∷◌, ◌++◌, length, take, get_or, leb, ltb, eqb}
+use Rattle.std.specs.Prelude.{if◌then◌else◌, ℕ, suc, ◌+◌, ◌*◌, Bool, true, not, ◌&&◌, ◌||◌, List, [], ◌∷◌, ◌++◌, length, take, get_or, leb, ltb, eqb}
 use Rattle.model.specs.declared.Point.{Point}
 use Rattle.model.specs.declared.Point.TheVariants.{Load, Store, Call, Ensure, Goto, Either, Return}
 use Rattle.model.specs.declared.Line.{Line}
@@ -8,7 +8,7 @@ use Rattle.model.specs.declared.Refusal.{Refusal}
 use Rattle.model.specs.declared.Row.TheVariants.{Form, StackSize, FrameSize, Offset, TooMany}
 use Rattle.model.specs.Limits.{most_stack, most_funcs, most_points, most_in_all}
 use Rattle.model.specs.Rows.{refuse}
-use Rattle.model.specs.Basic.{if◌then◌else◌, sum_of}
+use Rattle.model.specs.Basic.{sum_of}
 use Rattle.model.specs.Text.{lines_of}
 
 -- a function: its frame K and its points, counted from 0

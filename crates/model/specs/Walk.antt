@@ -1,11 +1,11 @@
 -- Walks inside one function. What is said of all walks is data here; beside it stands the function that computes it. That the two
 -- agree, for walks of every length, is proved in the crate theory.
-use Rattle.std.specs.Prelude.{ℕ, zero, suc, ◌≤◌, ◌<◌, max, Bool, true, false, not, ◌&&◌, ◌||◌, T, eqb}
+use Rattle.std.specs.Prelude.{if◌then◌else◌, ℕ, zero, suc, ◌≤◌, ◌<◌, max, Bool, true, false, not, ◌&&◌, ◌||◌, T, eqb}
 use mathlib.Core.List.{List, [], ◌∷◌, Memᴰ}
 use Rattle.std.proofs.Math.Option.{Option, none, some}
 use Rattle.model.specs.declared.Point.{Point}
 use Rattle.model.specs.declared.Point.TheVariants.{Load, Store, Call, Ensure, Goto, Either, Return}
-use Rattle.model.specs.Basic.{if◌then◌else◌, any, select, largest, up_to}
+use Rattle.model.specs.Basic.{any, select, largest, up_to}
 use Rattle.model.specs.Task.{Func, size, point}
 
 -- leads: the successors of point p, which is x, in the control-flow graph of its function. A call is stepped over

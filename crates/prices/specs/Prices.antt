@@ -1,6 +1,5 @@
 -- The price of moves as the code has it, and how large it can be.
-use Rattle.std.specs.Prelude.{ℕ, ◌+◌, ◌*◌, ◌≤◌, eqb}
-use Rattle.model.specs.Basic.{if◌then◌else◌}
+use Rattle.std.specs.Prelude.{if◌then◌else◌, ℕ, ◌+◌, ◌*◌, ◌≤◌, eqb}
 use Rattle.model.specs.Limits.{most_stack, most_start, most_each}
 use Rattle.model.specs.Sheet.{move_price}
 use Rattle.prices.specs.declared.Price.{Price}

@@ -1,4 +1,5 @@
 -- From the sets that a kernel leaves to the figures of a function.
+use Rattle.std.specs.Prelude.{if◌then◌else◌}
 use Prim.Native.Nat.{ℕ, zero, suc, ◌+◌, ◌-◌, ◌≤◌, ◌<◌, max}
 use native.Mathlib.Omega.{arith}
 use native.Mathlib.Decide.{dec_le, dec_lt}
@@ -11,7 +12,6 @@ use lib.Dec.{T, eqb, ltb, eqb→eq, eqb_refl, ltb→lt, lt→ltb}
 use borrow.Author.Tests.{lt-ltb}
 use Rattle.model.specs.declared.Point.{Point}
 use Rattle.model.specs.declared.Point.TheVariants.{Load, Store, Call, Ensure, Goto, Either, Return}
-use Rattle.model.specs.Basic.{if◌then◌else◌}
 use Rattle.model.specs.Task.{Func, Task, size, point, offset_fits}
 use Rattle.model.specs.Walk.{Walk, Met, Carries, Largest, Smallest, leads, called, ensured, present, touches, is_ensure, returns, never}
 use Rattle.model.specs.Figures.{shortest, cut_by, after_with, after, dead, need, kept, kept_next, high_from}

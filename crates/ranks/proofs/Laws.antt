@@ -1,4 +1,5 @@
 -- Laws of the ten highest ranks: their order and their number, ranks that are met later, what one more rank does, and what ten zeros become.
+use Rattle.std.specs.Prelude.{if◌then◌else◌}
 use Prim.Native.Nat.{ℕ, zero, suc, ◌+◌, ◌≤◌, ◌<◌, min, max}
 use mathlib.Core.Bool.{Bool, true, false}
 use mathlib.Core.List.Memᴰ
@@ -12,7 +13,7 @@ use lib.Dec.{ltb→lt, nltb→le}
 use lib.ListN.{length, get_or, set, take, drop, replicate, length-take, length-set, drop_of_length-le}
 use lib.Seq.{take_all, take-length, take-take, take-append-le, drop-cons, append_snoc, take-suc-set, drop-set-lt}
 use Rattle.model.specs.Limits.{most_dearest}
-use Rattle.model.specs.Basic.{if◌then◌else◌, inserted, sorted_onto, sorted}
+use Rattle.model.specs.Basic.{inserted, sorted_onto, sorted}
 use Rattle.theory.proofs.Lists.{by-test}
 use Rattle.theory.proofs.Between.{mem-get_or}
 use Rattle.theory.proofs.Sorting.{pairs-take, mem-inserted, length-sorted_onto, sorted-append, window-sorted}

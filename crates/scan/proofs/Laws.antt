@@ -1,11 +1,11 @@
 -- Laws of the definitions of model that a reader of words and numbers uses.
+use Rattle.std.specs.Prelude.{if◌then◌else◌}
 use Rattle.std.proofs.Common.{◌≡◌, ℕ, zero, suc, ◌+◌, ◌-◌, ◌*◌, ◌%◌, ◌^◌, ◌<◌, ◌≤◌, min, Bool, true, false, not, ◌&&◌, ◌||◌, eqb, leb, List, [], ◌∷◌, ◌++◌, length, get_or, take, drop, sym, refl, ap, ◌∙◌, add-one, arith, length-drop, drop_of_length-le, drop-cons, take-suc, eq-eqb, ne_eqb, le-leb}
 use mathlib.Core.Bool.{and-true, and-false, or-false}
 use native.Mathlib.Nat.{pow-succ', pow-le-pow_right}
 use native.Mathlib.Decide.{dec_le, ℕ_discrete}
 use borrow.Author.Tests.{not-true, lt-leb}
 use borrow.Author.Rules.{part_to_end}
-use Rattle.model.specs.Basic.{if◌then◌else◌}
 use Rattle.model.specs.Text.{starts, is_digit, digits, value, is_number, number_of, after_number}
 use Rattle.scan.specs.declared.Num.{Num}
 use Rattle.scan.specs.declared.Num.TheVariants as num

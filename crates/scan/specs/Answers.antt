@@ -1,6 +1,5 @@
 -- What a text begins with, by the definitions of model: its numbers, and how many bytes they take with the words around them.
-use Rattle.std.specs.Prelude.{◌≡◌, ℕ, ◌+◌, ◌≤◌, Bool, false, not, ◌&&◌, List, [], ◌∷◌, length, take, drop, ◌==◌}
-use Rattle.model.specs.Basic.{if◌then◌else◌}
+use Rattle.std.specs.Prelude.{if◌then◌else◌, ◌≡◌, ℕ, ◌+◌, ◌≤◌, Bool, false, not, ◌&&◌, List, [], ◌∷◌, length, take, drop, ◌==◌}
 use Rattle.model.specs.Text.{starts, is_digit, digits, value, is_number, number_of, after_number}
 use Rattle.scan.specs.declared.Num.{Num}
 use Rattle.scan.specs.declared.Num.TheVariants as num

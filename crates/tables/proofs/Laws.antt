@@ -1,4 +1,5 @@
 -- Laws of the tables: what is read back after a write, and the task that the tables hold, point by point.
+use Rattle.std.specs.Prelude.{if◌then◌else◌}
 use Prim.Native.Nat.{ℕ, zero, suc, ◌+◌, ◌≤◌, ◌<◌}
 use native.Mathlib.Omega.{arith}
 use native.Mathlib.Decide.{dec_lt, ℕ_discrete}
@@ -14,7 +15,7 @@ use borrow.Author.Tests.{ne_eqb, le-ltb}
 use lib.Seq.{get_or_at, take-append-le, take_all, get_or-set_same, get_or-set_other}
 use Rattle.model.specs.declared.Point.{Point}
 use Rattle.model.specs.declared.Point.TheVariants.{Load, Store, Call, Ensure, Goto, Either, Return}
-use Rattle.model.specs.Basic.{if◌then◌else◌, sum_of}
+use Rattle.model.specs.Basic.{sum_of}
 use Rattle.model.specs.Task.{Func, size, count, func, point, empty, in_all, func_line, offset_fits}
 use Rattle.tables.specs.declared.Header.{Header}
 use Rattle.tables.specs.declared.Span.{Span}

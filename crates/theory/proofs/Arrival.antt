@@ -1,5 +1,6 @@
 -- The computed `arrival` is the largest value with which a walk comes to a point: twice as many rounds as there are points are
 -- enough for walks of every length. For each threshold t a row of three levels (no walk, at most t, above t) stands still by then.
+use Rattle.std.specs.Prelude.{if◌then◌else◌}
 use Prim.Native.Nat.{ℕ, zero, suc, pred, ◌+◌, ◌-◌, ◌*◌, ◌≤◌, ◌<◌, zero-le, min, max}
 use mathlib.Core.Bool.{Bool, true, false}
 use mathlib.Core.List.Memᴰ
@@ -10,7 +11,7 @@ use native.Mathlib.Decide.{dec_lt}
 use native.Mathlib.Nat.{le-max_left, le-max_right, le_trans}
 use native.Mathlib.Omega.{arith}
 use lib.Dec.{eqb, eqb→eq, eqb_refl}
-use Rattle.model.specs.Basic.{if◌then◌else◌, any, up_to}
+use Rattle.model.specs.Basic.{any, up_to}
 use Rattle.model.specs.Walk.{Carries, Largest, arrival, carried, sources}
 use Rattle.theory.proofs.Lists.{by-test, by-max, by-largest, any-holds, mem-select, mem-up_to, largest-bounds}
 use Rattle.theory.proofs.Walks.{Still, rounds-still}

@@ -1,4 +1,5 @@
 -- Against the rule for d before request 4: d is no smaller, so high, spill, save and cost are no larger, of every accepted text and at every price.
+use Rattle.std.specs.Prelude.{if◌then◌else◌}
 use Prim.Native.Nat.{ℕ, zero, suc, pred, ◌+◌, ◌-◌, ◌*◌, ◌≤◌, ◌<◌, min, max}
 use mathlib.Core.Bool.{Bool, true, false, not}
 use mathlib.Core.List.{List, Memᴰ}
@@ -7,7 +8,7 @@ use mathlib.Core.Path.{◌≡◌, refl}
 use native.Mathlib.Decide.{dec_lt}
 use native.Mathlib.Omega.{arith}
 use lib.Dec.{T, lt→ltb, T_not}
-use Rattle.model.specs.Basic.{if◌then◌else◌, smallest, up_to}
+use Rattle.model.specs.Basic.{smallest, up_to}
 use Rattle.model.specs.Task.{Func, Task, task, size, count, func, point}
 use Rattle.model.specs.Walk.{Met, leads, called, present, is_call, is_ensure, returns, never}
 use Rattle.model.specs.Figures.{callees, calls_above, minimax, shortest_by, shortest_to, shortest, cut_by, after_with, high_from_with}

@@ -1,5 +1,6 @@
 -- What is so of a task that runs, and of one that waits between the halves of a preemption. Every event of a run is fair: it goes on as the
 -- plain stack does, answers as it does, and moves at most what the sheet allows and what the potential falls by. So is every list of events.
+use Rattle.std.specs.Prelude.{if◌then◌else◌}
 use Prim.Native.Nat.{ℕ, zero, suc, ◌+◌, ◌≤◌, ◌<◌}
 use mathlib.Core.Bool.{Bool, true, false}
 use mathlib.Core.List.{List, [], ◌∷◌}
@@ -11,7 +12,6 @@ use borrow.Author.Tests.{eq-eqb, ne_eqb}
 use lib.ListN.{length, length-replicate}
 use Rattle.model.specs.declared.Point.{Point}
 use Rattle.model.specs.declared.Refusal.{Refusal}
-use Rattle.model.specs.Basic.{if◌then◌else◌}
 use Rattle.model.specs.Task.{Task, count, func, point}
 use Rattle.model.specs.Core.{Core, Clean, effective, save, reserve, with_cache, resume, filled_with}
 use Rattle.model.specs.Sheet.{Sheet}

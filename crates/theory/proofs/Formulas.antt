@@ -1,10 +1,10 @@
 -- The sheets have the formulas of specs/Formulas, and the occupancy along a walk goes on by its rules.
+use Rattle.std.specs.Prelude.{if◌then◌else◌}
 use Prim.Native.Nat.{ℕ, suc, ◌+◌, ◌-◌, max}
 use mathlib.Core.Path.{◌≡◌, refl}
 use native.Mathlib.Omega.{arith}
 use Rattle.model.specs.declared.Point.{Point}
 use Rattle.model.specs.declared.Point.TheVariants.{Load, Store, Call, Ensure, Goto, Either, Return}
-use Rattle.model.specs.Basic.{if◌then◌else◌}
 use Rattle.model.specs.Task.{Task, func, point}
 use Rattle.model.specs.Walk.{Largest, called, ensured, present, is_ensure}
 use Rattle.model.specs.Figures as model

@@ -1,5 +1,6 @@
 -- Laws of the functions of the model's Basic: what is a member of a list that they make, that the largest and the smallest number that they find is one,
 -- and lists joined one after the other. The walks and the arrivals are proved from these.
+use Rattle.std.specs.Prelude.{if◌then◌else◌}
 use Prim.Native.Nat.{ℕ, zero, suc, ◌+◌, ◌-◌, ◌*◌, ◌≤◌, ◌<◌, min, max}
 use mathlib.Core.Bool.{Bool, true, false, not, ◌&&◌, ◌||◌}
 use mathlib.Core.List.Memᴰ
@@ -13,11 +14,11 @@ use native.Mathlib.Numerals.{add-one}
 use native.Mathlib.Omega.{arith}
 use lib.Dec.{T, T_not, eqb, eqb→eq}
 use lib.ListN.{length, get_or, length-append}
-use Rattle.model.specs.Basic.{if◌then◌else◌, any, select, joined, sum_of, largest, smallest, count_from, up_to, above_all, lowest_from, lowest}
+use Rattle.model.specs.Basic.{any, select, joined, sum_of, largest, smallest, count_from, up_to, above_all, lowest_from, lowest}
 use Rattle.model.specs.Walk.{Largest, Smallest}
 
 -- what holds of both ways of a test holds of the chosen one
-pub by-test {ℓ} : {X : Type ℓ} (P : X → Type 0) (t : Bool) {x y : X} → (T t → P x) → (T (not t) → P y) → P (if t then x else y)
+pub by-test : {X : Type 0} (P : X → Type 0) (t : Bool) {x y : X} → (T t → P x) → (T (not t) → P y) → P (if t then x else y)
 by-test P true f g = f tt
 by-test P false f g = g tt
 

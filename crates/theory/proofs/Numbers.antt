@@ -1,4 +1,5 @@
 -- The number that the core holds at an address, in the cache or in memory, and at which addresses each move of the core keeps it.
+use Rattle.std.specs.Prelude.{if◌then◌else◌}
 use Prim.Native.Nat.{ℕ, ◌+◌, ◌-◌, ◌%◌, ◌≤◌, ◌<◌, max}
 use mathlib.Core.Path.{◌≡◌, refl, ap, sym, ◌∙◌}
 use native.Mathlib.Decide.{dec_lt}
@@ -7,7 +8,6 @@ use native.Mathlib.Omega.{arith}
 use lib.Dec.{ltb, ltb→lt, nltb→le}
 use lib.ListN.{length, get_or, length-set}
 use lib.Seq.{get_or-set_same, get_or-set_other}
-use Rattle.model.specs.Basic.{if◌then◌else◌}
 use Rattle.model.specs.Core.{Core, Clean, block, effective, spilled, reserved, reserve_moves, ensured_to, ensure_moves, saved_from, save_moves, resumed}
 use Rattle.model.specs.Core.{resume_moves, reserve, free, ensure, store, save, resume}
 use Rattle.theory.proofs.Lists.{by-test}

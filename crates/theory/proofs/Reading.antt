@@ -1,5 +1,6 @@
 -- What a text that is read as a task is: rows 2 to 6 as facts. Every line keeps what has been read so far within the limits, and
 -- with it the task at the end. The lines of the text are those of the task, so only the empty text gives a task of no functions.
+use Rattle.std.specs.Prelude.{if◌then◌else◌}
 use Prim.Native.Nat.{ℕ, suc, ◌+◌, ◌≤◌, ◌<◌}
 use mathlib.Core.Bool.{Bool, true, false, not, ◌&&◌, ◌||◌}
 use mathlib.Core.List.{List, [], ◌∷◌, ◌++◌, map-append, append-nil, append_assoc}
@@ -14,7 +15,7 @@ use Rattle.model.specs.declared.Point.TheVariants.{Return}
 use Rattle.model.specs.declared.Line.{Line}
 use Rattle.model.specs.declared.Line.TheVariants as line
 use Rattle.model.specs.Limits.{most_stack, most_funcs, most_points, most_in_all}
-use Rattle.model.specs.Basic.{if◌then◌else◌, joined, sum_of}
+use Rattle.model.specs.Basic.{joined, sum_of}
 use Rattle.model.specs.Text.{lines_from, lines_of}
 use Rattle.model.specs.Task.{Func, Task, Judged, refused, task, Progress, start, between, inside, Step, stop, goes, size, count, in_all, empty, func}
 use Rattle.model.specs.Task.{point, stackless, offset_fits, with_point, with_func, read_line, read_end, onward, read_from, read_text}

@@ -1,5 +1,6 @@
 -- Laws of the sorted list, for any order: its members, its sequence, the first n of it against the rest; that the first n so far are all that has to be
 -- kept; and that a function which keeps the order maps one sorted list to the other.
+use Rattle.std.specs.Prelude.{if◌then◌else◌}
 use Prim.Native.Nat.{ℕ, zero, suc, ◌+◌, ◌<◌, min}
 use mathlib.Core.Bool.{Bool, true, false, not, ◌&&◌}
 use mathlib.Core.List.Memᴰ
@@ -11,7 +12,7 @@ use native.Mathlib.Omega.{arith}
 use lib.Dec.{T, T_not, eqb, ltb, ltb→lt, lt→ltb, eqb→eq, eqb_refl}
 use lib.ListN.{length, take, drop, take-append-drop, length-take}
 use lib.Seq.{take-take}
-use Rattle.model.specs.Basic.{if◌then◌else◌, smaller_first, larger_first, inserted, sorted_onto, sorted}
+use Rattle.model.specs.Basic.{smaller_first, larger_first, inserted, sorted_onto, sorted}
 use Rattle.theory.specs.Order.{Pairs, StrictOrder, Firsts}
 use Rattle.theory.proofs.Lists.{by-test, or-holds, and-holds}
 

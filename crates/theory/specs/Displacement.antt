@@ -1,7 +1,7 @@
 -- The shortest displacement d over all walks; and the rule for it before request 4 of document 02, so that the two rules can be
 -- compared.
-use Rattle.std.specs.Prelude.{ℕ, zero, suc, ◌+◌, ◌≤◌, ◌<◌, max, Bool, ◌≡◌, T}
-use Rattle.model.specs.Basic.{if◌then◌else◌, smallest}
+use Rattle.std.specs.Prelude.{if◌then◌else◌, ℕ, zero, suc, ◌+◌, ◌≤◌, ◌<◌, max, Bool, ◌≡◌, T}
+use Rattle.model.specs.Basic.{smallest}
 use Rattle.model.specs.Task.{Func, Task, size, count, func}
 use Rattle.model.specs.Walk.{Carries, leads, is_call, returns, some_walk}
 use Rattle.model.specs.Figures.{dead, need, callees, displacement_at}

@@ -1,10 +1,10 @@
 -- The lines of a task. A place that names the line of a point or of a function's opening is that line of the text.
-use Rattle.std.specs.Prelude.{ℕ, ◌+◌, ◌-◌, ◌*◌, ◌<◌, List, [], ◌∷◌, ◌++◌, map, ◌⊎◌, ◌≡◌, length, get_or}
+use Rattle.std.specs.Prelude.{if◌then◌else◌, ℕ, ◌+◌, ◌-◌, ◌*◌, ◌<◌, List, [], ◌∷◌, ◌++◌, map, ◌⊎◌, ◌≡◌, length, get_or}
 use Rattle.std.proofs.Math.Option.{Option, some}
 use Rattle.model.specs.declared.Line.{Line}
 use Rattle.model.specs.declared.Line.TheVariants as line
 use Rattle.model.specs.declared.Refusal.{Refusal}
-use Rattle.model.specs.Basic.{if◌then◌else◌, joined}
+use Rattle.model.specs.Basic.{joined}
 use Rattle.model.specs.Task.{Func, Task, size, count, in_all, func, point, stackless, func_line, point_line}
 use Rattle.model.specs.Refusal.{link_row, reach_row, call_row, load_row}
 

@@ -1,6 +1,5 @@
 -- The points of one function that are still to visit: the state of each point, and the worklist as bytes.
-use Rattle.std.specs.Prelude.{ℕ, ◌+◌, ◌-◌, ◌≤◌, ◌<◌, ◌≡◌, List, eqb, length, set}
-use Rattle.model.specs.Basic.{if◌then◌else◌}
+use Rattle.std.specs.Prelude.{if◌then◌else◌, ℕ, ◌+◌, ◌-◌, ◌≤◌, ◌<◌, ◌≡◌, List, eqb, length, set}
 use Rattle.model.specs.Limits.{most_points}
 use Rattle.tables.specs.Tables.{item, sum}
 

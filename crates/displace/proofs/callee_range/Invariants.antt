@@ -1,5 +1,5 @@
 -- The loop meets the callees from the last point to the first.
-use Prim.Native.Nat.{◌-◌, ◌≤◌}
+use Prim.Native.Nat.{◌≤◌}
 use Rattle.displace.proofs.Callees.{Seen}
 use Rattle.displace.proofs.callee_range.Given as goal
 

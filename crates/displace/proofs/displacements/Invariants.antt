@@ -1,5 +1,5 @@
 -- The loop goes from the last function to the first: the callees of each have D and d.
-use Prim.Native.Nat.{◌-◌, ◌≤◌}
+use Prim.Native.Nat.{◌≤◌}
 use Rattle.columns.specs.Columns.{OnlyColumns}
 use Rattle.displace.specs.Ordered.{Ordered}
 use Rattle.displace.proofs.displacements.Given as goal

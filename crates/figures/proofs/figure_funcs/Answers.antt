@@ -1,5 +1,5 @@
 -- The loop works out the figures of one function a turn.
-use Prim.Native.Nat.{ℕ, ◌-◌}
+use Prim.Native.Nat.{ℕ}
 use native.Mathlib.Omega.{arith}
 use mathlib.Core.Path.{◌≡◌, subst}
 use Rattle.columns.proofs.Writes.{changed-none, changed-on}

@@ -1,5 +1,5 @@
 -- The loop writes one column a turn, from the last to the first.
-use Prim.Native.Nat.{◌-◌, ◌≤◌}
+use Prim.Native.Nat.{◌≤◌}
 use Rattle.figures.specs.Steps.{point_columns, OnlyPoints, Working}
 use Rattle.figures.proofs.write_figures.Given as goal
 

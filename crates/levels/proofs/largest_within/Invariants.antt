@@ -1,5 +1,5 @@
 -- The loop goes from the last function to the first.
-use Prim.Native.Nat.{◌-◌, ◌≤◌}
+use Prim.Native.Nat.{◌≤◌}
 use mathlib.Core.Path.{◌≡◌}
 use Rattle.levels.specs.Levels.{largest_within, level_in, shortest_in}
 use Rattle.levels.proofs.largest_within.Given as goal

@@ -1,5 +1,5 @@
 -- The loop counts from the last function to the first.
-use Prim.Native.Nat.{◌-◌, ◌≤◌}
+use Prim.Native.Nat.{◌≤◌}
 use mathlib.Core.Path.{◌≡◌}
 use Rattle.levels.specs.Levels.{level_among, shortest_in}
 use Rattle.levels.proofs.level_among.Given as goal

@@ -1,5 +1,4 @@
 -- The loop lifts one function a turn.
-use Prim.Native.Nat.{◌-◌}
 use native.Mathlib.Omega.{arith}
 use Rattle.levels.proofs.Laws.{lifting-none, lifting-more, lifting-all}
 use Rattle.levels.proofs.lift_levels.Goals as goal

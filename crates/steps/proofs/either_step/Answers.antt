@@ -1,8 +1,8 @@
 -- The value chooses: the first target for 0, else the second.
+use Rattle.std.specs.Prelude.{if◌then◌else◌}
 use mathlib.Core.Path.{refl, ap, sym, ◌∙◌}
 use Rattle.steps.proofs.Laws.{plain-does}
 use borrow.Author.Tests.{eq-eqb, ne_eqb}
-use Rattle.model.specs.Basic.{if◌then◌else◌}
 use Rattle.steps.proofs.either_step.Goals as goal
 
 pub returns-then-v-eq0 : goal.returns-then-v-eq0
