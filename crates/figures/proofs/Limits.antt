@@ -133,3 +133,9 @@ module _ {t : Task} (s : Shaped t) where
           cost = omega (arith, save, reload, later, chain);
           fill = priced (fill t f p) (fill-low f p);
         }
+
+  -- the cost: three moves, and a chain of at most 63 callers
+  pub cost-low : (price : Price) → Small price → (f p : ℕ) → f < most_funcs → ((priced_sheet (price_of price) t).at f p).cost ≤ most_price * (most_funcs + 2)
+  cost-low price small f p l =
+      let low = points-low price small most_price (λ n h. price-small price n small h) f p l in
+      omega (arith, low.cost)

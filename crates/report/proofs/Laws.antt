@@ -138,7 +138,7 @@ module _ (price : Price) (w : List ℕ) (h : Header) (f : ℕ) (l : f < h.funcs)
       let t = task_of w h in
       omega (arith, total-in t (sheet_in price w h) f, ap (λ (n : ℕ). (points_part price w h f n).cost) (size_is w h f l))
 
-  func-parts : func_part price w h f ≡ both (head_part price w h f) (points_part price w h f (size_at w f))
+  pub func-parts : func_part price w h f ≡ both (head_part price w h f) (points_part price w h f (size_at w f))
   func-parts = λ i. record { text = func-lines i; cost = func-cost i }
 
 -- the same of a function that has been read

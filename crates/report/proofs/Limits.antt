@@ -155,9 +155,9 @@ module _ (once : Bool) {t : Task} {s : Sheet} (shaped : Shaped t) (low : LowShee
   head-most f l = omega (arith, digits-line (bytes "  (func") (head_numbers t s f) head_digits (head-digits f l))
 
   -- the total: at most 1,024 costs
-  pub total-low : total_of (records_of t s) ≤ most_total
+  pub total-limited : total_of (records_of t s) ≤ most_total
   unfolding total_of
-  total-low =
+  total-limited =
       let each = sum-most (λ (x : Record). x.figures.cost) (most_price * (most_funcs + 2)) (records_of t s)
       (λ x i. omega (arith, (low-records low x i).cost, move-low once)) in
       omega (arith, each, records-count t s, shaped.all)
@@ -165,7 +165,7 @@ module _ (once : Bool) {t : Task} {s : Sheet} (shaped : Shaped t) (low : LowShee
   -- the foot line
   foot-most : length (total_text (records_of t s)) ≤ most_foot_text
   unfolding total_text taken
-  foot-most = omega (arith, digits-line (bytes "  (total") (total_of (records_of t s) ∷ []) (10 ∷ []) (omega (arith, total-low)))
+  foot-most = omega (arith, digits-line (bytes "  (total") (total_of (records_of t s) ∷ []) (10 ∷ []) (omega (arith, total-limited)))
 
   -- the report, by the functions and the points of the task
   report-within : length (report_with once t s) ≤ ends_text + most_foot_text + most_head_text * count t + most_point_text * in_all t.funcs
@@ -203,6 +203,10 @@ module _ {price : Price} {w : List ℕ} {h : Header} (k : Readable price w h) wh
         figures-within k f n (most_move (shows_once price)) (move-most price k.small) p (rw (size_is w h f n) at i);
   }
 
+  -- the total of the sheet
+  pub total-low : total_of (records_of (task_of w h) (sheet_in price w h)) ≤ most_total
+  total-low = total-limited (shows_once price) k.settled.formed.shaped columns-low
+
   pub report-most : length (report_in price w h) ≤ most_length h
   report-most =
       omega (
@@ -220,5 +224,5 @@ module _ {price : Price} {w : List ℕ} {h : Header} (k : Readable price w h) wh
       → Room l (funcs_part price w h h.funcs) n
   funcs-room n l r e z = record {
     bytes = omega (arith, report-size price w h);
-    sum = omega (arith, total-all price w h, total-low (shows_once price) k.settled.formed.shaped columns-low);
+    sum = omega (arith, total-all price w h, total-low);
   }

@@ -10,7 +10,7 @@ use lib.ListN.{length}
 use Rattle.model.specs.declared.Point.{Point}
 use Rattle.model.specs.declared.Point.TheVariants.{Load, Store, Call, Ensure}
 use Rattle.model.specs.Limits.{most_stack, most_funcs, most_points, most_in_all}
-use Rattle.model.specs.Task.{Task, size, func, point}
+use Rattle.model.specs.Task.{Task, func, point}
 use Rattle.model.specs.Walk.{called, touches}
 use Rattle.model.specs.Plain.{Frame}
 use Rattle.model.specs.Run.{Place}

@@ -23,7 +23,7 @@ use Rattle.prices.specs.Prices.{price_of, most_price, Small}
 use Rattle.prices.proofs.Laws.{price-small}
 use Rattle.figures.proofs.Limits.{chain-low, spill-low, points-low}
 use Rattle.report.specs.Report.{shows_once, most_report}
-use Rattle.report.proofs.Limits.{most_move, move-most, LowSheet, low-records, total-low, report-limited}
+use Rattle.report.proofs.Limits.{most_move, move-most, LowSheet, low-records, total-limited, report-limited}
 use Rattle.dearest.specs.Ranking.{most_list}
 use Rattle.dearest.proofs.Laws.{list-limited}
 use Rattle.serving.proofs.Before.{priced-small}
@@ -70,7 +70,7 @@ pub total-fits : (text : List ℕ) (t : Task) (start each : ℕ) → judged text
     → total_of (records_of t (priced_sheet (move_price start each) t)) < 2 ^ 32
 total-fits text t start each e l m =
     let s = (judged-as text t e).formed.shaped in
-    omega (arith, total-low false s (low-priced s (record { start = start; each = each }) (record { start = l; each = m })))
+    omega (arith, total-limited false s (low-priced s (record { start = start; each = each }) (record { start = l; each = m })))
 
 -- ---- services that write bytes
 

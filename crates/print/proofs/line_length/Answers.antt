@@ -1,10 +1,8 @@
 -- `print::line_length` meets its contract. The loop's invariant: n has the word, the end and the first k numbers.
-use Prim.Native.Nat.{◌+◌, ◌-◌, ◌≤◌}
+use Prim.Native.Nat.{◌+◌, ◌≤◌}
 use native.Mathlib.Omega.{arith}
 use borrow.Author.Rules.{rules}
-use lib.ListN.{length, take}
 use lib.Seq.{take_all}
-use Rattle.print.specs.Print.{spaced}
 use Rattle.print.proofs.Laws.{length_none, length-next, length-room, length-line, spaced-most, line-most}
 use Rattle.print.proofs.line_length.Goals as goal
 

@@ -1,8 +1,6 @@
 -- `print::number_length` meets its contract. The loop's invariant: k - 1 digits are counted, and those of rest are left.
 use Prim.Native.Nat.{◌/◌}
 use native.Mathlib.Omega.{arith}
-use lib.ListN.{length}
-use Rattle.model.specs.Sheet.{decimal}
 use Rattle.theory.proofs.Decimal.{length-small, length-large, decimal-some}
 use Rattle.print.proofs.Laws.{decimal-most}
 use Rattle.print.proofs.number_length.Goals as goal

@@ -1,10 +1,9 @@
 -- `print::put` meets its contract. The loop's invariant: the first i bytes of w are copied.
-use Prim.Native.Nat.{◌-◌}
 use mathlib.Core.Path.{refl, ◌∙◌}
 use native.Mathlib.Numerals.{add-one}
 use native.Mathlib.Omega.{arith}
-use lib.ListN.{length, length-set}
-use lib.Seq.{paste, paste-zero, paste-suc}
+use lib.ListN.{length-set}
+use lib.Seq.{paste-zero, paste-suc}
 use Rattle.print.proofs.Laws.{paste_all}
 use Rattle.print.proofs.put.Goals as goal
 

@@ -3,8 +3,7 @@ use Prim.Native.Nat.{◌/◌}
 use mathlib.Core.Path.{refl, ◌∙◌}
 use native.Mathlib.Omega.{arith}
 use borrow.Author.Rules.{rules}
-use lib.ListN.{length, length-set}
-use Rattle.model.specs.Sheet.{decimal}
+use lib.ListN.{length-set}
 use Rattle.theory.proofs.Decimal.{length-large, decimal-some}
 use Rattle.print.proofs.Laws.{number-last, number-first}
 use Rattle.print.proofs.put_digits.Goals as goal

@@ -1,10 +1,8 @@
 -- `print::put_numbers` meets its contract. The loop's invariant: the first k numbers are written, and end at byte end.
-use Prim.Native.Nat.{◌-◌}
 use mathlib.Core.Path.{◌≡◌, refl}
 use native.Mathlib.Omega.{arith}
-use lib.ListN.{length, take}
+use lib.ListN.{take}
 use lib.Seq.{take_all}
-use Rattle.print.specs.Print.{spaced}
 use Rattle.print.proofs.Laws.{spaced-none, length-room, spaced-on}
 use Rattle.print.proofs.put_numbers.Goals as goal
 

@@ -1,6 +1,5 @@
 -- The loop's invariant: the lines of the first f functions are counted.
 use native.Mathlib.Omega.{arith}
-use Prim.Native.Nat.{◌-◌}
 use mathlib.Core.Path.{◌≡◌}
 use Rattle.report.specs.Report.{func_part}
 use Rattle.report.proofs.Laws.{none-counted, next-counted, next-has-room}

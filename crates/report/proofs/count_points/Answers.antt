@@ -1,6 +1,5 @@
 -- The loop's invariant: the lines of the first p points are counted.
 use native.Mathlib.Omega.{arith}
-use Prim.Native.Nat.{◌-◌}
 use mathlib.Core.Path.{◌≡◌}
 use Rattle.readout.proofs.Read.{size_low}
 use Rattle.report.specs.Report.{point_part}

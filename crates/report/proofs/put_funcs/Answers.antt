@@ -1,6 +1,5 @@
 -- The loop's invariant: the lines of the first f functions are written.
 use native.Mathlib.Omega.{arith}
-use Prim.Native.Nat.{◌-◌}
 use mathlib.Core.Path.{◌≡◌, refl}
 use Rattle.report.specs.Report.{func_part}
 use Rattle.report.proofs.Laws.{adds-counts, none-added, next-added, next-has-room, room-start}

@@ -1,6 +1,5 @@
 -- The loop's invariant: the lines of the first p points are written.
 use native.Mathlib.Omega.{arith}
-use Prim.Native.Nat.{◌-◌}
 use mathlib.Core.Path.{◌≡◌, refl}
 use Rattle.readout.proofs.Read.{size_low}
 use Rattle.report.specs.Report.{point_part}
