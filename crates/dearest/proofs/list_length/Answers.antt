@@ -1,6 +1,5 @@
 -- The loop's invariant: the lines of the first i ranks are counted.
 use native.Mathlib.Omega.{arith}
-use Prim.Native.Nat.{◌-◌}
 use mathlib.Core.Path.{◌≡◌}
 use Rattle.print.proofs.Laws.{none-length, next-length}
 use Rattle.dearest.specs.Ranking.{line_at}

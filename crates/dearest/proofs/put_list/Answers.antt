@@ -1,6 +1,5 @@
 -- The loop's invariant: the lines of the first i ranks are written, and end at byte end.
 use native.Mathlib.Omega.{arith}
-use Prim.Native.Nat.{◌-◌}
 use mathlib.Core.Path.{◌≡◌, refl, ◌∙◌}
 use Rattle.print.proofs.Laws.{pasted-start, none-wrote, next-wrote, next-room}
 use Rattle.dearest.specs.Ranking.{line_at, list_text}

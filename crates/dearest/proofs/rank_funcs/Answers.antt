@@ -1,12 +1,10 @@
 -- The loop's invariant: the points of the first f functions are taken in.
 use native.Mathlib.Omega.{arith}
-use Prim.Native.Nat.{◌-◌}
 use mathlib.Core.Path.{◌≡◌}
 use Rattle.model.specs.Basic.{joined, count_from}
 use Rattle.tables.specs.Tables.{task_of}
 use Rattle.readout.specs.Sheet.{sheet_in}
 use Rattle.readout.proofs.Read.{there}
-use Rattle.ranks.specs.Ranks.{best}
 use Rattle.ranks.proofs.Laws.{best_none, falling-best, length-best}
 use Rattle.dearest.specs.Ranking.{func_ranks}
 use Rattle.dearest.proofs.Laws.{funcs-more, taken_more}

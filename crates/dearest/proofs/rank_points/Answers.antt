@@ -1,11 +1,9 @@
 -- The loop's invariant: the first p points are taken in.
 use native.Mathlib.Omega.{arith}
-use Prim.Native.Nat.{◌-◌}
 use mathlib.Core.Path.{◌≡◌}
 use Rattle.model.specs.Basic.{count_from}
 use Rattle.readout.specs.Sheet.{sheet_in}
 use Rattle.readout.proofs.Read.{size_low}
-use Rattle.ranks.specs.Ranks.{best}
 use Rattle.ranks.proofs.Laws.{best_none, falling-best}
 use Rattle.dearest.specs.Ranking.{point_ranks}
 use Rattle.dearest.proofs.Laws.{points-more, taken_more}

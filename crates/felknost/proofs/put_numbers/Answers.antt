@@ -1,11 +1,11 @@
 -- Code and place, and then the numbers that are added, one a turn.
-use Prim.Native.Nat.{◌+◌, ◌-◌}
+use Prim.Native.Nat.{◌+◌}
 use mathlib.Core.Path.{◌≡◌, refl, ◌∙◌}
 use mathlib.Core.List.{◌∷◌}
 use native.Mathlib.Omega.{arith}
 use lib.ListN.{length, length-set}
 use Rattle.model.specs.Services.{over}
-use Rattle.felknost.proofs.Laws.{put, put-none, put-more, put_all}
+use Rattle.felknost.proofs.Laws.{put-none, put-more, put_all}
 use Rattle.felknost.proofs.put_numbers.Goals as goal
 
 pub returns : goal.returns
