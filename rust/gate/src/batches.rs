@@ -1,12 +1,11 @@
 //! Whether the edits of a file may share a check, before anything is proved.
 //!
 //! The proof of a function rests on the contracts of what it calls and on no body but its own. So edits of the bodies of different functions do not touch each
-//! other's proof, and each of them is judged by the proof file of its own function (edits.rs). What changes more than one body, as a contract, a constant or a
-//! definition does, has a check of its own. So has an edit of one of several functions that call each other: they are proved in one file, and none of them has
-//! a file by its name.
+//! other's proof, and each of them is judged by the errors of its own function (edits.rs). What changes more than one body, as a contract, a constant or a
+//! definition does, has a check of its own. So has an edit of one of several functions that call each other: they are proved together.
 //!
 //! Held here, of every edit:
-//! - An edit of the body of one function that has a proof file names that function; an edit of anything else names none.
+//! - An edit of the body of one function that is proved by itself names that function; an edit of anything else names none.
 //! - In a file with several edits each has a label and names its function, and these functions differ.
 //! - Two files whose edits are all of different functions are one file, unless an edit says why it is alone.
 //! - A label stands once in a crate.
@@ -14,9 +13,8 @@
 use std::collections::{BTreeMap, BTreeSet};
 use std::path::Path;
 
-use crate::edit::{self, Edit};
+use crate::edit::{self, Edit, Texts};
 use crate::functions;
-use crate::tree;
 use crate::Findings;
 
 /// Judges how the edits of the tree are put together.
@@ -46,7 +44,7 @@ pub fn judge_all(root: &Path) -> Findings {
     findings
 }
 
-/// Whether an edit names the function that it makes wrong, where this is one that has a proof file, and no other.
+/// Whether an edit names the function that it makes wrong, where this is one that is proved by itself, and no other.
 fn names_its_function(root: &Path, edit: &Edit) -> Result<(), String> {
     let edited = edited_function(root, edit)?;
     match (&edit.function, edited) {
@@ -54,36 +52,28 @@ fn names_its_function(root: &Path, edit: &Edit) -> Result<(), String> {
         (None, None) => Ok(()),
         (_, Some(found)) => Err(format!("it needs the line '# function: {found}'")),
         (Some(named), None) => Err(format!(
-            "it names {named}, and is not an edit of that body alone, or the function has no proof file"
+            "it names {named}, and is not an edit of that body alone, or the function is in a cycle"
         )),
     }
 }
 
-/// The function in whose body all of an edit lies, if there is one and it has a proof file. As in `rt`, a replacement is made in what those before it left.
+/// The function in whose body all of an edit lies, if there is one and it is proved by itself.
 fn edited_function(root: &Path, edit: &Edit) -> Result<Option<String>, String> {
     let folder = root.join("crates").join(&edit.krate);
-    let mut texts: BTreeMap<&str, String> = BTreeMap::new();
-    let mut paths = BTreeSet::new();
+    let mut texts = Texts::new();
+    let mut found = BTreeSet::new();
     for change in &edit.replacements {
-        let read = || tree::read(&folder.join(&change.file)).unwrap_or_default();
-        let text = texts.entry(&change.file).or_insert_with(read);
-        let mut places = text.match_indices(&change.old);
-        let (Some((start, _)), None) = (places.next(), places.next()) else {
-            let file = &change.file;
-            return Err(format!("'{}' does not stand once in {file}", change.old));
-        };
-        let end = start + change.old.len();
-        let functions = functions::of_source(&change.file, text).into_iter();
-        let mut around = functions.filter(|f| f.body.start < start && end < f.body.end);
-        paths.insert(around.next().map(|function| function.path));
-        text.replace_range(start..end, &change.new);
+        let (place, text) = change.make(&folder, &mut texts)?;
+        let functions = functions::of_source(&change.file, &text).into_iter();
+        let mut around = functions.filter(|f| f.body.start < place.start && place.end < f.body.end);
+        let around = around.next().filter(|function| function.cycle.is_none());
+        found.insert(around.map(|function| function.path));
     }
-    let mut paths = paths.into_iter();
-    let (Some(Some(path)), None) = (paths.next(), paths.next()) else {
-        return Ok(None);
-    };
-    let proved = folder.join(edit::proof_of(&path)).exists();
-    Ok(proved.then_some(path))
+    let mut found = found.into_iter();
+    match (found.next(), found.next()) {
+        (Some(function), None) => Ok(function),
+        _ => Ok(None),
+    }
 }
 
 /// Whether the edits of one file may share its check.
@@ -160,7 +150,7 @@ fn put(a: usize) -> usize {
 }
 
 fn take(a: usize) -> usize
-    ensures { λ r. ⌜ r ≡ a ⌝ }
+    ensures { result ≡ a }
 {
     let b = a;
     b - 1
@@ -168,6 +158,11 @@ fn take(a: usize) -> usize
 
 fn small(a: usize) -> usize {
     a / 2
+}
+
+#[cycle(turns)]
+fn here(a: usize) -> usize {
+    there(a - 3)
 }
 ";
 
@@ -179,8 +174,7 @@ fn small(a: usize) -> usize {
         let mut files = vec![
             ("crates/list/src/lib.rt", SOURCE),
             ("crates/list/specs/List.antt", "most = 4\n"),
-            ("crates/list/proofs/put/Proof.antt", ""),
-            ("crates/list/proofs/take/Proof.antt", ""),
+            ("crates/list/proofs/put/Answers.antt", ""),
         ];
         files.extend(edits.iter().map(|(path, text)| (&path[..], *text)));
         judge_all(Sample::of(&files).root())
@@ -202,16 +196,16 @@ fn small(a: usize) -> usize {
         let of =
             |file: &str, old: &str, new: &str| format!("file: {file}\nold: {old}\nnew: {new}\n");
         let constant = of("src/lib.rt", "usize = 4", "usize = 5");
-        let contract = of("src/lib.rt", "r ≡ a", "r ≡ b");
+        let contract = of("src/lib.rt", "result ≡ a", "result ≡ b");
         let definition = of("specs/List.antt", "4", "5");
-        let unproved = of("src/lib.rt", "a / 2", "a / 3");
+        let together = of("src/lib.rt", "a - 3", "a - 4");
         let two = of("src/lib.rt", "a + MOST\nold: x\nnew: y", "");
         let two = two.replace("old: x\nnew: y", "new: a\nold: b - 1");
         let all = [
             ("constant", &constant[..]),
             ("contract", &contract),
             ("definition", &definition),
-            ("unproved", &unproved),
+            ("together", &together),
             ("two", &two),
         ];
         let findings = findings(&all);
@@ -223,17 +217,19 @@ fn small(a: usize) -> usize {
     fn a_function_is_named_where_it_is_made_wrong() {
         let unnamed = PUT.replace("# function: put\n", "");
         let other = TAKE.replace("take", "put");
-        let small = "# function: small\nfile: src/lib.rt\nold: a / 2\nnew: a / 3\n";
-        let contract = "# function: take\nfile: src/lib.rt\nold: r ≡ a\nnew: r ≡ b\n";
+        let here = "# function: here\nfile: src/lib.rt\nold: a - 3\nnew: a - 4\n";
+        let small = "file: src/lib.rt\nold: a / 2\nnew: a / 3\n";
+        let contract = "# function: take\nfile: src/lib.rt\nold: result ≡ a\nnew: result ≡ b\n";
         let gone = "file: src/lib.rt\nold: a + LEAST\nnew: a\n";
         let twice = "file: src/lib.rt\nold: -> usize\nnew: -> u8\n";
         let all = [
             ("a", &unnamed[..]),
             ("b", &other),
-            ("c", small),
+            ("c", here),
             ("d", contract),
             ("e", gone),
             ("f", twice),
+            ("g", small),
         ];
         let findings = findings(&all);
         assert_eq!(
@@ -241,14 +237,15 @@ fn small(a: usize) -> usize {
             [
                 "list/sum: it needs the line '# function: put'",
                 "list/less: it needs the line '# function: take'",
-                "list/c: it names small, and is not an edit of that body alone, or the function has no proof file",
-                "list/d: it names take, and is not an edit of that body alone, or the function has no proof file",
+                "list/c: it names here, and is not an edit of that body alone, or the function is in a cycle",
+                "list/d: it names take, and is not an edit of that body alone, or the function is in a cycle",
                 "list/e: 'a + LEAST' does not stand once in src/lib.rt",
                 "list/f: '-> usize' does not stand once in src/lib.rt",
+                "list/g: it needs the line '# function: small'",
                 "list/must-fail: b.edit and c.edit are of different functions, so they are one check: put them into one file",
                 "list/must-fail: b.edit and d.edit are of different functions, so they are one check: put them into one file",
                 "list/must-fail: c.edit and d.edit are of different functions, so they are one check: put them into one file",
-                "6 edits, 6 checks",
+                "7 edits, 7 checks",
             ]
         );
     }

@@ -1,7 +1,7 @@
 //! Must-fail edits, as the files crates/CRATE/must-fail/*.edit have them.
 //!
 //! An edit is one wrong program: one or more replacements of a text, with a label. `rt` applies all replacements of a file to one copy of the crate and checks
-//! it once, so the edits of a file share a check. The lines that this tool reads beside those of `rt`:
+//! it once, so the edits of a file share a check. This tool does so too (tries.rs). The lines that it reads beside those of `rt`:
 //!
 //! | Line | Says |
 //! |---|---|
@@ -9,9 +9,14 @@
 //! | `# function: PATH` | the function that the edit makes wrong: `reserve`, `Machine::reserve`, or `calls::mark` of src/calls.rt |
 //! | `# alone: WHY` | why the edit shares no check with the edits of other functions |
 
+use std::collections::BTreeMap;
+use std::ops::Range;
 use std::path::Path;
 
 use crate::tree;
+
+/// The files of a function's proof, in its folder.
+pub const PROOFS: &[&str] = &["Answers.antt", "Invariants.antt", "Proof.antt"];
 
 /// A must-fail edit.
 #[derive(Clone, Debug, Default, PartialEq, Eq)]
@@ -39,22 +44,38 @@ impl std::fmt::Display for Edit {
     }
 }
 
-impl Edit {
-    /// The proof file of its function.
-    pub fn proof_file(&self) -> Option<String> {
-        self.function.as_deref().map(proof_of)
-    }
+/// The files of a crate that replacements change, by their path in the crate, as they are so far.
+pub type Texts = BTreeMap<String, String>;
 
-    /// The log that `rt` leaves of its check.
-    pub fn log(&self, root: &Path) -> Option<String> {
-        let path = format!("target/must-fail/{}/{}/.log", self.krate, self.file);
-        tree::read(&root.join(path))
+impl Replacement {
+    /// Makes it in what those before it left, as `rt` does. Returns where its old text stood, and the text of the file before it.
+    pub fn make(&self, krate: &Path, texts: &mut Texts) -> Result<(Range<usize>, String), String> {
+        let read = || tree::read(&krate.join(&self.file)).unwrap_or_default();
+        let text = texts.entry(self.file.clone()).or_insert_with(read);
+        let mut places = text.match_indices(&self.old);
+        let (Some((start, _)), None) = (places.next(), places.next()) else {
+            let file = &self.file;
+            return Err(format!("'{}' does not stand once in {file}", self.old));
+        };
+        let place = start..start + self.old.len();
+        let before = text.clone();
+        text.replace_range(place.clone(), &self.new);
+        Ok((place, before))
     }
 }
 
-/// Where the proof file of a function is, in the folder of the crate.
-pub fn proof_of(function: &str) -> String {
-    format!("proofs/{}/Proof.antt", function.replace("::", "/"))
+/// Where the proof of a function is, in the folder of its crate.
+pub fn proof_folder(function: &str) -> String {
+    format!("proofs/{}", function.replace("::", "/"))
+}
+
+/// Whether this is a file of the proof of a function.
+pub fn is_proof_of(file: &str, function: &str) -> bool {
+    let Some((folder, name)) = file.rsplit_once('/') else {
+        return false;
+    };
+    let whole = format!("/{folder}");
+    PROOFS.contains(&name) && whole.ends_with(&format!("/{}", proof_folder(function)))
 }
 
 /// All must-fail edits of the tree, crate by crate and file by file.
@@ -125,10 +146,7 @@ mod tests {
             (edit.to_string(), &edit.file[..]),
             ("machine/one".to_string(), "one")
         );
-        assert_eq!(
-            edit.proof_file().as_deref(),
-            Some("proofs/Machine/reserve/Proof.antt")
-        );
+        assert_eq!(edit.function.as_deref(), Some("Machine::reserve"));
         assert!(!edit.alone);
         let texts: Vec<(&str, &str, &str)> = edit
             .replacements
@@ -177,6 +195,46 @@ new: d
         // a `file:` line holds for the replacements after it, as `rt` reads it
         assert_eq!(edits[1].replacements[0].file, "src/lib.rt");
         assert!(edits.iter().all(|edit| edit.file == "batch"));
+    }
+
+    #[test]
+    fn files_of_the_proof_of_a_function() {
+        for (file, function, is) in [
+            (
+                "./proofs/Machine/reserve/Answers.antt",
+                "Machine::reserve",
+                true,
+            ),
+            ("proofs/take/Invariants.antt", "take", true),
+            ("/a/crates/b/proofs/take/Proof.antt", "take", true),
+            ("./proofs/Machine/reserve/Answers.antt", "reserve", false),
+            ("./proofs/take/Laws.antt", "take", false),
+            ("./proofs/mistake/Answers.antt", "take", false),
+            ("Answers.antt", "take", false),
+        ] {
+            assert_eq!(is_proof_of(file, function), is, "{file} {function}");
+        }
+    }
+
+    #[test]
+    fn replacements_are_made_in_turn() {
+        let sample = tree::Sample::of(&[("src/lib.rt", "a b a\n")]);
+        let mut texts = Texts::new();
+        let of = |old: &str, new: &str| Replacement {
+            file: "src/lib.rt".to_string(),
+            old: old.to_string(),
+            new: new.to_string(),
+        };
+        let made = of("b a", "c").make(sample.root(), &mut texts);
+        assert_eq!(made, Ok((2..5, "a b a\n".to_string())));
+        let made = of("a", "").make(sample.root(), &mut texts);
+        assert_eq!(made, Ok((0..1, "a c\n".to_string())));
+        assert_eq!(texts["src/lib.rt"], " c\n");
+        let made = of("b", "a").make(sample.root(), &mut texts);
+        assert_eq!(
+            made,
+            Err("'b' does not stand once in src/lib.rt".to_string())
+        );
     }
 
     #[test]

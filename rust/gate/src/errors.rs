@@ -1,6 +1,6 @@
 //! The errors in the log of a check, and what each is about.
 //!
-//! An edit shows something only where a goal does not hold. An error about a name, a need, the shape of a proof file, a type or a form of the language shows
+//! An edit shows something only where a goal does not hold. An error about a name, the shape of a proof file, a type or a form of the language shows
 //! nothing about a contract. An error of a form that is listed nowhere below counts as bad: read it, and list it.
 
 /// An error of a log.
@@ -9,7 +9,10 @@ pub struct LogError {
     /// The file that it is in.
     pub file: String,
     /// What follows `PLACE: error`, with the lines that belong to it. An error of the compiler's front end begins with its kind in brackets.
+    /// Of a goal that has no answer, and that the kit's tactics do not prove: the goal, and what the log says of it.
     pub text: String,
+    /// The function that has such a goal.
+    pub function: Option<String>,
 }
 
 /// What an error is about.
@@ -21,19 +24,31 @@ pub enum About {
     Nothing(&'static str),
 }
 
-/// What a proof of something that is not proved itself says.
-const CONSEQUENCE: &str = "was not admitted";
+/// What is said of a proof that rests on something that is not proved itself.
+const CONSEQUENCES: &[&str] = &[
+    "was not admitted",
+    "that depends on ``, which",
+    "that depend on ``, which",
+];
 
 /// Errors that are about no fact, by a piece of their text in which each quoted part is written as two quotes.
 const NO_FACT: &[(&str, &str)] = &[
     ("`` is not in scope", "a name that is not in scope"),
     ("cannot find", "a name that is not in scope"),
     (
+        "no module, record or data type",
+        "a name that is not in scope",
+    ),
+    (
         "that can be named from here",
-        "a need that the function does not have",
+        "a goal that the function does not have",
     ),
     (
         "record `` has no field ``",
+        "a proof that reads a path that is not there",
+    ),
+    (
+        "`` projects from a record",
         "a proof that reads a path that is not there",
     ),
     (
@@ -62,7 +77,7 @@ const NO_FACT: &[(&str, &str)] = &[
     ("too many arguments", "a proof file that does not fit"),
     (
         "expected type ``",
-        "a side need: two types differ, and nothing is said of a value",
+        "two types that differ, and nothing is said of a value",
     ),
 ];
 
@@ -82,41 +97,92 @@ const FACT: &[&str] = &[
     "give a proof of that as the last argument",
     "``: no proof of ``",
     "``: the two sides of the goal are not joined",
+    OPEN,
 ];
+
+/// What the log says of an open goal.
+const OPEN: &str = "it is not proved that";
 
 /// How much of an error is looked at, in characters with the quoted parts left out.
 const HEAD: usize = 200;
 
-/// All errors of a log.
+/// All errors of a log. An open goal counts as one, where the log has the line of its function.
 pub fn of_log(log: &str) -> Vec<LogError> {
     let mut errors: Vec<LogError> = Vec::new();
+    let mut open: Vec<LogError> = Vec::new();
     let mut goes_on = false;
     for line in log.lines() {
-        if let Some((file, text)) = error_of(line) {
-            errors.push(LogError {
-                file: file.to_string(),
-                text: text.to_string(),
-            });
-            goes_on = true;
-        } else if goes_on && line.starts_with("  ") {
+        if goes_on && line.starts_with("  ") {
             let error = errors.last_mut().expect("an error goes on");
             error.text.push(' ');
             error.text.push_str(line.trim());
-        } else {
-            goes_on = false;
+            continue;
+        }
+        goes_on = false;
+        if let Some(goal) = open_goal(line) {
+            open.push(goal);
+        } else if let Some((name, proved)) = verdict(line) {
+            let function = name
+                .split_once("::")
+                .map(|(_, function)| function.to_string());
+            let mut goals = std::mem::take(&mut open);
+            goals.retain(|_| !proved);
+            goals
+                .iter_mut()
+                .for_each(|goal| goal.function = function.clone());
+            errors.append(&mut goals);
+        } else if let Some((file, text)) = error_of(line) {
+            errors.push(LogError {
+                file: file.to_string(),
+                text: text.to_string(),
+                function: None,
+            });
+            goes_on = true;
         }
     }
+    errors.append(&mut open);
     errors
+}
+
+/// A goal that is not proved, on a line ``note: FILE:LINE:COLUMN: it is not proved that WHAT (`GOAL`)..``.
+fn open_goal(line: &str) -> Option<LogError> {
+    let (place, text) = line
+        .strip_prefix("note: ")?
+        .split_once(": it is not proved that ")?;
+    let (file, _) = place_of(place)?;
+    let goal = text
+        .split("(`")
+        .nth(1)
+        .and_then(|rest| rest.split('`').next());
+    Some(LogError {
+        file: file.to_string(),
+        text: format!("`{}`: {OPEN} {text}", goal.unwrap_or_default()),
+        function: None,
+    })
+}
+
+/// The name on a line `fn CRATE::NAME: ..`, and whether it is proved. A struct and the like have such lines too.
+fn verdict(line: &str) -> Option<(&str, bool)> {
+    let (name, verdict) = line.split_once(": ")?;
+    let (kind, name) = name.split_once(' ')?;
+    let known = ["proved", "not proved", "no proof", "could not tell"];
+    let is_one = !kind.ends_with(':') && known.iter().any(|word| verdict.starts_with(word));
+    is_one.then_some((name, verdict == "proved"))
 }
 
 /// The file and the text of an error on a line `FILE:LINE:COLUMN: error: TEXT` or `.. error[KIND]: TEXT`.
 fn error_of(line: &str) -> Option<(&str, &str)> {
     let (place, text) = line.split_once(": error")?;
-    let mut parts = place.rsplitn(3, ':');
-    let mut number = || parts.next()?.parse::<u32>().ok();
-    number()?;
-    number()?;
-    Some((parts.next()?, text.strip_prefix(": ").unwrap_or(text)))
+    let (file, _) = place_of(place)?;
+    Some((file, text.strip_prefix(": ").unwrap_or(text)))
+}
+
+/// The file and the line of a place `FILE:LINE:COLUMN`.
+fn place_of(place: &str) -> Option<(&str, u32)> {
+    let (rest, column) = place.rsplit_once(':')?;
+    let (file, line) = rest.rsplit_once(':')?;
+    column.parse::<u32>().ok()?;
+    Some((file, line.parse().ok()?))
 }
 
 impl LogError {
@@ -129,13 +195,9 @@ impl LogError {
         let place = |text: &str| head.find(text);
         let fact = FACT.iter().filter_map(|text| place(text)).min();
         let before = |place: &usize| fact.is_none_or(|fact| *place < fact);
-        if place(CONSEQUENCE).filter(before).is_some() {
+        let consequence = CONSEQUENCES.iter().filter_map(|text| place(text)).min();
+        if consequence.filter(before).is_some() {
             return About::Other;
-        }
-        // A proof file gives a proof for each need; one too few leaves a function that still asks.
-        if self.text.contains(".Lts.Closed ") && self.text.contains("but this has type `tie.Need-")
-        {
-            return About::Nothing("a need that the proof file does not give");
         }
         let first = |(text, why): &(&str, &'static str)| Some((place(text)?, *why));
         let none = NO_FACT.iter().filter_map(first).min();
@@ -146,31 +208,26 @@ impl LogError {
         }
     }
 
-    /// The definition or the need that it is in: the first quoted word.
-    pub fn need(&self) -> &str {
+    /// The definition or the goal that it is in: the first quoted word.
+    pub fn goal(&self) -> &str {
         let quoted = self.text.strip_prefix('`').unwrap_or_default();
         quoted.split('`').next().unwrap_or_default()
     }
 
     /// Whether it is about what a call requires or a bound, and not about what a function ensures. Such an edit may stand for another fact than the one that
     /// refuses it first; whoever reads the list decides.
-    pub fn is_side_need(&self) -> bool {
-        // the second need of a kind ends in -2
-        let need = self
-            .need()
-            .trim_end_matches(|letter: char| letter.is_ascii_digit());
+    pub fn is_side_goal(&self) -> bool {
         let starts = [
-            "add-",
-            "sub-",
-            "mul-",
-            "shl-",
-            "cast-",
-            "part-",
-            "shared-slice-",
-            "unique-slice-",
+            "overflow_",
+            "nonzero_",
+            "bounds-",
+            "slice_bounds-",
+            "offset_bounds-",
+            "shape_of-",
         ];
-        need.trim_end_matches('-').ends_with("-requires")
-            || starts.iter().any(|start| need.starts_with(start))
+        let mut parts = self.goal().split('-');
+        starts.iter().any(|start| self.goal().starts_with(start))
+            || parts.any(|part| part == "requires")
     }
 }
 
@@ -220,14 +277,15 @@ mod tests {
     #[test]
     fn facts() {
         for error in [
-            "/a/Proof.antt:20:11: error: `packed-spec`: give a proof of that as the last argument, `rw L t` (`rw L ?` shows it)\n  `rw` has no last",
-            "/a/Proof.antt:21:69: error: `packed-spec`: `omega`: the goal does not follow from what it read. All of that holds",
-            "/a/Proof.antt:39:6: error: `requires`: `omega`: the part `.number` of the goal does not follow from what it read.",
-            "/a/Cases.antt:225:22: error: `turns`: as printed, the two types differ only where one has `x`\n  (expected)\n  expected type `x`",
-            "/a/Examples.antt:123:3: error: `starred`: computed as far as they go, the two types are `Path ℕ 1 0` (expected) and `Path ℕ 1 1` (found)",
-            "/a/Proof.antt:9:3: error: `returns-2`: as printed, the two sides first differ where one has `x` (left)",
-            "/a/Proof.antt:9:3: error: `returns`: as printed, the two types first differ where one has `Post` (expected), at the start, and the other has `Does` (found)\n  computed as far as they go, the two types differ only where one has `1` (expected) and the other has `0` (found)\n  expected type `Post`",
-            "/a/Proof.antt:9:3: error: `returns`: `search`: no proof of `Post (c .κs)` was found.",
+            "./proofs/f/Answers.antt:20:11: error: `returns`: give a proof of that as the last argument, `rw L t` (`rw L ?` shows it)\n  `rw` has no last",
+            "./proofs/f/Answers.antt:21:69: error: `returns`: `omega`: the goal does not follow from what it read. All of that holds",
+            "./proofs/f/Answers.antt:39:6: error: `g-requires`: `omega`: the part `.number` of the goal does not follow from what it read.",
+            "./specs/Cases.antt:225:22: error: `turns`: as printed, the two types differ only where one has `x`\n  (expected)\n  expected type `x`",
+            "./specs/Examples.antt:123:3: error: `starred`: computed as far as they go, the two types are `Path ℕ 1 0` (expected) and `Path ℕ 1 1` (found)",
+            "./proofs/f/Answers.antt:9:3: error: `returns-2`: as printed, the two sides first differ where one has `x` (left)",
+            "./proofs/f/Answers.antt:9:3: error: `returns`: as printed, the two types first differ where one has `Post` (expected), at the start, and the other has `Does` (found)\n  computed as far as they go, the two types differ only where one has `1` (expected) and the other has `0` (found)\n  expected type `Post`",
+            "./proofs/f/Answers.antt:9:3: error: `returns`: `search`: no proof of `Post c.args` was found.",
+            "note: src/lib.rt:65:1: it is not proved that what the function ensures holds when it returns (`returns`); the facts known there allow values at which this goal is false",
         ] {
             assert_eq!(about(error), About::Fact, "{error}");
         }
@@ -237,59 +295,63 @@ mod tests {
     fn no_facts() {
         for (error, why) in [
             (
-                "/a/lib.rt:43:12: error[unknown-name]: cannot find value `kk` in this scope",
+                "src/lib.rt:43:12: error[unknown-name]: cannot find value `kk` in this scope",
                 "a form that the compiler refuses",
             ),
             (
-                "/a/Limits.antt:6:3: error: `mostStack`: `sixtyfour` is not in scope",
+                "./specs/Limits.antt:6:3: error: `most_stack`: `sixtyfour` is not in scope",
                 "a name that is not in scope",
             ),
             (
-                "/a/Proof.antt:9:3: error: `returns-2`: `tie.Need-returns-2`: module `x.Tie` has no `Need-returns-2` that can be named from here",
-                "a need that the function does not have",
+                "./proofs/f/Answers.antt:9:14: error: `place`: `tie.Start`: no module, record or data type `tie` is in scope (a binder's dot is followed by a space: `tie. Start`)",
+                "a name that is not in scope",
             ),
             (
-                "/a/Proof.antt:9:3: error: `returns`: record `x.Lts.Start` has no field `before`",
+                "./proofs/f/Answers.antt:9:3: error: `returns-2`: `goal.returns-2`: module `Rattle.x.proofs.f.Goals` has no `returns-2` that can be named from here",
+                "a goal that the function does not have",
+            ),
+            (
+                "./proofs/f/Answers.antt:9:3: error: `returns`: record `Rattle.x.proofs.f.Lts.Start` has no field `loop-i`",
                 "a proof that reads a path that is not there",
             ),
             (
-                "/a/Proof.antt:9:3: error: `bits` has no function `union_of` for this file to be the proof of: help: delete the folder",
+                "./proofs/f/Answers.antt:9:3: error: `returns`: `.shared_slice_known-3-1` projects from a record, but this has type `Prim.Native.Nat.ℕ`",
+                "a proof that reads a path that is not there",
+            ),
+            (
+                "./proofs/f/Answers.antt:9:3: error: `bits` has no function `union_of` for this file to be the proof of: help: delete the folder",
                 "a proof file that no function has",
             ),
             (
-                "/a/Proof.antt:9:3: error: `union-of-spec`: expected type `x.Lts.Closed x.Pre`\n  but this has type `tie.Need-returns-2 → x.Lts.Closed`",
-                "a need that the proof file does not give",
-            ),
-            (
-                "/a/Proof.antt:9:3: error: `packed-spec`: this λ has 2 binders, but its type has room for only 1: at `κs` the type is `x`",
+                "./proofs/f/Answers.antt:9:3: error: `returns`: this λ has 2 binders, but its type has room for only 1: at `c` the type is `x`",
                 "a proof file that does not fit",
             ),
             (
-                "/a/Proof.antt:9:3: error: `packed-spec`: `rw`: no occurrence of the path's left endpoint in the hypothesis's type: write",
+                "./proofs/f/Answers.antt:9:3: error: `returns`: `rw`: no occurrence of the path's left endpoint in the hypothesis's type: write",
                 "a rewriting that finds nothing to rewrite",
             ),
             (
-                "/a/Proof.antt:9:3: error: `returns-2`: expected type `_≡_ x y → Prim.⊥`\n  but this has type `_≡_ x z → Prim.⊥`",
-                "a side need: two types differ, and nothing is said of a value",
+                "./proofs/f/Answers.antt:9:3: error: `returns-2`: expected type `◌≡◌ x y → Prim.⊥`\n  but this has type `◌≡◌ x z → Prim.⊥`",
+                "two types that differ, and nothing is said of a value",
             ),
             (
-                "/a/Proof.antt:9:3: error: `returns`: as printed, the two types first differ where one has `Put` (expected), at the start, and the other has `Learnt` (found)\n  expected type `Put`",
-                "a side need: two types differ, and nothing is said of a value",
+                "./proofs/f/Answers.antt:9:3: error: `returns`: as printed, the two types first differ where one has `Put` (expected), at the start, and the other has `Learnt` (found)\n  expected type `Put`",
+                "two types that differ, and nothing is said of a value",
             ),
             (
-                "/a/Proof.antt:9:3: error: `row-spec`: computed as far as they go, the two types are `_≡_ {A = ℕ} (?4 c) 0` (expected) and `_≤_ 2 (c .kind)` (found)\n  expected type `_≡_ 1`",
-                "a side need: two types differ, and nothing is said of a value",
+                "./proofs/f/Answers.antt:9:3: error: `returns`: computed as far as they go, the two types are `◌≡◌ {A = ℕ} (?4 c) 0` (expected) and `◌≤◌ 2 c.kind` (found)\n  expected type `◌≡◌ 1`",
+                "two types that differ, and nothing is said of a value",
             ),
             (
-                "/a/Proof.antt:9:3: error: `row-spec`: computed as far as they go, the two types are identical apart from the names of bound variables\n  expected type `Post`",
-                "a side need: two types differ, and nothing is said of a value",
+                "./proofs/f/Answers.antt:9:3: error: `returns`: computed as far as they go, the two types are identical apart from the names of bound variables\n  expected type `Post`",
+                "two types that differ, and nothing is said of a value",
             ),
             (
-                "/a/Limits.antt:6:3: error: expected an expression, found `=`",
+                "./specs/Limits.antt:6:3: error: expected an expression, found `=`",
                 "a form that cannot be read",
             ),
             (
-                "/a/Proof.antt:9:3: error: `returns`: something that nobody has read yet",
+                "./proofs/f/Answers.antt:9:3: error: `returns`: something that nobody has read yet",
                 "an error of a form that rust/gate/src/errors.rs does not list",
             ),
         ] {
@@ -299,59 +361,97 @@ mod tests {
 
     #[test]
     fn consequences() {
-        let error = "/a/Proof.antt:9:3: error: `number-spec`: `close` was not admitted (it has holes or undetermined implicits, or was rejected)";
-        assert_eq!(about(error), About::Other);
+        for error in [
+            "./proofs/f/Answers.antt:9:3: error: `returns`: `close` was not admitted (it has holes or undetermined implicits, or was rejected)",
+            "./proofs/f/Answers.antt:15:5: error: 5 declarations that depend on `place`, which was rejected, were not checked: bounds-kills-p and 4 more",
+            "./proofs/f/Answers.antt:15:5: error: 1 declaration that depends on `place`, which has holes, was not checked: bounds-kills-p",
+        ] {
+            assert_eq!(about(error), About::Other, "{error}");
+        }
     }
 
     /// What an error quotes does not decide what it is about.
     #[test]
     fn quoted_words_do_not_count() {
-        let error = "/a/P.antt:1:1: error: `returns`: `omega`: the goal does not follow from what it read at `was not admitted`";
+        let error = "./P.antt:1:1: error: `returns`: `omega`: the goal does not follow from what it read at `was not admitted`";
         assert_eq!(about(error), About::Fact);
     }
 
     #[test]
-    fn side_needs() {
-        let is = |text: &str| {
+    fn side_goals() {
+        for (goal, is) in [
+            ("read_body-requires", true),
+            ("put-requires-2", true),
+            ("put-requires-then-c", true),
+            ("overflow_add-t12", true),
+            ("overflow_cast-x", true),
+            ("bounds-s-i", true),
+            ("offset_bounds-s-i", true),
+            ("returns", false),
+            ("returns-then-requires_few", false),
+            ("loop-i-preserved", false),
+        ] {
+            let text = format!("`{goal}`: `omega`: the goal does not follow");
             let error = LogError {
                 file: String::new(),
-                text: text.to_string(),
+                text,
+                function: None,
             };
-            error.is_side_need()
-        };
-        assert!(is(
-            "`read-body-requires`: `omega`: the goal does not follow"
-        ));
-        assert!(is("`put-requires-2`: `omega`: the goal does not follow"));
-        assert!(is("`add-t12`: `omega`: the goal does not follow"));
-        assert!(!is("`returns`: `omega`: the goal does not follow"));
+            assert_eq!(error.is_side_goal(), is, "{goal}");
+        }
     }
 
     #[test]
-    fn errors_with_their_files() {
+    fn errors_with_their_places() {
         let log = "\
 note: a word
-/a/proofs/put/Proof.antt:1:2: error: `returns`: one
+./proofs/put/Answers.antt:1:2: error: `returns`: one
   goes on
-/a/proofs/take/Proof.antt:3:4: error: `close`: two
-fn list::put: not proved
+./proofs/take/Answers.antt:3:4: note: of that file
+./proofs/take/Answers.antt:3:4: error: `close`: two
+fn list::end: proved
   not of an error
+note: src/lib.rt:6:1: it is not proved that x holds (`returns`)
+note: `search` has not tried the goals of `list::put`, which wait for a callee's proof: some may be open after it
+fn list::put: not proved; it calls `list::take`, which is not proved
+note: src/lib.rt:9:1: it is not proved that y holds (`overflow_add-z`); it may be false
+fn list::Ring::take: no proof: expected answers in ./proofs/Ring/take/Answers.antt; `search` did not prove `overflow_add-z`
+note: src/lib.rt:9:1: it is not proved that the loop ends, by its measure
 logic=not-proved
 ";
         let errors = of_log(log);
-        let read: Vec<(&str, &str, &str)> = errors
+        let read: Vec<(&str, Option<&str>, &str, &str)> = errors
             .iter()
-            .map(|e| (&e.file[..], &e.text[..], e.need()))
+            .map(|e| (&e.file[..], e.function.as_deref(), &e.text[..], e.goal()))
             .collect();
         assert_eq!(
             read,
             [
                 (
-                    "/a/proofs/put/Proof.antt",
+                    "./proofs/put/Answers.antt",
+                    None,
                     "`returns`: one goes on",
                     "returns"
                 ),
-                ("/a/proofs/take/Proof.antt", "`close`: two", "close"),
+                ("./proofs/take/Answers.antt", None, "`close`: two", "close"),
+                (
+                    "src/lib.rt",
+                    Some("put"),
+                    "`returns`: it is not proved that x holds (`returns`)",
+                    "returns"
+                ),
+                (
+                    "src/lib.rt",
+                    Some("Ring::take"),
+                    "`overflow_add-z`: it is not proved that y holds (`overflow_add-z`); it may be false",
+                    "overflow_add-z"
+                ),
+                (
+                    "src/lib.rt",
+                    None,
+                    "``: it is not proved that the loop ends, by its measure",
+                    ""
+                ),
             ]
         );
         assert_eq!(of_log("no error here"), []);

@@ -1,6 +1,6 @@
 //! The functions of a .rt file and where their bodies are.
 //!
-//! The file has the layout of `rt fmt`, to which the gate holds it: a function begins at its own indentation, its parameters and its contract are indented
+//! The file has the layout of `rt fmt`, to which `rt ci` holds it: a function begins at its own indentation, its parameters and its contract are indented
 //! further, and its body ends at the next line that is a closing brace at that indentation. An `impl` block begins and ends at the margin.
 
 use std::ops::Range;
@@ -11,6 +11,8 @@ pub struct Function {
     /// Its name, after the module and the type that it belongs to: `calls::mark`, `Machine::reserve`.
     pub path: String,
     pub body: Range<usize>,
+    /// The name of its cycle, by a line `#[cycle(NAME)]`. The functions of a cycle call each other and are proved together, in a folder `+NAME`.
+    pub cycle: Option<String>,
 }
 
 /// The functions of a file of a crate, `src/lib.rt` say, with this text.
@@ -18,16 +20,21 @@ pub fn of_source(file: &str, text: &str) -> Vec<Function> {
     let mut functions = Vec::new();
     let mut open: Option<Open> = None;
     let mut place = Place::of(file);
+    let mut cycle = None;
     let mut start = 0;
     for line in text.split_inclusive('\n') {
         let next = start + line.len();
         let line = line.trim_end();
         place.pass(line);
+        if let Some(rest) = line.trim_start().strip_prefix("#[cycle(") {
+            cycle = rest.split(')').next().map(str::to_string);
+        }
         if let Some(name) = name_of(line) {
             open = Some(Open {
                 path: place.path(name),
                 indent: indent(line),
                 body: None,
+                cycle: cycle.take(),
             });
         }
         if let Some(function) = open.take() {
@@ -83,6 +90,7 @@ struct Open {
     indent: usize,
     /// Where the body begins, if it has begun.
     body: Option<usize>,
+    cycle: Option<String>,
 }
 
 enum Passed {
@@ -118,6 +126,7 @@ impl Open {
         Passed::Closed(Function {
             path: self.path,
             body,
+            cycle: self.cycle,
         })
     }
 }
@@ -142,18 +151,22 @@ fn indent(line: &str) -> usize {
 
 #[cfg(test)]
 mod tests {
-    use std::collections::BTreeSet;
     use std::path::Path;
 
     use super::*;
+    use crate::edit;
     use crate::tree;
 
     const SOURCE: &str = "\
 const MOST: usize = 4;
 
 // fn of no kind
+#[tactic(auto, using(least))]
 fn lesser(a: usize, b: usize) -> usize
-    ensures { λ r. ⌜ r ≡ min a b ⌝ }
+    ensures low { result ≤ a }
+    ensures {
+        result ≡ min a b
+    }
 {
     if a < b {
         a
@@ -171,17 +184,19 @@ fn wide(x: u8) -> u64 { x as u64 }
 impl Machine {
     pub const BLOCKS: usize = 64;
 
+    // In turns with another one.
+    #[cycle(turns)]
     pub fn reserve(
         self,
         k: u32,
     ) -> Moved
-        requires { ⌜ k ≤ self .st ⌝ }
+        requires { k ≤ self.st }
     {
         self.st - k
     }
 }
 
-#[no_mangle]
+#[unsafe(no_mangle)]
 pub extern \"C\" fn felknost_check(text: &[u8]) -> u32
 {
     0
@@ -214,27 +229,39 @@ pub extern \"C\" fn felknost_check(text: &[u8]) -> u32
         );
     }
 
-    /// Every proof file of the tree is that of a function which is found here, or, in a folder `+call+walk`, of functions that call each other.
+    #[test]
+    fn functions_in_a_cycle() {
+        let functions = of_source("src/lib.rt", SOURCE).into_iter();
+        let found: Vec<(String, String)> =
+            functions.filter_map(|f| Some((f.path, f.cycle?))).collect();
+        assert_eq!(
+            found,
+            [("Machine::reserve".to_string(), "turns".to_string())]
+        );
+    }
+
+    /// Every proof file of the tree is that of a function which is found here, or of a cycle of such functions.
     #[test]
     fn functions_of_the_tree() {
         let crates = Path::new(env!("CARGO_MANIFEST_DIR")).join("../../crates");
         let mut proofs = 0;
         for krate in tree::entries(&crates) {
-            let mut found = BTreeSet::new();
+            let mut found = Vec::new();
             for path in tree::files_below(&krate.join("src")) {
                 let file = path.strip_prefix(&krate).expect("a file of the crate");
                 let text = tree::read(&path).expect("a source");
-                let functions = of_source(&file.to_string_lossy(), &text);
-                found.extend(functions.into_iter().map(|f| f.path.replace("::", "/")));
+                found.extend(of_source(&file.to_string_lossy(), &text));
             }
+            let lemmas = tree::files(&krate.join("proofs"), "antt");
             for path in tree::files_below(&krate.join("proofs")) {
-                if path.ends_with("Proof.antt") {
-                    let folder = path.parent().expect("a folder");
-                    let name = folder.strip_prefix(krate.join("proofs"));
-                    let name = name.expect("a function").to_string_lossy();
-                    for name in name.split('+').filter(|name| !name.is_empty()) {
-                        assert!(found.contains(name), "{}", path.display());
-                    }
+                let is_named = edit::PROOFS.iter().any(|name| path.ends_with(name));
+                if is_named && !lemmas.contains(&path) {
+                    let file = path.to_string_lossy();
+                    let is_of = |f: &Function| match &f.cycle {
+                        Some(cycle) => file.contains(&format!("/+{cycle}/")),
+                        None => edit::is_proof_of(&file, &f.path),
+                    };
+                    assert!(found.iter().any(is_of), "{file}");
                     proofs += 1;
                 }
             }

@@ -110,15 +110,13 @@ fn right_side<'a>(line: &'a str, name: &str) -> Option<&'a str> {
     line.strip_prefix(name)?.trim_start().strip_prefix('=')
 }
 
-/// The path of the file that a text takes a name from, by its one line `use Rattle·CRATE.specs.FILE.{NAME, ..}`.
+/// The path of the file that a text takes a name from, by its one line `use Rattle.CRATE.specs.FILE.{NAME, ..}`.
 fn origin(text: &str, name: &str) -> Result<String, String> {
     let from = |line: &str| {
-        let (module, names) = line.strip_prefix("use Rattle·")?.split_once(".{")?;
+        let (module, names) = line.strip_prefix("use Rattle.")?.split_once(".{")?;
         let mut names = names.strip_suffix('}')?.split(',');
         names.any(|used| used.trim() == name).then_some(())?;
-        // A crate names itself CRATE·specs.
         let (of, file) = module.split_once(".specs.")?;
-        let of = of.split('·').next()?;
         Some(format!("crates/{of}/specs/{file}.antt"))
     };
     let origins: Vec<String> = text.lines().filter_map(from).collect();
@@ -134,11 +132,11 @@ mod tests {
     use super::*;
 
     const LIMITS: &str =
-        "abbrev pub mostStack : ℕ\nmostStack = 64\n\nabbrev pub mostFuncs : ℕ\nmostFuncs = 32\n";
+        "abbrev pub most_stack : ℕ\nmost_stack = 64\n\nabbrev pub most_funcs : ℕ\nmost_funcs = 32\n";
 
     /// What stands before and behind `most` in a file.
     const BEFORE: &str =
-        "use Rattle·model.specs.Limits.{mostStack, mostFuncs}\n\nabbrev pub line : ℕ\nline = 39\n";
+        "use Rattle.model.specs.Limits.{most_stack, most_funcs}\n\nabbrev pub line : ℕ\nline = 39\n";
     const BEHIND: &str = "abbrev behind : ℕ\nbehind = 1000\n";
 
     /// What `most` is in a file with this text, beside one with limits.
@@ -163,8 +161,8 @@ mod tests {
         for (equation, wanted) in [
             ("most = 7", 7),
             ("most = line", 39),
-            ("most = mostFuncs", 32),
-            ("most = 10 + line * mostFuncs + 3", 1_261),
+            ("most = most_funcs", 32),
+            ("most = 10 + line * most_funcs + 3", 1_261),
             ("most = 2 * 3 * 4 + 5 * line", 219),
             ("most = 10 -- and 5", 10),
             ("most =\n    10\n    + line", 49),
@@ -173,7 +171,7 @@ mod tests {
             assert_eq!(most_by(equation), Ok(wanted), "{equation}");
         }
         assert_eq!(
-            most("use Rattle·model.specs.Limits.{mostStack}\nabbrev most : ℕ\nmost = mostStack\n"),
+            most("use Rattle.model.specs.Limits.{most_stack}\nabbrev most : ℕ\nmost = most_stack\n"),
             Ok(64)
         );
     }
@@ -210,9 +208,9 @@ mod tests {
             "abbrev pub most : ℕ → ℕ\nmost = 7\n",
             "unfoldable pub most : ℕ\nmost = 7\n",
             "abbrev pub most : ℕ\nmost = 7\nabbrev pub most : ℕ\n",
-            "use Rattle·model.specs.Limits.{most}\n",
-            "use Rattle·model.specs.Limits.{mostFuncs}\nuse Rattle·other.specs.Limits.{mostFuncs}\nabbrev most : ℕ\nmost = mostFuncs\n",
-            "use Rattle·report·specs.specs.Report.{most}\n",
+            "use Rattle.model.specs.Limits.{most}\n",
+            "use Rattle.model.specs.Limits.{most_funcs}\nuse Rattle.other.specs.Limits.{most_funcs}\nabbrev most : ℕ\nmost = most_funcs\n",
+            "use Rattle.report.specs.Report.{most}\n",
         ] {
             assert!(most(text).is_err(), "{text}");
         }

@@ -18,11 +18,11 @@ fn sorted(mut rows: Vec<(String, u32)>) -> Vec<(String, u32)> {
     rows
 }
 
-/// The equations `codeOf NAME = NUMBER` of the model.
+/// The equations `code_of NAME = NUMBER` of the model.
 fn in_model() -> Vec<(String, u32)> {
     let text = source("crates/model/specs/Rows.antt");
     let equation = |line: &str| {
-        let (name, number) = line.strip_prefix("codeOf ")?.split_once(" = ")?;
+        let (name, number) = line.strip_prefix("code_of ")?.split_once(" = ")?;
         Some((name.to_string(), number.parse().ok()?))
     };
     sorted(text.lines().filter_map(equation).collect())
