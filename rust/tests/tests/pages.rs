@@ -28,6 +28,7 @@ fn worked_cases_are_counted() {
     let starred = equations("crates/model/specs/Examples.antt");
     let more: usize = [
         "crates/model/specs/Cases.antt",
+        "crates/model/specs/Coded.antt",
         "crates/cases/specs/Runs.antt",
         "crates/cases/specs/Without.antt",
         "crates/cases/specs/Limits.antt",
