@@ -11,7 +11,7 @@ use Rattle.model.specs.Basic.{joined, sum_of, up_to}
 use Rattle.model.specs.Text.{bytes}
 use Rattle.model.specs.Task.{Task, size, count, in_all, func}
 use Rattle.model.specs.Figures as model
-use Rattle.model.specs.Sheet.{Sheet, PointSheet, move_price, once_of, Record, records_in, records_of, total_of, point_text, head_text, total_text, func_text, report_with}
+use Rattle.model.specs.Sheet.{Sheet, PointSheet, move_price, Record, records_in, records_of, total_of, point_text, head_text, total_text, func_text, report_with}
 use Rattle.model.specs.WellFormed.{Shaped}
 use Rattle.theory.proofs.Lists.{and-holds, mem-up_to, length-up_to, sum-most, sum-joined, length-joined}
 use Rattle.theory.proofs.Prices.{moves-blocks}
@@ -34,14 +34,7 @@ use Rattle.report.specs.declared.Lines.{Lines}
 use Rattle.report.specs.Report.{Sums, shows_once, point_numbers, funcs_part, report_in, Room, most_total}
 use Rattle.report.specs.Report.{most_point_text, most_head_text, most_foot_text, ends_text, most_length, most_report}
 use Rattle.report.proofs.Laws.{report-length, report-size, total-all}
-
--- the digits of the numbers of a point's line
-abbrev point_digits : List ℕ
-point_digits = 3 ∷ 2 ∷ 2 ∷ 2 ∷ 5 ∷ 5 ∷ 5 ∷ 7 ∷ 7 ∷ 5 ∷ []
-
--- and with once
-abbrev once_digits : List ℕ
-once_digits = 3 ∷ 2 ∷ 2 ∷ 2 ∷ 2 ∷ 2 ∷ 2 ∷ 7 ∷ 7 ∷ 2 ∷ 3 ∷ []
+use Rattle.report.proofs.PointDigits.{point_digits, once_digits, point-digits, once-digits}
 
 -- the numbers of a function's first line, and their digits
 abbrev head_numbers : Task → Sheet → ℕ → List ℕ
@@ -76,17 +69,6 @@ move-most price small n h = go (shows_once price) refl
     go false e = price-small price n small h
 
 -- ---- a line
-
--- the line of a point with these figures
-point-digits : (p : ℕ) (x : PointSheet) → p < most_points → Low most_price x → Within (point_numbers false p x) point_digits
-point-digits p x m l =
-    omega (arith, l.high, l.dead, l.need, l.save, l.reload, l.later, l.chain, l.cost, l.fill)
-
--- in blocks each move is at most the stack, and so once has three digits
-once-digits : (p : ℕ) (x : PointSheet) → p < most_points → Low most_stack x → Within (point_numbers true p x) once_digits
-unfolding once_of
-once-digits p x m l =
-    omega (arith, l.high, l.dead, l.need, l.save, l.reload, l.later, l.chain, l.cost, l.fill)
 
 point-most : (once : Bool) (x : Record) → x.at < most_points → Low (most_move once) x.figures → length (point_text once x) ≤ most_point_text
 unfolding point_text taken
