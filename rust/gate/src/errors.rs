@@ -73,6 +73,7 @@ const NO_FACT: &[(&str, &str)] = &[
     ),
     ("expected a pattern, found", "a form that cannot be read"),
     ("needs a type here", "a form that cannot be read"),
+    ("stopped at the step limit", "a limit of the prover"),
     ("arguments are given", "a proof file that does not fit"),
     ("too many arguments", "a proof file that does not fit"),
     (
@@ -191,7 +192,7 @@ impl LogError {
         if self.text.starts_with('[') {
             return About::Nothing("a form that the compiler refuses");
         }
-        let head = cut(&without_types(&self.text), HEAD);
+        let head = cut(&without_types(&told_whole(&self.text)), HEAD);
         let place = |text: &str| head.find(text);
         let fact = FACT.iter().filter_map(|text| place(text)).min();
         let before = |place: &usize| fact.is_none_or(|fact| *place < fact);
@@ -235,6 +236,29 @@ impl LogError {
 fn without_quoted(text: &str) -> String {
     let parts: Vec<&str> = text.split('`').step_by(2).collect();
     parts.join("``")
+}
+
+/// An error that shows two short types whole does not say where they differ. What it says of both as they are computed decides; else it is as if it said so,
+/// where both have the same first word.
+fn told_whole(text: &str) -> String {
+    let parts: Vec<&str> = text.split('`').collect();
+    let ["", goal, ": expected type ", wanted, ", but this has type ", found, ref rest @ ..] =
+        parts[..]
+    else {
+        return text.to_string();
+    };
+    let rest = rest.join("`");
+    let first_word = |text: &str| text.split_whitespace().next().map(str::to_string);
+    if rest
+        .trim_start()
+        .starts_with("computed as far as they go, the two types")
+    {
+        format!("`{goal}`:{rest} expected type `{wanted}`")
+    } else if first_word(wanted) == first_word(found) {
+        format!("`{goal}`: the two types differ only where{rest}")
+    } else {
+        text.to_string()
+    }
 }
 
 /// The same without what is said of types alone: that two of them differ from their first word on.
@@ -285,6 +309,9 @@ mod tests {
             "./proofs/f/Answers.antt:9:3: error: `returns-2`: as printed, the two sides first differ where one has `x` (left)",
             "./proofs/f/Answers.antt:9:3: error: `returns`: as printed, the two types first differ where one has `Post` (expected), at the start, and the other has `Does` (found)\n  computed as far as they go, the two types differ only where one has `1` (expected) and the other has `0` (found)\n  expected type `Post`",
             "./proofs/f/Answers.antt:9:3: error: `returns`: `search`: no proof of `Post c.args` was found.",
+            "./specs/Cases.antt:288:9: error: `once`: expected type `◌≡◌ {A = ℕ} 10 8`, but this has type `◌≡◌ {A = ℕ} 10 10`\n  computed as far as they go, the two types are `Path ℕ 10 8` (expected) and `Path ℕ 10 10` (found)",
+            "./proofs/f/Laws.antt:9:3: error: `least`: expected type `T (a x)`, but this has type `T (b x)`\n  computed as far as they go, the two types differ only where one has `c x` (expected) and the other has `d x` (found)",
+            "./proofs/f/Laws.antt:9:3: error: `full`: expected type `n ≤ s - longest f`, but this has type `n ≤ s - shortest f`\n  `longest` does not unfold here",
             "note: src/lib.rt:65:1: it is not proved that what the function ensures holds when it returns (`returns`); the facts known there allow values at which this goal is false",
         ] {
             assert_eq!(about(error), About::Fact, "{error}");
@@ -345,6 +372,18 @@ mod tests {
             (
                 "./proofs/f/Answers.antt:9:3: error: `returns`: computed as far as they go, the two types are identical apart from the names of bound variables\n  expected type `Post`",
                 "two types that differ, and nothing is said of a value",
+            ),
+            (
+                "./proofs/f/Laws.antt:9:3: error: `least`: expected type `T (a x)`, but this has type `n ≤ b`",
+                "two types that differ, and nothing is said of a value",
+            ),
+            (
+                "./proofs/f/Laws.antt:9:3: error: `least`: expected type `T (a x)`, but this has type `T (b x)`\n  computed as far as they go, the two types are `T c` (expected) and `n ≤ m` (found)",
+                "two types that differ, and nothing is said of a value",
+            ),
+            (
+                "./specs/Cases.antt:206:5: error: `rows`: in its elaboration (it was elaborating the text at 216:45–216:49): stopped at the step limit (50000000 steps a task, the default)\n  it stopped while comparing two types; as printed, the two types differ only where one has `x`",
+                "a limit of the prover",
             ),
             (
                 "./specs/Limits.antt:6:3: error: expected an expression, found `=`",

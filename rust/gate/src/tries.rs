@@ -134,6 +134,8 @@ fn log_of(root: &Path, check: &Check) -> PathBuf {
 /// Applies the edits of a check in a copy of the crates, checks the crate there, and puts its files back.
 fn run(root: &Path, copy: &Path, check: &Check) -> Log {
     let krate = copy.join("crates").join(&check[0].krate);
+    // none of an earlier run is left where this one does not come so far
+    let _ = fs::remove_file(log_of(root, check));
     let mut texts = Texts::new();
     for change in check.iter().flat_map(|edit| &edit.replacements) {
         change.make(&krate, &mut texts)?;
