@@ -64,13 +64,14 @@ fn line(edit: &Edit, error: &LogError, show: bool) -> String {
 
 /// The error at which an edit is refused, by the log of its check; else why it shows nothing.
 fn judge(edit: &Edit, check: &Check, log: &Log) -> Result<LogError, String> {
-    let log = log.as_deref()?;
+    let whole = log.as_deref()?;
+    if whole.contains("rattle build: nothing was built") {
+        return Err("a library below its crate is not proved".to_string());
+    }
+    let log = errors::own_part(whole, &edit.krate);
     let says = |word: &str| log.lines().any(|line| line.starts_with(word));
     if says("logic=proved") {
         return Err("the crate is still proved with it".to_string());
-    }
-    if says("rattle build: nothing was built") {
-        return Err("a library below its crate is not proved".to_string());
     }
     let errors = errors::of_log(log);
     if !says("logic=not-proved") {
@@ -353,6 +354,23 @@ mod tests {
             "a name that is not in scope: `returns`",
         );
         nothing(&[], "its log has no error");
+    }
+
+    /// What is said of a library that had to be built first is not said of the crate.
+    #[test]
+    fn a_library_below_was_built() {
+        let low =
+            "fn low::a: proved\ncrate low: modules loaded=3 checked=1\nlogic=proved functions=1\n";
+        let found = batch(THREE, &format!("{low}{ALL}"));
+        assert_eq!((found.passed, found.failed), (3, 0));
+        let found = batch(THREE, &format!("{low}{FRONT}"));
+        assert_eq!((found.passed, found.failed), (0, 3));
+        let why =
+            "it did not reach the prover: [unknown-name]: cannot find value `zz` in this scope";
+        assert_eq!(
+            found.lines[0],
+            format!("bits/lowest_of SHOWS NOTHING: {why}")
+        );
     }
 
     /// One that names its function needs a fact there too.

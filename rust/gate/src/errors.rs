@@ -107,6 +107,20 @@ const OPEN: &str = "it is not proved that";
 /// How much of an error is looked at, in characters with the quoted parts left out.
 const HEAD: usize = 200;
 
+/// The part of a log that is about this crate: where libraries below it had to be built, the log begins with what was said of them.
+pub fn own_part<'a>(log: &'a str, krate: &str) -> &'a str {
+    let own = format!("crate {krate}: ");
+    let (mut begin, mut end, mut is_other) = (0, 0, false);
+    for line in log.split_inclusive('\n') {
+        end += line.len();
+        is_other |= line.starts_with("crate ") && !line.starts_with(&own);
+        if line.starts_with("logic=") && std::mem::take(&mut is_other) {
+            begin = end;
+        }
+    }
+    &log[begin..]
+}
+
 /// All errors of a log. An open goal counts as one, where the log has the line of its function.
 pub fn of_log(log: &str) -> Vec<LogError> {
     let mut errors: Vec<LogError> = Vec::new();
@@ -438,6 +452,21 @@ mod tests {
             };
             assert_eq!(error.is_side_goal(), is, "{goal}");
         }
+    }
+
+    #[test]
+    fn libraries_below_are_left_out() {
+        let low = "./proofs/Laws.antt:1:2: note: one\nfn low::a: proved\ncrate low: modules loaded=3 checked=1\nlogic=proved functions=1\n";
+        let mid =
+            "fn mid::a: proved\ncrate mid: modules loaded=3 checked=1\nlogic=proved functions=1\n";
+        let refused = "fn list::a: not proved\ncrate list: modules loaded=3 checked=1\nlogic=not-proved\nrt: lists\n";
+        let stopped = "src/lib.rt:1:2: error[unknown-name]: x\n";
+        for own in [refused, stopped, mid, "logic=not-proved\n", ""] {
+            let krate = if own == mid { "mid" } else { "list" };
+            assert_eq!(own_part(own, krate), own);
+            assert_eq!(own_part(&format!("{low}{own}"), krate), own);
+        }
+        assert_eq!(own_part(&format!("{low}{mid}{refused}"), "list"), refused);
     }
 
     #[test]
