@@ -247,8 +247,7 @@ def turn_file(crate, fn, d, path):
         print(f"left: {crate} {fn}: no tie.spec")
         return
     sbody = "\n".join(spec[2])
-    unfolding = [l.strip() for l in spec[2] if l.strip().startswith("unfolding")]
-    # continuation lines of unfolding
+    # the lines that open definitions for the whole proof
     ul = []
     for n, l in enumerate(spec[2]):
         if l.startswith("unfolding"):
@@ -282,17 +281,14 @@ def turn_file(crate, fn, d, path):
         if n < len(needs) and re.fullmatch(ID, a):
             rename[a] = (needs[n][1], d["asked_at"][n][0])
     inv = {}
-    for n, ((old, new), variables) in enumerate(loops):
-        pass
     for n, a in enumerate(loopargs):
         # all invariants may come first, or each loop's two together: told by the name
         m = re.match(r"(invariant|decreases)-(.*)$", a)
         if m:
             inv[a] = m.group(1)
-    order = [a for a in loopargs]
     loop_of = {}
     kinds = {}
-    for a in order:
+    for a in loopargs:
         kind = inv.get(a)
         kinds.setdefault(kind, []).append(a)
     for kind, names in kinds.items():
@@ -408,7 +404,6 @@ def turn_file(crate, fn, d, path):
     folder = os.path.dirname(path)
     keep = [u for u in uses if not re.search(r"\.(Statement|Tie)(\.|\b| as)", u)]
     module = f"Rattle.{crate}.proofs.{fn}"
-    all_text = "\n".join([x for _, x in answers] + helpers + invariants)
     if invariants:
         out = head + keep + [f"use {module}.Given as goal", ""] + ["\n\n".join(invariants)]
         write(os.path.join(folder, "Invariants.antt"), "\n".join(out) + "\n")

@@ -179,33 +179,19 @@ mod tests {
 
     const THREE: &[&str] = &["lowest_of", "top_of", "union_of"];
 
-    #[test]
-    fn all_refused() {
-        let found = batch(THREE, ALL);
-        assert_eq!(
-            found.lines,
-            [
-                "bits/lowest_of: refused at returns-then-z-k, with batch",
-                "bits/top_of: refused at returns, with batch",
-                "bits/union_of: refused at returns, with batch",
-            ]
-        );
-        assert_eq!((found.passed, found.failed), (3, 0));
-    }
-
     /// A function without a proof file is refused at a goal that the tactics do not prove.
     #[test]
-    fn two_without_proof_files() {
-        let found = batch(THREE, OPEN);
-        assert_eq!(
-            found.lines,
-            [
-                "bits/lowest_of: refused at returns-then-z-k (no answer), with batch",
-                "bits/top_of: refused at returns, with batch",
-                "bits/union_of: refused at returns (no answer), with batch",
-            ]
-        );
-        assert_eq!((found.passed, found.failed), (3, 0));
+    fn all_refused() {
+        for (log, open) in [(ALL, ""), (OPEN, " (no answer)")] {
+            let found = batch(THREE, log);
+            let lines = [
+                format!("bits/lowest_of: refused at returns-then-z-k{open}, with batch"),
+                "bits/top_of: refused at returns, with batch".to_string(),
+                format!("bits/union_of: refused at returns{open}, with batch"),
+            ];
+            assert_eq!(found.lines, lines);
+            assert_eq!((found.passed, found.failed), (3, 0));
+        }
     }
 
     #[test]
