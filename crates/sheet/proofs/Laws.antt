@@ -9,13 +9,12 @@ use lib.ListN.{length, get_or, drop, length-append, length-drop}
 use lib.Seq.{length-take-le}
 use borrow.Author.Tests.{lt-leb, le-leb}
 use Rattle.model.specs.declared.Refusal.{Refusal}
-use Rattle.model.specs.declared.Verdict.TheVariants.{Accepted, Refused}
-use Rattle.model.specs.declared.WriteResult.{WriteResult}
+use Rattle.std.proofs.Common.{Ok, Err}
 use Rattle.model.specs.Limits.{work_length}
 use Rattle.model.specs.Task.{Judged, refused, task}
 use Rattle.model.specs.Sheet.{line_text}
 use Rattle.model.specs.Refusal.{judged, with_rows, judge, work_row, output_rows}
-use Rattle.model.specs.Services.{AfterWrite, after_write, over, cleared, written_as, written_by, report_of, blocks_report_of}
+use Rattle.model.specs.Services.{Written, AfterWrite, after_write, over, cleared, written_as, written_by, report_of, blocks_report_of}
 use Rattle.theory.proofs.Prices.{report-blocks}
 use Rattle.print.specs.Print.{Wrote}
 use Rattle.print.proofs.Laws.{line-most, pasted-start}
