@@ -1,12 +1,12 @@
-// What the two data-flow kernels share: what they are given, and where a point leads.
+// What the two data-flow kernels share: what they are given, where a point leads, and what leaves it.
 #![tactic(auto)]
 
 ghost use Rattle.std.specs.Prelude.{◌≡◌, ◌<◌};
+ghost use Rattle.bits.specs.Bits.{transfer};
 ghost use Rattle.model.specs.Limits.{most_in_all};
 ghost use Rattle.model.specs.Walk.{leads_from, leads};
-ghost use Rattle.tables.specs.Tables.{func_in};
-ghost use Rattle.tables.specs.Valid.{Lies};
-ghost use Rattle.flow.specs.Flow.{targets};
+ghost use Rattle.tables.specs.Tables.{func_in, item};
+ghost use Rattle.flow.specs.Flow.{Given, targets};
 
 use model::Point;
 use tables::Span;
@@ -34,14 +34,34 @@ fn next_of(p: usize, x: Point) -> Next
     }
 }
 
-// Where point p of a function leads. One comparison tells a load or a store, which is quicker than the choice of next_of.
-pub fn next_at(work: &[u32], s: Span, p: usize) -> Next
-    requires { Lies work.now s × (p < s.size) }
-    ensures { targets result ≡ leads (func_in work.now s) p }
-{
-    let i = s.base + p;
-    if tables::access_at(work, i) {
-        return Next::To(p + 1);
+// A function in the tables whose walks a kernel can follow, and for each of its points the bits that it generates and those that it kills.
+#[derive(Clone, Copy)]
+pub struct Flow<'a> {
+    pub work: &'a [u32],
+    pub span: Span,
+    pub gens: &'a [u64],
+    pub kills: &'a [u64],
+    ghost given: { Given work.now span gens.now kills.now },
+}
+
+impl Flow<'_> {
+    // Where point p leads. One comparison tells a load or a store, which is quicker than the choice of next_of.
+    pub fn next(self, p: usize) -> Next
+        requires { p < self.span.size }
+        ensures { targets result ≡ leads (func_in self.entry.work.now self.entry.span) p }
+    {
+        let i = self.span.base + p;
+        if tables::access_at(self.work, i) {
+            return Next::To(p + 1);
+        }
+        next_of(p, tables::point_at(self.work, i))
     }
-    next_of(p, tables::point_at(work, i))
+
+    // What leaves point p, to which the set m comes.
+    pub fn transfer(self, p: usize, m: u64) -> u64
+        requires { p < self.span.size }
+        ensures { result ≡ transfer m (item self.entry.kills.now p) (item self.entry.gens.now p) }
+    {
+        bits::transfer_of(m, self.kills[p], self.gens[p])
+    }
 }
