@@ -1,8 +1,8 @@
 // What the two data-flow kernels share: what they are given, where a point leads, and what leaves it.
 #![tactic(auto)]
 
-ghost use Rattle.std.specs.Prelude.{◌≡◌, ◌<◌};
-ghost use Rattle.bits.specs.Bits.{transfer};
+ghost use Rattle.std.specs.Prelude.{◌≡◌, ℕ, ◌^◌, ◌<◌};
+ghost use Rattle.bits.specs.Bits.{set_bits, transfer};
 ghost use Rattle.model.specs.Limits.{most_in_all};
 ghost use Rattle.model.specs.Walk.{leads_from, leads};
 ghost use Rattle.tables.specs.Tables.{func_in, item};
@@ -42,6 +42,7 @@ pub struct Flow<'a> {
     pub gens: &'a [u64],
     pub kills: &'a [u64],
     ghost given: { Given work.now span gens.now kills.now },
+    ghost words: { (p : ℕ) → item kills.now p < 2 ^ set_bits },
 }
 
 impl Flow<'_> {
