@@ -6,6 +6,7 @@ ghost use Rattle.bits.specs.Bits.{set_bits, transfer};
 ghost use Rattle.model.specs.Limits.{most_in_all};
 ghost use Rattle.model.specs.Walk.{leads_from, leads};
 ghost use Rattle.tables.specs.Tables.{func_in, item};
+ghost use Rattle.tables.specs.Valid.{Lies};
 ghost use Rattle.flow.specs.Flow.{Given, targets};
 
 use model::Point;
@@ -34,6 +35,18 @@ fn next_of(p: usize, x: Point) -> Next
     }
 }
 
+// Where point p of a function leads. One comparison tells a load or a store, which is quicker than the choice of next_of.
+pub fn next_at(work: &[u32], s: Span, p: usize) -> Next
+    requires { Lies work.now s × (p < s.size) }
+    ensures { targets result ≡ leads (func_in work.now s) p }
+{
+    let i = s.base + p;
+    if tables::access_at(work, i) {
+        return Next::To(p + 1);
+    }
+    next_of(p, tables::point_at(work, i))
+}
+
 // A function in the tables whose walks a kernel can follow, and for each of its points the bits that it generates and those that it kills.
 #[derive(Clone, Copy)]
 pub struct Flow<'a> {
@@ -45,17 +58,25 @@ pub struct Flow<'a> {
     ghost words: { (p : ℕ) → item kills.now p < 2 ^ set_bits },
 }
 
-impl Flow<'_> {
-    // Where point p leads. One comparison tells a load or a store, which is quicker than the choice of next_of.
+impl<'a> Flow<'a> {
+    pub fn new(work: &'a [u32], span: Span, gens: &'a [u64], kills: &'a [u64]) -> Flow<'a>
+        requires { Given work.now span gens.now kills.now }
+        ensures { (result.work.now ≡ work.now) × (result.span ≡ span) × (result.gens.now ≡ gens.now) × (result.kills.now ≡ kills.now) }
+    {
+        Flow {
+            work,
+            span,
+            gens,
+            kills,
+        }
+    }
+
+    // Where point p leads.
     pub fn next(self, p: usize) -> Next
         requires { p < self.span.size }
         ensures { targets result ≡ leads (func_in self.entry.work.now self.entry.span) p }
     {
-        let i = self.span.base + p;
-        if tables::access_at(self.work, i) {
-            return Next::To(p + 1);
-        }
-        next_of(p, tables::point_at(self.work, i))
+        next_at(self.work, self.span, p)
     }
 
     // What leaves point p, to which the set m comes.

@@ -100,7 +100,7 @@ fn solve(work: &[u32], s: Span, gens: &Sets, kills: &mut Sets, sets: &mut Sets, 
     ensures { Tells work.now s sets.new state.new }
 {
     fill_kills(work, s, kills);
-    let flow = Flow { work, span: s, gens, kills };
+    let flow = Flow::new(work, s, gens, kills);
     forward::forward(flow, bits::low_bits(s.frame), sets, state);
 }
 

@@ -2,7 +2,7 @@
 use native.Mathlib.Omega.{arith}
 use mathlib.Core.Path.{sym, ◌∙◌}
 use Rattle.flow.proofs.Laws.{access-leads, point-leads}
-use Rattle.flow.proofs.Flow.next.Goals as goal
+use Rattle.flow.proofs.next_at.Goals as goal
 
 pub returns-then-access_at : goal.returns-then-access_at
 returns-then-access_at c = access-leads _ _ _ (omega arith) (sym c.if-access_at.true ∙ c.access_at.ensures)
