@@ -104,7 +104,7 @@ module _ (l output : List ℕ) {v : Verdict} (row : v ≡ row_verdict (length_ro
       → Puts l output (Ok n) output'
   long-enough e i o =
       let n = verdict-none (length_row (length output) (length l)) (sym row ∙ e) in
-      record { left = λ work. rw n (λ k. after_write (record { verdict = Accepted; written = i k }) work (o k)) }
+      record { left = λ work. rw n (λ k. after_write (Ok (i k)) work (o k)) }
 
 -- bytes that are those of a task which the rows of the service pass
 pub task-written : {asked : ℕ} (rows : Task → Option Refusal) (print : Task → List ℕ) {t : Task} {l w w' output output' : List ℕ} {r : Written}
