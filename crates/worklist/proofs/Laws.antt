@@ -7,7 +7,7 @@ use mathlib.Core.List.{List}
 use borrow.Author.Tests.{eq-eqb, ne_eqb}
 use lib.ListN.{length, get_or, set, length-set, get_or-map}
 use Rattle.std.specs.Prelude.{Some}
-use Rattle.std.proofs.lemmas.List.{map-set}
+use Rattle.std.proofs.lemmas.List.{map-set, length-map}
 use Rattle.model.specs.Limits.{most_points}
 use Rattle.tables.specs.Tables.{item, sum}
 use Rattle.tables.proofs.Laws.{sum-but, here, elsewhere, set-each}
@@ -189,8 +189,8 @@ ends-room e = omega (arith, e.ends, last_within e.pending e.some, e.pending.stat
 
 -- ---- tables of states
 
-pub state-of : (t : List Visit) (q : ℕ) → item (codes t) q ≡ code (get_or t q Unseen)
-state-of t q = get_or-map code t q Unseen
+pub in_state : (t : List Visit) (q : ℕ) {v : Visit} → get_or t q Unseen ≡ v → item (codes t) q ≡ code v
+in_state t q e = get_or-map code t q Unseen ∙ ap code e
 
 pub state_set : (t : List Visit) (q : ℕ) (v : Visit) → codes (set t q v) ≡ set (codes t) q (code v)
 state_set t q v = map-set code t q v
@@ -203,3 +203,6 @@ pub took-last : (t : List Visit) (l : List ℕ) (c : ℕ) → Sound (worklist_of
     → Took (worklist_of t l c) (worklist_of (set t (item l (c - 1)) Seen) l (c - 1)) (Some (item l (c - 1)))
 took-last t l c r h =
     rw (state_set t (item l (c - 1)) Seen) (sound-ends r h, refl, (pending-taken r.pending h).distinct)
+
+pub length-codes : (t : List Visit) → length (codes t) ≡ length t
+length-codes t = length-map t code
