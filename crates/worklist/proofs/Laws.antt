@@ -5,12 +5,15 @@ use native.Mathlib.Decide.{dec_lt, ℕ_discrete}
 use mathlib.Core.Path.{◌≡◌, refl, ap, sym, ◌∙◌}
 use mathlib.Core.List.{List}
 use borrow.Author.Tests.{eq-eqb, ne_eqb}
+use denote.Enum.Bare.{sameb}
+use lib.Dec.{eqb}
 use lib.ListN.{length, get_or, set, length-set, get_or-map}
 use Rattle.std.specs.Prelude.{Some}
 use Rattle.std.proofs.lemmas.List.{map-set, length-map}
 use Rattle.model.specs.Limits.{most_points}
 use Rattle.tables.specs.Tables.{item, sum}
 use Rattle.tables.proofs.Laws.{sum-but, here, elsewhere, set-each}
+use Rattle.worklist.specs.contracts.Visit.{the_type}
 use Rattle.worklist.specs.declared.Visit.{Visit}
 use Rattle.worklist.specs.declared.Visit.TheVariants.{Unseen, Seen, Waiting}
 use Rattle.worklist.specs.Worklist.{unseen, seen, waiting, code, codes, Worklist, worklist_of, Took, added, last, taken, Distinct, tally, Pending, Sound, Absent, Ends}
@@ -206,3 +209,9 @@ took-last t l c r h =
 
 pub length-codes : (t : List Visit) → length (codes t) ≡ length t
 length-codes t = length-map t code
+
+-- a state is compared with Unseen
+pub is-unseen : (v : Visit) → sameb the_type v Unseen ≡ eqb (code v) unseen
+is-unseen Unseen = refl
+is-unseen Seen = refl
+is-unseen Waiting = refl
