@@ -4,7 +4,7 @@ use native.Mathlib.Omega.{arith}
 use native.Mathlib.Decide.{ℕ_discrete}
 use mathlib.Core.Path.{◌≡◌, refl, ap, sym, ◌∙◌}
 use mathlib.Core.List.{List, Memᴰ}
-use lib.ListN.{length, length-set}
+use lib.ListN.{length-set}
 use Rattle.bits.specs.Bits.{set_bits, union, transfer}
 use Rattle.bits.proofs.Laws.{union-ge}
 use Rattle.model.specs.Walk.{leads}
@@ -17,17 +17,10 @@ use Rattle.flow.specs.Flow.{LeadsWithin, Given, targets}
 use Rattle.flow.proofs.Laws.{next_one, next_both}
 use Rattle.flow.specs.declared.Next.{Next}
 use Rattle.flow.specs.declared.Next.TheVariants.{Nowhere, To, Fork}
-use Rattle.worklist.specs.Worklist.{unseen, seen, waiting, tally, Worklist, worklist_of, taken, Absent, Ends}
-use Rattle.worklist.proofs.Laws.{tally-yes, tally-no, last-added, pending-added, last_within, last-waits, pending-taken}
-use Rattle.forward.specs.Visits.{Progress, progress_of, with_set, added_with, last_of, last_taken, LastThere, LastIs}
+use Rattle.worklist.specs.Worklist.{unseen, seen, waiting, tally, Worklist, taken, Absent, Ends}
+use Rattle.worklist.proofs.Laws.{tally-yes, tally-no, pending-added, last_within, last-waits, pending-taken}
+use Rattle.forward.specs.Visits.{Progress, with_set, added_with, last_of, last_taken}
 use Rattle.forward.specs.Visits.{Merged, Propagated, Visited, Visits, Listed, Mergeable, MergeableAll}
-
--- the last point of the worklist is there
-pub listed-last : {n : ℕ} {x : Progress} → Listed n x → LastThere x.sets x.list.points x.list.count
-listed-last {n} {x} l = (
-  omega (arith, l.pending.distinct.few, l.pending.room),
-  λ h. omega (arith, l.pending.within (x.list.count - 1) (omega arith), l.sets_long),
-)
 
 -- a point that does not wait is put at the end of the worklist
 pub listed-added : {n q : ℕ} {x : Progress} (m : ℕ) → Listed n x → q < n → (item x.list.state q ≡ waiting → ⊥) → Listed n (added_with q m x)
@@ -98,7 +91,6 @@ pub record Effect (n q m : ℕ) (x y : Progress) : Type 0 where
   pub set_here : item y.sets q ≡ union (item x.sets q) m
   pub found : item y.list.state q ≡ unseen → ⊥
   pub still : (item y.list.state q ≡ waiting → ⊥) → (item y.list.state q ≡ item x.list.state q) × (item y.sets q ≡ item x.sets q)
-  pub grown : x.list.count < y.list.count → q ≡ last_of y
 
 pub effect : {n q m : ℕ} {x y : Progress} → Listed n x → q < n → Merged q m x y → Effect n q m x y
 effect l h (Merged.rests s e) = record {
@@ -108,7 +100,6 @@ effect l h (Merged.rests s e) = record {
   set_here = sym e;
   found = s;
   still = λ d. (refl, refl);
-  grown = λ d. absurd (omega arith);
 }
 effect {n} {q} {m} {x} l h (Merged.grows s) =
     let u = union (item x.sets q) m in
@@ -127,7 +118,6 @@ effect {n} {q} {m} {x} l h (Merged.grows s) =
       set_here = g;
       found = λ e. omega arith;
       still = λ d. absurd (d s);
-      grown = λ d. absurd (omega arith);
     }
 effect {n} {q} {m} {x} l h (Merged.adds k d b) =
     let u = union (item x.sets q) m in
@@ -147,7 +137,6 @@ effect {n} {q} {m} {x} l h (Merged.adds k d b) =
       set_here = g;
       found = λ e. omega arith;
       still = λ i. absurd (i two);
-      grown = λ i. last-added q l.pending h k;
     }
 
 -- merges into the points to which a point leads preserve all that
@@ -198,8 +187,8 @@ pub progress-same : {s : List ℕ} {x y : Worklist} → x ≡ y → ◌≡◌ {A
 progress-same {s} d = λ i. record { sets = s; list = d i }
 
 -- a point that does not wait can go into the worklist
-pub ready-added : {q : ℕ} {x : Progress} → Mergeable q x → (item x.list.state q ≡ waiting → ⊥) → Absent q x.list × (q < length x.sets)
-ready-added r k = (record { n = r.n; below = r.below; pending = r.list.pending; absent = k }, omega (arith, r.below, r.list.sets_long))
+pub ready-added : {q : ℕ} {x : Progress} → Mergeable q x → (item x.list.state q ≡ waiting → ⊥) → Absent q x.list
+ready-added r k = record { n = r.n; below = r.below; pending = r.list.pending; absent = k }
 
 -- the ways in which the set m is merged into that of q, where u is the union
 module _ {q m u : ℕ} {x : Progress} (e : u ≡ union (item x.sets q) m) where
@@ -212,14 +201,6 @@ module _ {q m u : ℕ} {x : Progress} (e : u ≡ union (item x.sets q) m) where
   pub merged-adds : {y : Progress} → u < 2 ^ set_bits → y ≡ added_with q u x → (item x.list.state q ≡ waiting → ⊥)
       → ((item x.list.state q ≡ unseen → ⊥) → u ≡ item x.sets q → ⊥) → Merged q m x y
   merged-adds b d s t = rw (d, e) (Merged.adds s (rw e at t) (rw e at b))
-
--- the end of the worklist after a merge of m into the set of q
-pub merged-last : {q m v : ℕ} {x y : Progress} → Mergeable q x → v ≡ union (item x.sets q) m → Merged q m x y
-    → LastThere y.sets y.list.points y.list.count
-    × (x.list.count < y.list.count → LastIs y.sets y.list.points y.list.count (record { point = q; set = v }))
-merged-last r e a =
-    let f = effect r.list r.below a in
-    (listed-last f.on.list, λ d k. (f.grown d, e ∙ sym f.set_here))
 
 -- the points that are next are ready for a merge, the first of two after the merge into the second
 module _ {next : Next} {x : Progress} (r : MergeableAll (targets next) x) where
@@ -245,26 +226,17 @@ module _ {next : Next} {m : ℕ} {x : Progress} where
   pub propagated-two : {q p : ℕ} {y z : Progress} → next ≡ Fork q p → Merged p m x y → Merged q m y z → Propagated m (targets next) x z
   propagated-two e a b = rw e (Propagated.two a b)
 
--- the visit of p, the last point of the worklist
-pub ready-take : {n p : ℕ} {x : Progress} → Listed n x → 0 < x.list.count → p ≡ last_of x → Ends p x.list
-ready-take {n} l h e = record { n = n; pending = l.pending; some = h; ends = e }
-
--- once it is taken: c entries are left, and t are the states
-module _
-    {x : Progress}
-    {p c : ℕ}
-    {t : List ℕ}
-    (e : p ≡ last_of x)
-    (k : worklist_of t x.list.points c ≡ taken x.list) where
-  pub ready-visit : {w : List ℕ} {s : Span} {gens kills l : List ℕ} → Given w s gens kills → Listed s.size x → 0 < x.list.count
-      → l ≡ leads (func_in w s) p → MergeableAll l (progress_of x.sets t x.list.points c)
-  ready-visit {s = s} g l h d = record {
+-- the visit of p, the last point of the worklist; y is the worklist once it is taken
+module _ {x : Progress} {p : ℕ} {y : Worklist} (e : Ends p x.list) (k : y ≡ taken x.list) where
+  pub ready-visit : {w : List ℕ} {s : Span} {gens kills l : List ℕ} → Given w s gens kills → Listed s.size x
+      → l ≡ leads (func_in w s) p → MergeableAll l (record { sets = x.sets; list = y })
+  ready-visit {s = s} g l d = record {
     n = s.size;
-    inside = λ q m. g.fits.inside p q (rw e (last_within l.pending h)) (rw d at m);
-    list = rw k (preserved-taken l h).list;
+    inside = λ q m. g.fits.inside p q (rw e.ends (last_within l.pending e.some)) (rw d at m);
+    list = rw k (preserved-taken l e.some).list;
   }
 
-  pub visited : {next : ℕ → List ℕ} {gens kills l : List ℕ} {v m : ℕ} {y : Progress} → v ≡ item x.sets p
-      → m ≡ transfer v (item kills p) (item gens p) → l ≡ next p
-      → Propagated m l (progress_of x.sets t x.list.points c) y → Visited next gens kills x y
-  visited g f d a = record { merges = rw (k, f, g, d, e) at a }
+  pub visited : {next : ℕ → List ℕ} {gens kills l : List ℕ} {m : ℕ} {z : Progress}
+      → m ≡ transfer (item x.sets p) (item kills p) (item gens p) → l ≡ next p
+      → Propagated m l (record { sets = x.sets; list = y }) z → Visited next gens kills x z
+  visited f d a = record { merges = rw (k, f, d, e.ends) at a }

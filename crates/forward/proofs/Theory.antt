@@ -1,12 +1,13 @@
 -- What is found is carried by walks, and when the worklist is empty everything that walks carry is found. No code is mentioned.
-use Prim.Native.Nat.{ℕ, ◌^◌, ◌≤◌, ◌<◌, max}
+use Prim.Native.Nat.{ℕ, zero, suc, ◌^◌, ◌≤◌, ◌<◌, max}
 use native.Mathlib.Omega.{arith}
 use native.Mathlib.Decide.{ℕ_discrete}
 use mathlib.Core.Path.{◌≡◌, refl, ap, ◌∙◌}
 use mathlib.Core.List.Memᴰ
-use mathlib.Core.List.{List, Memᴰ}
+use mathlib.Core.List.{List, ◌∷◌, ◌++◌, Memᴰ}
 use mathlib.Core.Logic.{⊎_elim}
-use lib.ListN.{length}
+use lib.ListN.{length, take, drop, replicate}
+use Rattle.std.proofs.lemmas.List.{length-take-le, map-append, drop-map}
 use Rattle.bits.specs.Bits.{set_bits, bit, cleared}
 use Rattle.bits.proofs.Laws.{bit_le, bit-zero, bit-union, bit-transfer, length-cleared, item-cleared}
 use Rattle.model.specs.Limits.{most_points}
@@ -17,10 +18,12 @@ use Rattle.tables.proofs.Laws.{here, elsewhere, set-each}
 use Rattle.tables.proofs.Valid.{kept_on, kept_set}
 use Rattle.flow.specs.Flow.{LeadsWithin}
 use Rattle.flow.proofs.Laws.{kept-cleared}
-use Rattle.worklist.specs.Worklist.{unseen, seen, waiting, worklist_of, Absent}
+use Rattle.worklist.specs.declared.Visit.{Visit}
+use Rattle.worklist.specs.declared.Visit.TheVariants.{Unseen}
+use Rattle.worklist.specs.Worklist.{unseen, seen, waiting, codes, Absent}
 use Rattle.worklist.proofs.Laws.{pending-none, pending-empty, last_within, last-waits}
 use Rattle.forward.specs.Forward.{Carried, Solved}
-use Rattle.forward.specs.Visits.{Progress, progress_of, added_with, last_of, last_taken, leaving, Propagated, Visited, Visits, Listed}
+use Rattle.forward.specs.Visits.{Progress, added_with, last_of, last_taken, leaving, Propagated, Visited, Visits, Listed}
 use Rattle.forward.proofs.Steps.{listed-added, Effect, effect, preserved-visits, preserved-taken}
 
 -- ---- what comes to a point
@@ -212,7 +215,20 @@ module _ (next : ℕ → List ℕ) (n entry : ℕ) (gens kills : List ℕ) where
         held = λ p j h i c. (holds i c).2;
       }
 
+-- a table whose first n states are filled with Unseen
+codes-unseen : (n : ℕ) → codes (replicate n Unseen) ≡ replicate n 0
+codes-unseen zero = refl
+codes-unseen (suc n) = ap (λ (l : List ℕ). 0 ∷ l) (codes-unseen n)
+
+pub states-cleared : (n : ℕ) (t : List Visit) {front : List Visit} → n ≤ length t → front ≡ replicate (length (take n t)) Unseen
+    → codes (front ++ drop n t) ≡ cleared n (codes t)
+unfolding cleared
+states-cleared n t h e = rw (e, length-take-le n t h, map-append, codes-unseen n, drop-map)
+
 -- ---- the start and the whole: cleared tables, to which point 0 is added
+abbrev pub start_of : List ℕ → List ℕ → List ℕ → Progress
+start_of s t l = record { sets = s; list = record { state = t; points = l; count = 0 } }
+
 module _
     (n entry : ℕ)
     (s t l : List ℕ)
@@ -237,24 +253,24 @@ module _
   state_long = rw f (omega (arith, length-cleared n t j))
 
   -- the worklist is empty, and point 0 can be put there
-  start_none : Listed n (progress_of s' t' l 0)
+  start_none : Listed n (start_of s' t' l)
   start_none = record { sets_long = sets_long; pending = pending-none n t' l few k state_long zero-state }
 
   zero-waits : item t' 0 ≡ waiting → ⊥
   zero-waits d = omega (arith, zero-state 0 some)
 
-  pub start-absent : Absent 0 (worklist_of t' l 0) × (0 < length s')
+  pub start-absent : Absent 0 (start_of s' t' l).list × (0 < length s')
   start-absent = (record { n = n; below = some; pending = start_none.pending; absent = zero-waits }, omega (arith, some, sets_long))
 
-  pub start-listed : {x : Progress} → x ≡ added_with 0 entry (progress_of s' t' l 0) → Listed n x
+  pub start-listed : {x : Progress} → x ≡ added_with 0 entry (start_of s' t' l) → Listed n x
   start-listed g = rw g (listed-added entry start_none some zero-waits)
 
   module _ (next : ℕ → List ℕ) (gens kills : List ℕ) where
     -- every point but 0 is unseen, and 0 waits
-    start-zero : (a : ℕ) → a < n → (item (added_with 0 entry (progress_of s' t' l 0)).list.state a ≡ unseen → ⊥) → a ≡ 0
+    start-zero : (a : ℕ) → a < n → (item (added_with 0 entry (start_of s' t' l)).list.state a ≡ unseen → ⊥) → a ≡ 0
     start-zero a h u = elim (ℕ_discrete a 0) [ yes d ↦ d | no d ↦ absurd (u (elsewhere t' 0 a waiting d ∙ zero-state a h)) ]
 
-    start_right : Right next n entry gens kills (λ a. ⊥) (added_with 0 entry (progress_of s' t' l 0))
+    start_right : Right next n entry gens kills (λ a. ⊥) (added_with 0 entry (start_of s' t' l))
     start_right = record {
       reached = λ a h u. rw (start-zero a h u) Walk.here;
       carried = λ a b h m.
@@ -265,7 +281,7 @@ module _
     }
 
     -- visits until the worklist is empty solve the problem, and keep what lies past the n points
-    pub start-solved : {x y : Progress} → x ≡ added_with 0 entry (progress_of s' t' l 0) → LeadsWithin next n
+    pub start-solved : {x y : Progress} → x ≡ added_with 0 entry (start_of s' t' l) → LeadsWithin next n
         → ((a : ℕ) → item kills a < 2 ^ set_bits) → Visits next gens kills x y → y.list.count ≡ 0
         → Solved next n entry gens kills y.sets y.list.state × Kept n s y.sets × Kept n t y.list.state
     start-solved g inside small v z =

@@ -1,17 +1,17 @@
 -- The worklist algorithm, step by step: what each function of the crate does to the sets and the worklist.
-use Rattle.std.specs.Prelude.{ℕ, ◌-◌, ◌^◌, ◌≤◌, ◌<◌, ◌≡◌, length, set}
+use Rattle.std.specs.Prelude.{ℕ, ◌^◌, ◌≤◌, ◌<◌, ◌≡◌, length, set}
 use mathlib.Core.List.{List, [], ◌∷◌, Memᴰ}
 use Rattle.bits.specs.Bits.{set_bits, union, transfer}
 use Rattle.tables.specs.Tables.{item}
+use Rattle.worklist.specs.declared.Visit.{Visit}
 use Rattle.worklist.specs.Worklist.{unseen, waiting, Worklist, worklist_of, added, last, taken, Pending}
-use Rattle.forward.specs.declared.Last.{Last}
 
 -- how far the visits have come: the set of each point, and the worklist with the states
 pub record Progress : Type 0 where
   pub sets : List ℕ
   pub list : Worklist
 
-abbrev pub progress_of : List ℕ → List ℕ → List ℕ → ℕ → Progress
+abbrev pub progress_of : List ℕ → List Visit → List ℕ → ℕ → Progress
 progress_of s t l c = record { sets = s; list = worklist_of t l c }
 
 -- point q has the set m
@@ -28,13 +28,6 @@ last_of x = last x.list
 
 abbrev pub last_taken : Progress → Progress
 last_taken x = record { sets = x.sets; list = taken x.list }
-
--- the first count entries of the worklist l are there, and so is the set of the last of them; at is that point and its set
-abbrev pub LastThere : List ℕ → List ℕ → ℕ → Type 0
-LastThere sets l count = (count ≤ length l) × (0 < count → item l (count - 1) < length sets)
-
-abbrev pub LastIs : List ℕ → List ℕ → ℕ → Last → Type 0
-LastIs sets l count at = 0 < count → (at.point ≡ item l (count - 1)) × (at.set ≡ item sets at.point)
 
 -- the set m is merged into that of point q, which becomes the union: it brings nothing new; q waits already; q goes into the worklist, since it
 -- is seen for the first time or its set has grown

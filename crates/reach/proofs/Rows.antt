@@ -3,12 +3,13 @@ use Prim.Native.Nat.{ℕ, zero, suc, ◌+◌, ◌-◌, ◌≤◌, ◌<◌}
 use native.Mathlib.Nat.{sub-zero}
 use native.Mathlib.Omega.{arith}
 use mathlib.Core.Path.{◌≡◌, refl, ap, sym, ◌∙◌}
-use mathlib.Core.Bool.{Bool, true, false}
+use mathlib.Core.Bool.{Bool, true, false, not}
 use mathlib.Core.List.{List}
 use mathlib.Core.Option.{Option, none, some}
-use lib.Dec.{T}
-use lib.ListN.{take}
-use Rattle.std.proofs.lemmas.List.{get_or-take}
+use denote.Enum.Bare.{sameb}
+use lib.Dec.{T, eqb}
+use lib.ListN.{take, get_or}
+use Rattle.std.proofs.lemmas.List.{get_or-take, take-map}
 use Rattle.model.specs.declared.Refusal.{Refusal}
 use Rattle.model.specs.declared.Row.{Row}
 use Rattle.model.specs.declared.Row.TheVariants.{Unreachable, Uninitialised}
@@ -26,6 +27,11 @@ use Rattle.tables.specs.declared.Span.{Span}
 use Rattle.tables.specs.Tables.{base_at, size_at, span_at, func_of, task_of, opening_line, line_in}
 use Rattle.tables.specs.Valid.{Holds}
 use Rattle.tables.proofs.Laws.{func-is, size_is, line-is, count-is}
+use Rattle.worklist.specs.contracts.Visit.{the_type}
+use Rattle.worklist.specs.declared.Visit.{Visit}
+use Rattle.worklist.specs.declared.Visit.TheVariants.{Unseen}
+use Rattle.worklist.specs.Worklist.{code, codes}
+use Rattle.worklist.proofs.Laws.{is-unseen, in_state}
 use Rattle.reach.specs.Reach.{loads_stored, Clean, CleanBefore, Tells, seen, initialised, failing_at, first_failing}
 use Rattle.reach.specs.Reach.{reach_in, load_in, verdict_from}
 
@@ -64,9 +70,12 @@ module _ (row : Row) (f : ℕ) (s : Span) (test : ℕ → Bool) where
     unfolding Searching
     searching-end h = search-end _ p s.size i h
 
--- a mark among the first n
-pub seen-front : {n p : ℕ} (l : List ℕ) {b : Bool} → p < n → seen (take n l) p ≡ b → seen l p ≡ b
-seen-front {n} {p} l h e = rw (← get_or-take n l p 0 h) e
+-- a mark as it is tested, and among the first n
+pub seen-test : (l : List Visit) (p : ℕ) → not (sameb the_type (get_or l p Unseen) Unseen) ≡ seen (codes l) p
+seen-test l p = ap not (is-unseen (get_or l p Unseen)) ∙ ap (λ (s : ℕ). not (eqb s 0)) (sym (in_state l p refl))
+
+pub seen-front : {n p : ℕ} (l : List Visit) {b : Bool} → p < n → seen (codes (take n l)) p ≡ b → seen (codes l) p ≡ b
+seen-front {n} {p} l h e = rw (← get_or-take n (codes l) p 0 h, take-map code n l) e
 
 -- what the tables say of function f of the task that they hold
 module _ {w : List ℕ} {h : Header} (k : Holds w h) (f : ℕ) (l : f < h.funcs) where

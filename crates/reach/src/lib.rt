@@ -12,11 +12,13 @@ ghost use Rattle.model.specs.Walk.{stored, is};
 ghost use Rattle.model.specs.WellFormed.{Shaped, Linked};
 ghost use Rattle.tables.specs.Tables.{item, point_at, task_of};
 ghost use Rattle.tables.specs.Valid.{Holds, Fits};
+ghost use Rattle.worklist.specs.Worklist.{codes};
 ghost use Rattle.reach.specs.Reach.{HoldsLinked, first_failing, seen, initialised, Tells, verdict_from};
 
 use flow::Flow;
 use model::{Limits, Refusal, Row, Verdict};
 use tables::{Header, Span};
+use worklist::Visit;
 
 mod calls;
 mod point;
@@ -33,17 +35,17 @@ struct Scratch {
     gens: Sets,
     kills: Sets,
     sets: Sets,
-    state: Bytes,
+    state: [Visit; Limits::POINTS],
     ghost no_gens: { (p : ℕ) → item gens p ≡ 0 },
 }
 
 // Every point is marked as reached. The loop always runs through, so that several marks are looked at at a time.
-fn all_reached(state: &[u8]) -> bool
-    ensures { result ≡ true → (p : ℕ) → p < length state.now → seen state.now p ≡ true }
+fn all_reached(state: &[Visit]) -> bool
+    ensures { result ≡ true → (p : ℕ) → p < length state.now → seen (codes state.now) p ≡ true }
 {
     let mut all = true;
     for mark in state {
-        if *mark == 0 {
+        if *mark == Visit::Unseen {
             all = false;
         }
     }
@@ -68,14 +70,14 @@ fn first_failing<F: Fn(usize) -> bool>(row: Row, f: usize, s: Span, passes: F) -
 }
 
 // Refusal 11 in function f: the first point that is not marked as reached.
-fn first_unreached(f: usize, s: Span, state: &[u8]) -> Verdict
+fn first_unreached(f: usize, s: Span, state: &[Visit]) -> Verdict
     requires { (f < most_funcs) × (s.base + s.size ≤ most_in_all) × (s.size ≤ length state.now) }
-    ensures { result ≡ row_verdict (first_failing Unreachable f s (seen state.now)) }
+    ensures { result ≡ row_verdict (first_failing Unreachable f s (seen (codes state.now))) }
 {
     if all_reached(&state[..s.size]) {
         return Ok(());
     }
-    first_failing(Row::Unreachable, f, s, |p| state[p] != 0)
+    first_failing(Row::Unreachable, f, s, |p| state[p] != Visit::Unseen)
 }
 
 // Refusal 13 in function f: the first load whose offset is in its set, so that some walk reaches it with no store of the offset before.
@@ -100,7 +102,7 @@ fn fill_kills(work: &[u32], s: Span, kills: &mut [u64])
 // Runs the kernel over a function. At its entry no offset of the frame is stored; a store kills its own.
 fn solve(work: &[u32], s: Span, scratch: &mut Scratch)
     requires { Fits work.now s }
-    ensures { Tells work.now s scratch.new.sets scratch.new.state }
+    ensures { Tells work.now s scratch.new.sets (codes scratch.new.state) }
 {
     fill_kills(work, s, &mut scratch.kills);
     let flow = Flow::new(work, s, &scratch.gens, &scratch.kills);
@@ -121,7 +123,7 @@ fn solved_rows(work: &[u32], h: Header, first: usize, calls: Verdict) -> Verdict
         gens: [0; Limits::POINTS],
         kills: [0; Limits::POINTS],
         sets: [0; Limits::POINTS],
-        state: [0; Limits::POINTS],
+        state: [Visit::Unseen; Limits::POINTS],
     };
     let mut kept = calls;
     for f in first..h.funcs {

@@ -5,11 +5,18 @@ use native.Mathlib.Decide.{dec_lt, ℕ_discrete}
 use mathlib.Core.Path.{◌≡◌, refl, ap, sym, ◌∙◌}
 use mathlib.Core.List.{List}
 use borrow.Author.Tests.{eq-eqb, ne_eqb}
-use lib.ListN.{length, set, length-set}
+use denote.Enum.Bare.{sameb}
+use lib.Dec.{eqb}
+use lib.ListN.{length, get_or, set, length-set, get_or-map}
+use Rattle.std.specs.Prelude.{Some}
+use Rattle.std.proofs.lemmas.List.{map-set, length-map}
 use Rattle.model.specs.Limits.{most_points}
 use Rattle.tables.specs.Tables.{item, sum}
 use Rattle.tables.proofs.Laws.{sum-but, here, elsewhere, set-each}
-use Rattle.worklist.specs.Worklist.{unseen, seen, waiting, Worklist, worklist_of, added, last, taken, Distinct, tally, Pending, Absent, Ends}
+use Rattle.worklist.specs.contracts.Visit.{the_type}
+use Rattle.worklist.specs.declared.Visit.{Visit}
+use Rattle.worklist.specs.declared.Visit.TheVariants.{Unseen, Seen, Waiting}
+use Rattle.worklist.specs.Worklist.{unseen, seen, waiting, code, codes, Worklist, worklist_of, Took, added, last, taken, Distinct, tally, Pending, Sound, Absent, Ends}
 
 -- ---- sums
 
@@ -64,7 +71,7 @@ waits-at state p = tally waiting (item state p)
 
 -- where every point is unseen it is empty
 pub pending-none : (n : ℕ) (t l : List ℕ) → n ≤ most_points → length l ≡ most_points → n ≤ length t → ((p : ℕ) → p < n → item t p ≡ unseen)
-    → Pending n (worklist_of t l 0)
+    → Pending n (record { state = t; points = l; count = 0 })
 pending-none n t l few room long clear = record {
   small = omega arith;
   room = room;
@@ -174,13 +181,37 @@ absent-room {q} a =
 pub absent-added : {q : ℕ} {x : Worklist} → Absent q x → Distinct (added q x)
 absent-added {q} a = distinct-added q a.pending a.below a.absent
 
--- ---- what take asks
+-- ---- what take leaves
 
--- the last point has its state
+-- the last point, which has its state
+pub sound-ends : {x : Worklist} (r : Sound x) → 0 < x.count → Ends (last x) x
+sound-ends r h = record { n = r.n; pending = r.pending; some = h; ends = refl }
+
 pub ends-room : {p : ℕ} {x : Worklist} → Ends p x → p < length x.state
 ends-room e = omega (arith, e.ends, last_within e.pending e.some, e.pending.state_long)
 
--- and is taken
-pub ends-taken : {p : ℕ} {x : Worklist} → Ends p x → (worklist_of (set x.state p seen) x.points (x.count - 1) ≡ taken x)
-    × Distinct (worklist_of (set x.state p seen) x.points (x.count - 1))
-ends-taken e = (rw e.ends, rw e.ends (pending-taken e.pending e.some).distinct)
+-- ---- tables of states
+
+pub in_state : (t : List Visit) (q : ℕ) {v : Visit} → get_or t q Unseen ≡ v → item (codes t) q ≡ code v
+in_state t q e = get_or-map code t q Unseen ∙ ap code e
+
+pub state_set : (t : List Visit) (q : ℕ) (v : Visit) → codes (set t q v) ≡ set (codes t) q (code v)
+state_set t q v = map-set code t q v
+
+-- a point is put, and the last one is taken
+pub put_added : (t : List Visit) (l : List ℕ) (c q : ℕ) → worklist_of (set t q Waiting) (set l c q) (c + 1) ≡ added q (worklist_of t l c)
+put_added t l c q = rw (state_set t q Waiting)
+
+pub took-last : (t : List Visit) (l : List ℕ) (c : ℕ) → Sound (worklist_of t l c) → 0 < c
+    → Took (worklist_of t l c) (worklist_of (set t (item l (c - 1)) Seen) l (c - 1)) (Some (item l (c - 1)))
+took-last t l c r h =
+    rw (state_set t (item l (c - 1)) Seen) (sound-ends r h, refl, (pending-taken r.pending h).distinct)
+
+pub length-codes : (t : List Visit) → length (codes t) ≡ length t
+length-codes t = length-map t code
+
+-- a state is compared with Unseen
+pub is-unseen : (v : Visit) → sameb the_type v Unseen ≡ eqb (code v) unseen
+is-unseen Unseen = refl
+is-unseen Seen = refl
+is-unseen Waiting = refl

@@ -1,47 +1,56 @@
 // The points of one function that are still to visit: a worklist of bytes, at most Limits::POINTS of them and none twice.
 #![tactic(auto)]
 
-ghost use Rattle.std.specs.Prelude.{◌≡◌, ◌-◌, ◌<◌, ◌≤◌, length};
-ghost use Rattle.tables.specs.Tables.{item};
-ghost use Rattle.worklist.specs.Worklist.{worklist_of, added, taken, Distinct, Absent, Ends};
+ghost use Rattle.std.specs.Prelude.{◌≡◌, length};
+ghost use Rattle.worklist.specs.Worklist.{worklist_of, added, Distinct, Sound, Absent, Took};
 
 // The state of a point: no walk has come to it; one has; one has, and the point is in the worklist.
-#[derive(Clone, Copy)]
-pub struct Visit;
-
-impl Visit {
-    pub const UNSEEN: u8 = 0;
-
-    pub const SEEN: u8 = 1;
-
-    pub const WAITING: u8 = 2;
+#[derive(Clone, Copy, PartialEq, Eq)]
+pub enum Visit {
+    Unseen,
+    Seen,
+    Waiting,
 }
 
-// The worklist is a stack. Point q, which does not wait, is put at its end.
-pub fn put(state: &mut [u8], points: &mut [u8], count: usize, q: usize) -> usize
-    requires { Absent q (worklist_of state.old points.old count) }
-    ensures { (worklist_of state.new points.new result ≡ added q (worklist_of state.old points.old count))
-        × Distinct (worklist_of state.new points.new result) }
-{
-    state[q] = Visit::WAITING;
-    points[count] = q as u8;
-    count + 1
+// A stack with room for N points.
+#[derive(Drop)]
+pub struct Worklist<const N: usize> {
+    points: [u8; N],
+    count: usize,
 }
 
-// Its last point.
-pub fn last(points: &[u8], count: usize) -> usize
-    requires { (0 < count) × (count ≤ length points.now) }
-    ensures { result ≡ item points.now (count - 1) }
-{
-    numbers::wide_u8(points[count - 1])
-}
+impl<const N: usize> Worklist<N> {
+    pub fn new() -> Self
+        ensures { (length result.points ≡ N) × (result.count ≡ 0) }
+    {
+        Worklist {
+            points: [0; N],
+            count: 0,
+        }
+    }
 
-// Its last point p is taken, and waits no longer. A caller has p at hand, with no load; points is lent for the contract alone.
-pub fn take(state: &mut [u8], points: &[u8], count: usize, p: usize) -> usize
-    requires { Ends p (worklist_of state.old points.now count) }
-    ensures { (worklist_of state.new points.now result ≡ taken (worklist_of state.old points.now count))
-        × Distinct (worklist_of state.new points.now result) }
-{
-    state[p] = Visit::SEEN;
-    count - 1
+    // Point q, which does not wait, is put at its end.
+    pub fn put(&mut self, state: &mut [Visit], q: usize)
+        requires { Absent q (worklist_of state.old self.old.points self.old.count) }
+        ensures { (worklist_of state.new self.new.points self.new.count ≡ added q (worklist_of state.old self.old.points self.old.count))
+            × Distinct (worklist_of state.new self.new.points self.new.count) }
+    {
+        state[q] = Visit::Waiting;
+        self.points[self.count] = q as u8;
+        self.count += 1;
+    }
+
+    // Its last point, which is taken, and waits no longer.
+    pub fn take(&mut self, state: &mut [Visit]) -> Option<usize>
+        requires { Sound (worklist_of state.old self.old.points self.old.count) }
+        ensures { Took (worklist_of state.old self.old.points self.old.count) (worklist_of state.new self.new.points self.new.count) result }
+    {
+        if self.count == 0 {
+            return None;
+        }
+        self.count -= 1;
+        let p = self.points[self.count] as usize;
+        state[p] = Visit::Seen;
+        Some(p)
+    }
 }

@@ -1,26 +1,36 @@
--- Each way out of the function is one way in which the set is merged.
+-- Each arm is one way in which the set is merged.
 use native.Mathlib.Omega.{arith}
-use Rattle.forward.proofs.Steps.{ready-added, merged-rests, merged-grows, merged-adds}
+use Rattle.worklist.proofs.Laws.{in_state}
+use Rattle.forward.proofs.Steps.{ready-added, merged-rests, merged-grows, merged-adds, progress-same}
+use Rattle.forward.proofs.merge.Goals.{in_default-via-in-Seen+else-new-old, in_default-via-in_default}
 use Rattle.forward.proofs.merge.Goals as goal
 
-pub add_to_list-requires : goal.add_to_list-requires
-add_to_list-requires c = ready-added c.requires (λ e. omega (arith, c.if-s-eq-UNSEEN.true))
+pub returns-in-Waiting : goal.returns-in-Waiting
+returns-in-Waiting c = merged-grows c.union_of-new.ensures (in_state c.args.state.now c.args.q c.in-Waiting.is)
 
-pub returns-then-s-eq-UNSEEN : goal.returns-then-s-eq-UNSEEN
-returns-then-s-eq-UNSEEN c =
+pub returns-in-Seen : goal.returns-in-Seen
+returns-in-Seen c =
+    let s = in_state c.args.state.now c.args.q c.in-Seen.is in
+    merged-rests c.union_of-new.ensures (λ e. omega (arith, s)) c.if-new-old.true
+
+pub put-requires : goal.put-requires
+put-requires c = elim c.in_default.branch [
+  | in_default-via-in-Seen+else-new-old w ↦
+      let s = in_state c.args.state.now c.args.q w.in-Seen.is in
+      (omega arith, ready-added c.requires (λ e. omega (arith, s)))
+  | in_default-via-in_default w ↦
+      let s = in_state c.args.state.now c.args.q w.in_default.is in
+      (omega arith, ready-added c.requires (λ e. omega (arith, s)))
+]
+
+pub returns-in_default : goal.returns-in_default
+returns-in_default c =
     let u = c.union_of-new in
-    merged-adds u.ensures (omega (arith, u.type_inv)) c.add_to_list.ensures (λ e. omega (arith, c.if-s-eq-UNSEEN.true)) (λ e. absurd (e c.if-s-eq-UNSEEN.true))
-
-pub returns-then-new-old : goal.returns-then-new-old
-returns-then-new-old c = search (merged-rests, c.if-s-eq-UNSEEN.false)
-
-pub returns-then-s-eq-WAITING : goal.returns-then-s-eq-WAITING
-returns-then-s-eq-WAITING c = search merged-grows
-
-pub add_to_list-requires-2 : goal.add_to_list-requires-2
-add_to_list-requires-2 c = ready-added c.requires c.if-s-eq-WAITING.false
-
-pub returns : goal.returns
-returns c =
-    let u = c.union_of-new in
-    merged-adds u.ensures (omega (arith, u.type_inv)) c.add_to_list-2.ensures c.if-s-eq-WAITING.false (λ e. c.if-new-old.false)
+    elim c.in_default.branch [
+      | in_default-via-in-Seen+else-new-old w ↦
+          let s = in_state c.args.state.now c.args.q w.in-Seen.is in
+          merged-adds u.ensures (omega (arith, u.type_inv)) (progress-same c.put.ensures.0) (λ e. omega (arith, s)) (λ k. w.if-new-old.false)
+      | in_default-via-in_default w ↦
+          let s = in_state c.args.state.now c.args.q w.in_default.is in
+          merged-adds u.ensures (omega (arith, u.type_inv)) (progress-same c.put.ensures.0) (λ e. omega (arith, s)) (λ k. absurd (k s))
+    ]

@@ -2,8 +2,9 @@
 use Prim.Native.Nat.{ℕ, ◌<◌}
 use mathlib.Core.Bool.{true}
 use mathlib.Core.Path.{◌≡◌}
+use Rattle.worklist.specs.Worklist.{codes}
 use Rattle.reach.specs.Reach.{seen}
 use Rattle.reach.proofs.all_reached.Given as goal
 
 abbrev pub invariant-loop-mark : goal.invariant-loop-mark
-invariant-loop-mark l = l.all ≡ true → (q : ℕ) → q < l.mark-index → seen l.state q ≡ true
+invariant-loop-mark l = l.all ≡ true → (q : ℕ) → q < l.mark-index → seen (codes l.state) q ≡ true

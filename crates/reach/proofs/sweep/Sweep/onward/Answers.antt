@@ -7,7 +7,7 @@ use mathlib.Core.Path.{refl, ap, ◌∙◌}
 use borrow.Author.Tests.{not-false}
 use Rattle.flow.specs.Flow.{targets}
 use Rattle.reach.proofs.Theory.{moved_none, moved_more}
-use Rattle.reach.proofs.sweep.onward.Goals as goal
+use Rattle.reach.proofs.sweep.Sweep.onward.Goals as goal
 
 pub returns-then-arrive-2 : goal.returns-then-arrive-2
 returns-then-arrive-2 c x h =

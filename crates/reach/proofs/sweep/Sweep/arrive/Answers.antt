@@ -2,7 +2,7 @@
 use native.Mathlib.Omega.{arith}
 use borrow.Author.Tests.{eqb-true}
 use Rattle.reach.proofs.Theory.{moved-above, moved-below}
-use Rattle.reach.proofs.sweep.arrive.Goals as goal
+use Rattle.reach.proofs.sweep.Sweep.arrive.Goals as goal
 
 pub returns-then-p-q : goal.returns-then-p-q
 returns-then-p-q c e = moved-above _ _ _ _ (omega arith) (omega arith) (omega arith) c.union_at.ensures

@@ -2,13 +2,13 @@
 use native.Mathlib.Omega.{arith}
 use Rattle.tables.proofs.Valid.{offsets-fit}
 use Rattle.reach.proofs.Points.{access-stepped, other-there}
-use Rattle.reach.proofs.sweep.visit.Goals as goal
+use Rattle.reach.proofs.sweep.Sweep.visit.Goals as goal
 
 pub returns-then-access_at : goal.returns-then-access_at
 returns-then-access_at c =
     let a = c.args in
     access-stepped _ a.s _ c.requires.1 c.access_at.ensures _ c.if-access_at.true c.point_at.ensures
-    a.mark a.sets.now a.marks.now c.access.result c.access.ensures
+    a.mark a.self.now.sets a.self.now.marks c.access.result c.access.ensures
 
 pub onward-requires : goal.onward-requires
 onward-requires c =
