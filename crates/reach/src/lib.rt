@@ -14,6 +14,7 @@ ghost use Rattle.tables.specs.Tables.{item, point_at, task_of};
 ghost use Rattle.tables.specs.Valid.{Holds, Fits};
 ghost use Rattle.reach.specs.Reach.{HoldsLinked, first_failing, seen, initialised, Tells, is_refused, first_verdict, verdict_from};
 
+use flow::Flow;
 use model::{Limits, Refusal, Row, Verdict};
 use tables::{Header, Span};
 
@@ -99,7 +100,8 @@ fn solve(work: &[u32], s: Span, gens: &Sets, kills: &mut Sets, sets: &mut Sets, 
     ensures { Tells work.now s sets.new state.new }
 {
     fill_kills(work, s, kills);
-    forward::forward(work, s, bits::low_bits(s.frame), gens, kills, sets, state);
+    let flow = Flow::new(work, s, gens, kills);
+    forward::forward(flow, bits::low_bits(s.frame), sets, state);
 }
 
 fn refuses(v: Verdict) -> bool

@@ -1,7 +1,6 @@
 -- While the flag is up, every point before p is marked as reached.
-use Prim.Native.Nat.{◌-◌}
 use native.Mathlib.Omega.{arith}
-use mathlib.Core.Bool.{true, not, true≢false}
+use mathlib.Core.Bool.{not, true≢false}
 use mathlib.Core.Path.{ap, sym}
 use borrow.Author.Count.{below_more}
 use borrow.Author.Tests.{ne_eqb}

@@ -1,5 +1,4 @@
 -- No point before p loads an offset that is in its set.
-use Prim.Native.Nat.{◌-◌}
 use Rattle.tables.proofs.Valid.{offsets-fit}
 use Rattle.reach.proofs.Points.{test-had}
 use Rattle.reach.proofs.Rows.{searching-none, searching-on, searching-off, searching-end}

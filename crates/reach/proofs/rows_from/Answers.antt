@@ -1,5 +1,4 @@
 -- What is kept, with what the functions from f on give, is what those from the first on give.
-use Prim.Native.Nat.{◌-◌}
 use native.Mathlib.Omega.{arith}
 use mathlib.Core.Path.{refl, sym, ◌∙◌}
 use Rattle.reach.proofs.Answers.{ready-fits}

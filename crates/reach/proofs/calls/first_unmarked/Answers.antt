@@ -1,5 +1,4 @@
 -- Of the functions from 1 on, those from f on decide.
-use Prim.Native.Nat.{◌-◌}
 use native.Mathlib.Omega.{arith}
 use mathlib.Core.Path.{refl, ap}
 use Rattle.theory.proofs.Search.{search-on, search-off, search-end}

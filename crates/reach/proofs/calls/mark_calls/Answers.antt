@@ -1,5 +1,4 @@
 -- The points before i have marked the functions that they call.
-use Prim.Native.Nat.{◌-◌}
 use native.Mathlib.Omega.{arith}
 use mathlib.Core.Path.{◌≡◌}
 use Rattle.reach.proofs.Called.{mark-start, mark-more}
