@@ -112,7 +112,16 @@ pub fn each_point<F: Fn(usize) -> u32>(s: Span, out: &mut [u32], value: F)
     }
 }
 
-// The first n values go to the working space from number at on.
+// The values of the points of s go into a column of the points.
+pub fn put_points(work: &mut [u32], column: usize, s: Span, values: &[u32])
+    requires { (column + s.base + s.size ≤ length work.old) × (s.size ≤ length values.now) }
+    ensures { Put (column + s.base) s.size values.now work.old work.new }
+{
+    let at = column + s.base;
+    work[at..at + s.size].copy_from_slice(&values[..s.size]);
+}
+
+// The first n values go to the working space from number at on. `bounds` still lends its buffers so.
 pub fn put_column(work: &mut [u32], at: usize, values: &[u32], n: usize)
     requires { (at + n ≤ length work.old) × (n ≤ length values.now) }
     ensures { Put at n values.now work.old work.new }

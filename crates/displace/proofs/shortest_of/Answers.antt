@@ -29,6 +29,12 @@ lowest_level-level-requires c =
     let i = ordered-fits a.0 a.1 a.2 in
     (i, levels-low a.0 a.1 a.2 (filled-as (λ p v h e. search rules) c.each_point.ensures))
 
+pub returns : goal.returns
+returns c =
+    let a = c.requires in
+    let k = rw c.in-Some.is at a.3 in
+    shortest-here a.0 a.1 a.2 (filled-as (λ p v h e. search rules) c.each_point.ensures) k.least c.lowest_level-level.ensures.0 c.called_least.ensures
+
 pub overflow_add-result : goal.overflow_add-result
 overflow_add-result c =
     let a = c.requires in
@@ -38,9 +44,3 @@ overflow_add-result c =
       shortest-here a.0 a.1 a.2 (filled-as (λ p v h e. search rules) c.each_point.ensures) k.least c.lowest_level-level.ensures.0 c.called_least.ensures,
       shortest-low a.0.displacing.ready.settled.formed.shaped c.args.f,
     )
-
-pub returns : goal.returns
-returns c =
-    let a = c.requires in
-    let k = rw c.in-Some.is at a.3 in
-    shortest-here a.0 a.1 a.2 (filled-as (λ p v h e. search rules) c.each_point.ensures) k.least c.lowest_level-level.ensures.0 c.called_least.ensures
