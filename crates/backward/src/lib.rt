@@ -55,6 +55,6 @@ pub fn backward(flow: Flow, sets: &mut [u64])
     ensures { Solved (leads (func_in flow.entry.work.now flow.entry.span)) flow.entry.span.size flow.entry.gens.now flow.entry.kills.now sets.new
         × Kept flow.entry.span.size sets.old sets.new }
 {
-    bits::clear_sets(sets, flow.span.size);
+    sets[..flow.span.size].fill(0);
     while round(flow, sets) {}
 }

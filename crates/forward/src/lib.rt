@@ -197,8 +197,8 @@ fn solve(flow: Flow, entry: u64, sets: &mut [u64], state: &mut [u8], points: &mu
         sets.new state.new
         × Kept flow.entry.span.size sets.old sets.new × Kept flow.entry.span.size state.old state.new }
 {
-    bits::clear_sets(sets, flow.span.size);
-    bits::clear_marks(state, flow.span.size);
+    sets[..flow.span.size].fill(0);
+    state[..flow.span.size].fill(0);
     let count = add_to_list(sets, state, points, 0, 0, entry);
     drain(flow, sets, state, points, count);
 }
