@@ -14,7 +14,6 @@ ghost use Rattle.displace.specs.Range.{widened, RangeOf};
 ghost use Rattle.levels.specs.Levels.{largest_within, shortest_in, level_in, Room};
 ghost use Rattle.displace.specs.Ordered.{Ordered};
 
-use bits::Set;
 use columns::Columns;
 use problems::{Numbers, Scratch};
 use tables::{Header, Span};
@@ -67,7 +66,7 @@ fn called_least(work: &[u32], m: usize, n: usize, level: u32, least: u32) -> u32
         then largest_within (level_in work.now) (shortest_in work.now) m n level
         else least) }
 {
-    if level < Set::BITS {
+    if level < u64::BITS {
         levels::largest_within(work, m, n, level)
     } else {
         least

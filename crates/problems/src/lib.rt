@@ -10,7 +10,6 @@ ghost use Rattle.tables.specs.Valid.{Fits};
 ghost use Rattle.flow.specs.Flow.{Given};
 ghost use Rattle.problems.specs.Problems.{Filled, Gives, Takes, Blocks, Answered, lowest_level, Used, KeptIn, CutIn, EachReached};
 
-use bits::Set;
 use effects::Problem;
 use flow::Flow;
 use model::Limits;
@@ -105,7 +104,7 @@ pub fn lowest_level(work: &[u32], s: Span, levels: &Numbers, x: &mut Scratch) ->
     ensures { (result ≡ lowest_level (func_in work.now s) levels.now) × Used s.size x.old x.new }
 {
     solve(Problem::CallLevels, work, s, levels, x);
-    bits::lowest_of(x.sets[0], Set::BITS)
+    bits::lowest_of(x.sets[0], u64::BITS)
 }
 
 // The largest part of the frame that is kept at a first ensure on walks from each point of a function; kept has what is kept at each ensure.
