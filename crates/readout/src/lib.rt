@@ -2,12 +2,8 @@
 // difference or a sum is computed here, where it is read.
 #![tactic(auto)]
 
-ghost use Rattle.std.specs.Prelude.{◌≡◌, ◌+◌, ◌-◌, ◌<◌, ◌≤◌};
-ghost use Rattle.model.specs.Limits.{most_stack};
+ghost use Rattle.std.specs.Prelude.{◌≡◌, ◌<◌};
 ghost use Rattle.tables.specs.Tables.{size_at};
-ghost use Rattle.prices.specs.Prices.{price_of, most_price, Small};
-ghost use Rattle.columns.specs.Values.{most_chain};
-ghost use Rattle.readout.specs.Sheet.{sheet_in};
 ghost use Rattle.readout.specs.Readable.{Readable, figured_of, func_figures};
 ghost use Rattle.readout.specs.Unique.{readable_prop};
 
