@@ -1,8 +1,7 @@
 -- The services on the empty text, by computation (document 02, request 14).
-use Rattle.std.specs.Prelude.{◌≡◌, refl, [], ◌∷◌, ◌++◌, replicate}
+use Rattle.std.specs.Prelude.{◌≡◌, refl, [], ◌∷◌, ◌++◌, replicate, Ok, Err}
 use Rattle.model.specs.declared.Row.TheVariants.{WorkTooSmall, PriceRange, OutputTooSmall, EventList, AnswersTooSmall}
 use Rattle.model.specs.declared.Eviction.TheVariants.{Eager}
-use Rattle.model.specs.declared.Verdict.TheVariants.{Accepted, Refused}
 use Rattle.model.specs.declared.Ending.TheVariants as ending
 use Rattle.model.specs.Rows.{refuse}
 use Rattle.model.specs.Services.{report_of, dearest_of, run_of}
@@ -13,21 +12,21 @@ use Rattle.model.specs.Examples.{lines, space, space_after}
 pub written :
     (report_of [] 0 1 space (replicate 30 7)
     ≡ record {
-      result = record { verdict = Accepted; written = 22 };
+      result = Ok 22;
       work = space_after;
       output = lines ("(report" ∷ "  (total 0)" ∷ ")" ∷ []) ++ replicate 8 7;
     })
     × ((report_of [] 10 3 space (replicate 22 7)).output ≡ lines ("(report" ∷ "  (total 0)" ∷ ")" ∷ []))
-    × ((report_of [] 0 1 space (replicate 21 7)).result ≡ record { verdict = Refused (refuse OutputTooSmall 22); written = 0 })
+    × ((report_of [] 0 1 space (replicate 21 7)).result ≡ Err (refuse OutputTooSmall 22))
     × (report_of [] 0 1 (9 ∷ []) (replicate 30 7)
     ≡ record {
-      result = record { verdict = Refused (refuse WorkTooSmall 16384); written = 0 };
+      result = Err (refuse WorkTooSmall 16384);
       work = 9 ∷ [];
       output = replicate 30 7;
     })
-    × ((report_of [] 256 1 space []).result ≡ record { verdict = Refused (refuse PriceRange 0); written = 0 })
+    × ((report_of [] 256 1 space []).result ≡ Err (refuse PriceRange 0))
     × (dearest_of [] 0 1 space (7 ∷ [])
-    ≡ record { result = record { verdict = Accepted; written = 0 }; work = space_after; output = 7 ∷ [] })
+    ≡ record { result = Ok 0; work = space_after; output = 7 ∷ [] })
 unfolding opened lines space space_after
 written = (refl, refl, refl, refl, refl, refl)
 

@@ -1,12 +1,11 @@
 -- Outside cases and cases of refusal order, by computation: the definitions are tried on them before any code rests on them.
-use Rattle.std.specs.Prelude.{ℕ, true, false, ◌≡◌, refl, List, [], ◌∷◌, ◌++◌, replicate}
+use Rattle.std.specs.Prelude.{ℕ, true, false, ◌≡◌, refl, List, [], ◌∷◌, ◌++◌, replicate, Ok, Err}
 use Prim.Native.String.{String}
 use Rattle.std.proofs.Math.Option.{none, some}
 use Rattle.model.specs.declared.Row.TheVariants.{WorkTooSmall, PriceRange, TextTooLong, Form, StackSize, FrameSize, Offset, TooMany, Callee, Pairing}
 use Rattle.model.specs.declared.Row.TheVariants.{Target, LastPoint, Unreachable, Uncalled, Uninitialised, AnswersTooSmall}
 use Rattle.model.specs.declared.Row.TheVariants.{OutputTooSmall, MemoryTooSmall, AfterFinish, Kind, Choice}
 use Rattle.model.specs.declared.Eviction.TheVariants.{Eager, Lazy}
-use Rattle.model.specs.declared.Verdict.TheVariants as verdict
 use Rattle.model.specs.declared.Ending.TheVariants.{AllDone, Refused}
 use Rattle.model.specs.declared.RunResult.{RunResult}
 use Rattle.model.specs.Limits.{work_length}
@@ -20,7 +19,7 @@ use Rattle.model.specs.Refusal.{judged, work_row, priced_rows, judge, no_rows}
 use Rattle.model.specs.Plain.{events_of, plain}
 use Rattle.model.specs.Run.{Place, allowed}
 use Rattle.model.specs.Preemptions.{preemptions, spills_and_fills}
-use Rattle.model.specs.Services.{cleared, after_write, written_by, report_of, dearest_of, run_judged, run_of, called, exported}
+use Rattle.model.specs.Services.{bytes_written, cleared, after_write, written_by, report_of, dearest_of, run_judged, run_of, called, exported}
 use Rattle.model.specs.Opened.{opened}
 use Rattle.model.specs.Examples.{lines, sample, seven_steps, with_preemption}
 
@@ -222,9 +221,9 @@ pub buffers :
     × (cleared 2 (3 ∷ 3 ∷ 3 ∷ []) ≡ 0 ∷ 0 ∷ 3 ∷ [])
     × (cleared 4 (3 ∷ 3 ∷ 3 ∷ []) ≡ 3 ∷ 3 ∷ 3 ∷ [])
     × (written_by 2 none (λ t. some (refuse Choice 6)) (λ t. 1 ∷ []) sample (3 ∷ 3 ∷ 3 ∷ []) []
-    ≡ after_write (record { verdict = verdict.Refused (refuse Choice 6); written = 0 }) (0 ∷ 0 ∷ 3 ∷ []) [])
+    ≡ after_write (Err (refuse Choice 6)) (0 ∷ 0 ∷ 3 ∷ []) [])
     × (written_by 2 none no_rows (λ t. 1 ∷ []) sample (3 ∷ 3 ∷ 3 ∷ []) []
-    ≡ after_write (record { verdict = verdict.Refused (refuse OutputTooSmall 1); written = 0 }) (0 ∷ 0 ∷ 3 ∷ []) [])
+    ≡ after_write (Err (refuse OutputTooSmall 1)) (0 ∷ 0 ∷ 3 ∷ []) [])
     × (run_judged none (λ t. some (refuse Choice 6)) sample (1 ∷ []) [] [] [] ≡ refused (refuse Choice 6))
     × (exported {A = ℕ} (7 ∷ 8 ∷ []) 1 0 (9 ∷ 9 ∷ 9 ∷ []) ≡ called 1 (7 ∷ 8 ∷ 9 ∷ []) 1)
     × (exported {A = ℕ} (7 ∷ 8 ∷ []) 1 0 (9 ∷ []) ≡ called 0 (9 ∷ []) 0)
@@ -241,7 +240,7 @@ pub totals :
     × (total_at (move_price 10 1) ≡ 136)
     × (report_of sample 0 1 space (replicate 296 7)
     ≡ record {
-      result = record { verdict = verdict.Refused (refuse OutputTooSmall 297); written = 0 };
+      result = Err (refuse OutputTooSmall 297);
       work = space_after;
       output = replicate 296 7;
     })
@@ -275,8 +274,8 @@ at_ensure rest = (run_of Eager sample 0 1 space (before_ensure rest) (replicate 
 
 pub once :
     (once_of (record { high = 5; dead = 1; need = 3; save = 4; reload = 2; later = 1; chain = 4; cost = 11; fill = 0 }) ≡ 8)
-    × ((report_of sample 0 2 space (replicate 400 7)).result.written ≡ 283)
-    × ((report_of sample 1 1 space (replicate 400 7)).result.written ≡ 282)
+    × (bytes_written (report_of sample 0 2 space (replicate 400 7)).result ≡ 283)
+    × (bytes_written (report_of sample 1 1 space (replicate 400 7)).result ≡ 282)
     × (charged_for with_preemption ≡ record { once = 9; at = place 1 1 ∷ []; besides = 2 })
     × (charged_for (before_ensure (0 ∷ 0 ∷ 0 ∷ 0 ∷ [])) ≡ record { once = 2; at = place 0 2 ∷ []; besides = 2 })
     × (at_ensure (0 ∷ 0 ∷ 0 ∷ 0 ∷ []) ≡ record { ending = AllDone; done = 8; moved = 2; allowed = 3 })
@@ -300,13 +299,13 @@ pub dearest_points :
     ∷ "(dear 0 0 0)" ∷ "(dear 0 4 0)" ∷ []))
     × (dearest_of sample 0 1 space (replicate 110 7)
     ≡ record {
-      result = record { verdict = verdict.Accepted; written = 104 };
+      result = Ok 104;
       work = space_after;
       output = dearest_lines ++ replicate 6 7;
     })
     × (dearest_of sample 0 1 space (replicate 103 7)
     ≡ record {
-      result = record { verdict = verdict.Refused (refuse OutputTooSmall 104); written = 0 };
+      result = Err (refuse OutputTooSmall 104);
       work = space_after;
       output = replicate 103 7;
     })

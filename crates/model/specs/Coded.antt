@@ -1,5 +1,5 @@
 -- Numbers of the rules, by computation: code and place of refusals, the code of every row, and each limit at both its sides.
-use Rattle.std.specs.Prelude.{ℕ, ◌+◌, ◌*◌, true, false, ◌≡◌, refl, List, [], ◌∷◌, ◌++◌, map, length, replicate, ltb}
+use Rattle.std.specs.Prelude.{ℕ, ◌+◌, ◌*◌, true, false, ◌≡◌, refl, List, [], ◌∷◌, ◌++◌, map, length, replicate, ltb, Ok}
 use Prim.Native.String.{String}
 use Rattle.std.proofs.Math.Option.{none, some}
 use Rattle.model.specs.declared.Row.TheVariants.{WorkTooSmall, PriceRange, TextTooLong, Form, StackSize, FrameSize, Offset, TooMany, Callee, Pairing}
@@ -8,7 +8,6 @@ use Rattle.model.specs.declared.Row.TheVariants.{AnswersTooSmall, CacheSize, Mem
 use Rattle.model.specs.declared.Point.TheVariants.{Return}
 use Rattle.model.specs.declared.Line.TheVariants as line
 use Rattle.model.specs.declared.Eviction.TheVariants.{Eager}
-use Rattle.model.specs.declared.Verdict.TheVariants as verdict
 use Rattle.model.specs.Limits.{most_bytes, work_length}
 use Rattle.model.specs.Basic.{count_from}
 use Rattle.model.specs.Text.{bytes}
@@ -101,7 +100,7 @@ pub limits :
     × (run_rows 131072 65536 5 6 (the (judged sample)) ≡ none)
     × (run_rows 131074 65537 5 6 (the (judged sample)) ≡ some (refuse EventList 0))
     × (report_of sample 0 1 space (replicate 297 7)
-    ≡ after_write (record { verdict = verdict.Accepted; written = 297 }) space_after sample_report)
+    ≡ after_write (Ok 297) space_after sample_report)
 unfolding opened lines sample sample_report space space_after
 limits =
     (refl, refl, refl, refl, refl, refl, refl, refl, refl, refl, refl, λ text h. let fits : ltb most_bytes (length text) ≡ false = rw h refl in rw fits refl, λ text h. let longer : ltb most_bytes (length text) ≡ true = rw h refl in rw longer refl, refl, refl, refl)

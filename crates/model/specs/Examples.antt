@@ -1,9 +1,7 @@
 -- The starred examples of document 01, as one list with a single conclusion, by computation.
-use Rattle.std.specs.Prelude.{ℕ, ◌≡◌, refl, List, [], ◌∷◌, ◌++◌, replicate}
+use Rattle.std.specs.Prelude.{ℕ, ◌≡◌, refl, List, [], ◌∷◌, ◌++◌, replicate, Ok, Err}
 use Prim.Native.String.{String}
 use Rattle.model.specs.declared.Row.TheVariants.{StackSize, FrameSize, Offset}
-use Rattle.model.specs.declared.Verdict.TheVariants.{Accepted}
-use Rattle.model.specs.declared.Verdict.TheVariants as verdict
 use Rattle.model.specs.declared.Ending.TheVariants.{AllDone}
 use Rattle.model.specs.Rows.{refuse}
 use Rattle.model.specs.Basic.{joined}
@@ -91,7 +89,7 @@ pub starred :
     × ((free 4 (five 1)).occupancy ≡ 0)
     × (report_of sample 0 1 space (replicate 400 7)
     ≡ record {
-      result = record { verdict = Accepted; written = 297 };
+      result = Ok 297;
       work = space_after;
       output = sample_report ++ replicate 103 7;
     })
@@ -112,12 +110,12 @@ pub starred :
       memory = 8 ∷ 22 ∷ 6 ∷ 6 ∷ 6 ∷ 6 ∷ 11 ∷ [];
     })
     × ((sample_run Eager []).result ≡ record { ending = AllDone; done = 0; moved = 0; allowed = 0 })
-    × (verdict_on [] ≡ record { verdict = Accepted; work = space_after })
-    × (verdict_on ("(stack 65)" ∷ []) ≡ record { verdict = verdict.Refused (refuse StackSize 1); work = space_after })
-    × (verdict_on ("(stack 5)" ∷ "(func 5" ∷ "  (return)" ∷ ")" ∷ []) ≡ record { verdict = Accepted; work = space_after })
+    × (verdict_on [] ≡ record { verdict = Ok tt; work = space_after })
+    × (verdict_on ("(stack 65)" ∷ []) ≡ record { verdict = Err (refuse StackSize 1); work = space_after })
+    × (verdict_on ("(stack 5)" ∷ "(func 5" ∷ "  (return)" ∷ ")" ∷ []) ≡ record { verdict = Ok tt; work = space_after })
     × (verdict_on ("(stack 5)" ∷ "(func 6" ∷ "  (return)" ∷ ")" ∷ [])
-    ≡ record { verdict = verdict.Refused (refuse FrameSize 2); work = space_after })
+    ≡ record { verdict = Err (refuse FrameSize 2); work = space_after })
     × (verdict_on ("(stack 5)" ∷ "(func 0" ∷ "  (load 0)" ∷ "  (return)" ∷ ")" ∷ [])
-    ≡ record { verdict = verdict.Refused (refuse Offset 3); work = space_after })
+    ≡ record { verdict = Err (refuse Offset 3); work = space_after })
 unfolding opened lines five sample sample_report space space_after seven_steps with_preemption
 starred = (refl, refl, refl, refl, refl, refl, refl, refl, refl, refl, refl, refl, refl, refl)

@@ -1,13 +1,11 @@
 -- The refusals: the number of each row of the table, a row with its place, and the numbers that a verdict and an ending stand for.
-use Rattle.std.specs.Prelude.{ℕ, ◌+◌, ◌*◌, List, [], ◌∷◌}
+use Rattle.std.specs.Prelude.{ℕ, ◌+◌, ◌*◌, List, [], ◌∷◌, Result, Ok, Err}
 use Rattle.std.proofs.Math.Option.{Option, none, some}
 use Rattle.model.specs.declared.Row.{Row}
 use Rattle.model.specs.declared.Row.TheVariants.{WorkTooSmall, PriceRange, TextTooLong, Form, StackSize, FrameSize, Offset, TooMany, Callee, Pairing}
 use Rattle.model.specs.declared.Row.TheVariants.{Target, LastPoint, Unreachable, Uncalled, Uninitialised, OutputTooSmall, EventList}
 use Rattle.model.specs.declared.Row.TheVariants.{AnswersTooSmall, CacheSize, MemoryTooSmall, AfterFinish, Kind, Choice}
 use Rattle.model.specs.declared.Refusal.{Refusal}
-use Rattle.model.specs.declared.Verdict.{Verdict}
-use Rattle.model.specs.declared.Verdict.TheVariants as verdict
 use Rattle.model.specs.declared.Ending.{Ending}
 use Rattle.model.specs.declared.Ending.TheVariants as ending
 
@@ -41,24 +39,28 @@ code_of Choice = 21
 abbrev pub refuse : Row → ℕ → Refusal
 refuse r n = record { row = r; place = n }
 
+-- what check says: Ok for acceptance, Err with a refusal
+abbrev pub Verdict : Type 0
+Verdict = Result Unit Refusal
+
 -- a row that refuses, or none, as a verdict
 abbrev pub row_verdict : Option Refusal → Verdict
-row_verdict none = verdict.Accepted
-row_verdict (some r) = verdict.Refused r
+row_verdict none = Ok tt
+row_verdict (some r) = Err r
 
 -- the numbers that a verdict stands for: 0 and 0 for acceptance
 abbrev pub verdict_code : Verdict → ℕ
-verdict_code verdict.Accepted = 0
-verdict_code (verdict.Refused r) = code_of r.row
+verdict_code (Ok u) = 0
+verdict_code (Err r) = code_of r.row
 
 abbrev pub verdict_place : Verdict → ℕ
-verdict_place verdict.Accepted = 0
-verdict_place (verdict.Refused r) = r.place
+verdict_place (Ok u) = 0
+verdict_place (Err r) = r.place
 
 -- an ending stands for the numbers of this verdict
 abbrev pub ending_verdict : Ending → Verdict
-ending_verdict ending.AllDone = verdict.Accepted
-ending_verdict (ending.Refused r) = verdict.Refused r
+ending_verdict ending.AllDone = Ok tt
+ending_verdict (ending.Refused r) = Err r
 
 -- the numbers of a result: code, place, and those that a service adds
 abbrev pub verdict_numbers : Verdict → List ℕ → List ℕ

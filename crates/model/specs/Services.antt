@@ -1,17 +1,13 @@
 -- What each service returns and what every lent buffer holds afterwards, for every input; and demand 3 of run, on either core.
-use Rattle.std.specs.Prelude.{if◌then◌else◌, ℕ, ◌≤◌, true, List, [], ◌∷◌, ◌++◌, ◌≡◌, length, drop, replicate, ltb}
+use Rattle.std.specs.Prelude.{if◌then◌else◌, ℕ, ◌≤◌, true, List, [], ◌∷◌, ◌++◌, ◌≡◌, length, drop, replicate, ltb, Result, Ok, Err}
 use Rattle.std.proofs.Math.Option.{Option, none, some}
 use Rattle.model.specs.declared.Refusal.{Refusal}
 use Rattle.model.specs.declared.Eviction.{Eviction}
 use Rattle.model.specs.declared.Eviction.TheVariants.{Eager}
-use Rattle.model.specs.declared.Verdict.{Verdict}
-use Rattle.model.specs.declared.Verdict.TheVariants.{Accepted}
-use Rattle.model.specs.declared.Verdict.TheVariants as verdict
 use Rattle.model.specs.declared.Ending.TheVariants as ending
-use Rattle.model.specs.declared.WriteResult.{WriteResult}
 use Rattle.model.specs.declared.RunResult.{RunResult}
 use Rattle.model.specs.Limits.{work_length}
-use Rattle.model.specs.Rows.{packed, ending_verdict, verdict_numbers}
+use Rattle.model.specs.Rows.{Verdict, packed, ending_verdict, verdict_numbers}
 use Rattle.model.specs.Task.{Task, Judged, refused, task}
 use Rattle.model.specs.Sheet.{Sheet, move_price, in_blocks, counts_blocks, priced_sheet, sheet_of, charging_once, report_text}
 use Rattle.model.specs.Dearest.{dearest_text}
@@ -30,8 +26,8 @@ over l buffer = l ++ drop (length l) buffer
 
 -- check: its verdict, and the working space
 unfoldable pub verdict_of : Judged → Verdict
-verdict_of (refused r) = verdict.Refused r
-verdict_of (task t) = Accepted
+verdict_of (refused r) = Err r
+verdict_of (task t) = Ok tt
 
 pub record AfterCheck : Type 0 where
   pub verdict : Verdict
@@ -60,19 +56,31 @@ judged_number (task t) = 0
 unfoldable pub check_number : List ℕ → ℕ
 check_number text = judged_number (judged text)
 
+-- what a service that writes bytes returns: how many, or a refusal. The verdict that it stands for, and the bytes written, 0 on a refusal
+abbrev pub Written : Type 0
+Written = Result ℕ Refusal
+
+abbrev pub written_verdict : Written → Verdict
+written_verdict (Ok n) = Ok tt
+written_verdict (Err r) = Err r
+
+abbrev pub bytes_written : Written → ℕ
+bytes_written (Ok n) = n
+bytes_written (Err r) = 0
+
 -- a service that writes bytes of the task: its result, the working space and the output
 pub record AfterWrite : Type 0 where
-  pub result : WriteResult
+  pub result : Written
   pub work : List ℕ
   pub output : List ℕ
 
-abbrev pub after_write : WriteResult → (work output : List ℕ) → AfterWrite
+abbrev pub after_write : Written → (work output : List ℕ) → AfterWrite
 after_write r work output = record { result = r; work = work; output = output }
 
 -- refused by this row, or these bytes are written over the first of the output
 abbrev pub written_or : Option Refusal → (bytes work output : List ℕ) → AfterWrite
-written_or none bytes work output = after_write (record { verdict = Accepted; written = length bytes }) work (over bytes output)
-written_or (some r) bytes work output = after_write (record { verdict = verdict.Refused r; written = 0 }) work output
+written_or none bytes work output = after_write (Ok (length bytes)) work (over bytes output)
+written_or (some r) bytes work output = after_write (Err r) work output
 
 abbrev pub written_as : (Task → List ℕ) → Judged → List ℕ → List ℕ → AfterWrite
 written_as print (refused r) work output = written_or (some r) [] work output
@@ -198,8 +206,8 @@ exported numbers left lent result =
     if ltb (length result) (length numbers) then called 0 result lent else called 1 (over numbers result) left
 
 -- a service that writes bytes: code, place and bytes written
-abbrev pub result_numbers : WriteResult → List ℕ
-result_numbers r = verdict_numbers r.verdict (r.written ∷ [])
+abbrev pub result_numbers : Written → List ℕ
+result_numbers r = verdict_numbers (written_verdict r) (bytes_written r ∷ [])
 
 pub record WriteBuffers : Type 0 where
   pub work : List ℕ

@@ -87,12 +87,11 @@ pub struct Refusal {
     pub place: u32,
 }
 
-// What check and report say of a text and the lent buffers.
-#[derive(Clone, Copy)]
-pub enum Verdict {
-    Accepted,
-    Refused(Refusal),
-}
+// What check says of a text and the lent buffers.
+pub type Verdict = Result<(), Refusal>;
+
+// What a service that writes bytes returns beside the buffers: how many bytes it wrote.
+pub type Written = Result<u32, Refusal>;
 
 // How a core evicts: blocks are written back whenever they leave the cache, or only those below a lazy pointer.
 #[derive(Clone, Copy)]
@@ -106,13 +105,6 @@ pub enum Eviction {
 pub enum Ending {
     AllDone,
     Refused(Refusal),
-}
-
-// What a service that writes bytes returns beside the buffers.
-#[derive(Clone, Copy)]
-pub struct WriteResult {
-    pub verdict: Verdict,
-    pub written: u32,
 }
 
 // What run returns beside the buffers.

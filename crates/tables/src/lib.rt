@@ -77,12 +77,12 @@ fn first_argument(p: Point) -> u32
     ensures { result ≡ first_argument p }
 {
     match p {
-        Point::Load(o) => o,
-        Point::Store(o) => o,
-        Point::Call(f) => f,
-        Point::Ensure(k) => k,
-        Point::Goto(q) => q,
-        Point::Either(q, _) => q,
+        Point::Load(n)
+        | Point::Store(n)
+        | Point::Call(n)
+        | Point::Ensure(n)
+        | Point::Goto(n)
+        | Point::Either(n, _) => n,
         Point::Return => 0,
     }
 }
@@ -90,15 +90,7 @@ fn first_argument(p: Point) -> u32
 fn second_argument(p: Point) -> u32
     ensures { result ≡ second_argument p }
 {
-    match p {
-        Point::Load(_) => 0,
-        Point::Store(_) => 0,
-        Point::Call(_) => 0,
-        Point::Ensure(_) => 0,
-        Point::Goto(_) => 0,
-        Point::Either(_, r) => r,
-        Point::Return => 0,
-    }
+    if let Point::Either(_, r) = p { r } else { 0 }
 }
 
 pub fn put_point(work: &mut [u32], i: usize, p: Point)
@@ -116,8 +108,8 @@ pub fn span_at(work: &[u32], f: usize) -> Span
     ensures { result ≡ span_at work.now f }
 {
     let frame = work[Layout::FRAME + f];
-    let base = numbers::wide(work[Layout::BASE + f]);
-    let size = numbers::wide(work[Layout::SIZE + f]);
+    let base = work[Layout::BASE + f] as usize;
+    let size = work[Layout::SIZE + f] as usize;
     Span { frame, base, size }
 }
 

@@ -6,12 +6,11 @@ use native.Mathlib.Numerals.{add-one, unary_clauses}
 use mathlib.Core.Path.{◌≡◌, refl, ap, sym, ◌∙◌}
 use mathlib.Core.Bool.{Bool, ◌||◌, or-false, or_assoc}
 use mathlib.Core.List.{[], ◌∷◌}
+use Rattle.std.proofs.Common.{Ok, Err}
 use mathlib.Core.Option.{Option, none, some}
 use Rattle.model.specs.declared.Refusal.{Refusal}
-use Rattle.model.specs.declared.Verdict.{Verdict}
-use Rattle.model.specs.declared.Verdict.TheVariants.{Accepted, Refused}
 use Rattle.model.specs.Basic.{◌or_else◌, first_of, any, count_from, up_to}
-use Rattle.model.specs.Rows.{row_verdict}
+use Rattle.model.specs.Rows.{Verdict, row_verdict}
 
 -- the numbers that are left, one by one
 pub count-more : (i n : ℕ) → i < n → count_from i (n - i) ≡ i ∷ count_from (i + 1) (n - (i + 1))
@@ -27,11 +26,11 @@ abbrev pub Rest : Option Refusal → (ℕ → Option Refusal) → ℕ → ℕ �
 Rest whole row i n = whole ≡ first_of row (count_from i (n - i))
 
 -- what a verdict says of the refusal that it stands for
-pub verdict-none : (o : Option Refusal) → row_verdict o ≡ Accepted → o ≡ none
+pub verdict-none : (o : Option Refusal) → row_verdict o ≡ Ok tt → o ≡ none
 verdict-none none d = refl
 verdict-none (some r) d = let z : ◌≡◌ {A = ℕ} 0 1 = cc in absurd (omega arith)
 
-pub verdict-some : (o : Option Refusal) {r : Refusal} → row_verdict o ≡ Refused r → o ≡ some r
+pub verdict-some : (o : Option Refusal) {r : Refusal} → row_verdict o ≡ Err r → o ≡ some r
 verdict-some none d = let z : ◌≡◌ {A = ℕ} 0 1 = cc in absurd (omega arith)
 verdict-some (some q) d = cc
 
@@ -42,7 +41,7 @@ or-none (some r) = refl
 
 -- one step of such a search, where number i has the verdict v; its last step, where the number q that was judged is i; and its end
 module _ (row : ℕ → Option Refusal) (i n : ℕ) {whole : Option Refusal} (l : Rest whole row i n) where
-  pub search-on : {v : Verdict} → v ≡ row_verdict (row i) → v ≡ Accepted → i < n → Rest whole row (i + 1) n
+  pub search-on : {v : Verdict} → v ≡ row_verdict (row i) → v ≡ Ok tt → i < n → Rest whole row (i + 1) n
   unfolding first_of
   search-on e a h =
       l
@@ -52,7 +51,7 @@ module _ (row : ℕ → Option Refusal) (i n : ℕ) {whole : Option Refusal} (l 
       (λ (o : Option Refusal). o or_else first_of row (count_from (i + 1) (n - (i + 1))))
       (verdict-none (row i) (sym e ∙ a)))
 
-  pub search-off : {v : Verdict} → v ≡ row_verdict (row i) → {r : Refusal} → v ≡ Refused r → i < n → Refused r ≡ row_verdict whole
+  pub search-off : {v : Verdict} → v ≡ row_verdict (row i) → {r : Refusal} → v ≡ Err r → i < n → Err r ≡ row_verdict whole
   unfolding first_of
   search-off e a h =
       rw
@@ -68,7 +67,7 @@ module _ (row : ℕ → Option Refusal) (i n : ℕ) {whole : Option Refusal} (l 
       (l, count-more i n (omega arith), count-end (i + 1) n (omega arith))
       (e ∙ (ap (λ (j : ℕ). row_verdict (row j)) d ∙ ap row_verdict (sym (or-none (row i)))))
 
-  pub search-end : n ≤ i → Accepted ≡ row_verdict whole
+  pub search-end : n ≤ i → Ok tt ≡ row_verdict whole
   unfolding first_of
   search-end h = rw (l, count-end i n h)
 
