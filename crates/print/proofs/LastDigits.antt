@@ -1,6 +1,6 @@
 -- The last digits of a number, as many as asked for: what is written from the last digit on.
-use Prim.Native.Nat.{ℕ, zero, suc, ◌+◌, ◌/◌, ◌%◌, ◌<◌}
-use mathlib.Core.Path.{◌≡◌, sym}
+use Prim.Native.Nat.{ℕ, zero, suc, ◌+◌, ◌-◌, ◌/◌, ◌%◌, ◌≤◌, ◌<◌}
+use mathlib.Core.Path.{◌≡◌, sym, ◌∙◌}
 use mathlib.Core.List.{List, [], ◌∷◌, ◌++◌}
 use native.Mathlib.Decide.{dec_lt}
 use native.Mathlib.Numerals.{add-one}
@@ -28,10 +28,12 @@ all-digits (suc k) m h =
       | no l ↦ rw (all-digits k (m / 10) (omega (arith, length-large m (omega arith)))) (sym (decimal-large m (omega arith)))
     ]
 
--- one more, from the last on
-pub digit-written : (k m : ℕ) (out : List ℕ) → k < length out
-    → last_digits k (m / 10) ++ drop k (set out k (48 + m % 10)) ≡ last_digits (k + 1) m ++ drop (k + 1) out
+-- the digit before those that are written
+pub digit-written : (i : ℕ) {v : ℕ} (m : ℕ) (out : List ℕ) {l : List ℕ} → 0 < i → i ≤ length out → v ≡ 48 + m % 10 → last_digits i m ++ drop i out ≡ l
+    → last_digits (i - 1) (m / 10) ++ drop (i - 1) (set out (i - 1) v) ≡ l
 unfolding last_digits
-digit-written k m out h =
-    rw (drop-set k (48 + m % 10) out h, add-one k)
-    (sym (append_snoc (last_digits k (m / 10)) (48 + m % 10) (drop (suc k) out)))
+digit-written zero m out h k e d = absurd (omega arith)
+digit-written (suc i) m out h k e d =
+    let z : suc i - 1 ≡ i = omega arith in
+    let room : i < length out = omega arith in
+    rw (z, e, drop-set i (48 + m % 10) out room) (sym (append_snoc (last_digits i (m / 10)) (48 + m % 10) (drop (suc i) out)) ∙ d)
