@@ -121,14 +121,6 @@ pub fn put_points(work: &mut [u32], column: usize, s: Span, values: &[u32])
     work[at..at + s.size].copy_from_slice(&values[..s.size]);
 }
 
-// The first n values go to the working space from number at on. `bounds` still lends its buffers so.
-pub fn put_column(work: &mut [u32], at: usize, values: &[u32], n: usize)
-    requires { (at + n ≤ length work.old) × (n ≤ length values.now) }
-    ensures { Put at n values.now work.old work.new }
-{
-    work[at..at + n].copy_from_slice(&values[..n]);
-}
-
 // The numbers of the functions from number at on become 0.
 pub fn clear_column(work: &mut [u32], at: usize)
     requires { at + most_funcs ≤ length work.old }
