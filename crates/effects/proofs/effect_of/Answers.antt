@@ -1,17 +1,9 @@
 -- A point does at most one thing: the rest is that of the default.
 use mathlib.Core.Logic.{⊎_elim}
 use mathlib.Core.Path.{refl}
-use lib.Dec.{ltb→lt}
-use Rattle.bits.specs.Bits.{set_bits}
 use Rattle.bits.proofs.Laws.{marks-single}
 use Rattle.effects.proofs.Laws.{marks-empty}
 use Rattle.effects.proofs.effect_of.Goals as goal
-
-pub single_bit-requires : goal.single_bit-requires
-single_bit-requires c = ltb→lt _ set_bits (rw c.in-Load.is at c.requires)
-
-pub single_bit-requires-in-Store : goal.single_bit-requires-in-Store
-single_bit-requires-in-Store c = ltb→lt _ set_bits (rw c.in-Store.is at c.requires)
 
 pub returns-in-Load : goal.returns-in-Load
 returns-in-Load c =
