@@ -9,7 +9,7 @@ ghost use Rattle.tables.specs.Tables.{item};
 ghost use Rattle.tables.specs.Valid.{Lies};
 ghost use Rattle.prices.specs.Prices.{Small};
 ghost use Rattle.problems.specs.Problems.{Filled};
-ghost use Rattle.columns.specs.Columns.{columns_end, entry_column, chain_column, Funcs, Changed};
+ghost use Rattle.columns.specs.Columns.{columns_end, high_column, entry_column, chain_column, Funcs, Changed};
 ghost use Rattle.columns.specs.Values.{most_chain, callee_at, ensure_at, filled_at, kept_at, cut_at, level_at, chained_at, Put, Raised};
 
 use model::Limits;
@@ -28,13 +28,6 @@ pub fn callee_at(work: &[u32], s: Span, p: usize) -> Option<usize>
     }
 }
 
-fn ensure_at(work: &[u32], s: Span, p: usize) -> bool
-    requires { Lies work.now s × (p < s.size) }
-    ensures { result ≡ ensure_at work.now s p }
-{
-    points::is_ensure(tables::point_at(work, s.base + p))
-}
-
 // What a column of the points has for point p of s.
 pub fn figure_at(work: &[u32], column: usize, s: Span, p: usize) -> u32
     requires { Lies work.now s × (p < s.size) × (column + most_in_all ≤ length work.now) }
@@ -43,62 +36,89 @@ pub fn figure_at(work: &[u32], column: usize, s: Span, p: usize) -> u32
     work[column + s.base + p]
 }
 
-// The fill at point p of s.
-pub fn fill_at(work: &[u32], h: Header, s: Span, p: usize) -> u32
-    requires { Lies work.now s × (p < s.size) × (columns_end ≤ length work.now) }
-    ensures { result ≡ filled_at work.now h s p }
-{
-    if !ensure_at(work, s, p) {
-        return 0;
+// A function in the tables, with the columns behind them: what the numbers of its points are worked out from.
+#[derive(Clone, Copy)]
+pub struct FuncColumns<'a> {
+    pub work: &'a [u32],
+    pub span: Span,
+    pub ghost lies: { Lies work.now span },
+    pub ghost room: { columns_end ≤ length work.now },
+}
+
+impl FuncColumns<'_> {
+    fn is_ensure(self, p: usize) -> bool
+        requires { p < self.span.size }
+        ensures { result ≡ ensure_at self.entry.work.now self.entry.span p }
+    {
+        points::is_ensure(tables::point_at(self.work, self.span.base + p))
     }
-    match callee_at(work, s, p.saturating_sub(1)) {
-        Some(g) => {
-            let left = h.stack.saturating_sub(work[Columns::LONGEST + g]);
-            s.frame.saturating_sub(left)
+
+    // high of point p.
+    pub fn high(self, p: usize) -> u32
+        requires { p < self.span.size }
+        ensures { result ≡ item self.entry.work.now (high_column + self.entry.span.base + p) }
+    {
+        figure_at(self.work, Columns::HIGH, self.span, p)
+    }
+
+    // The fill at point p.
+    pub fn fill(self, h: Header, p: usize) -> u32
+        requires { p < self.span.size }
+        ensures { result ≡ filled_at self.entry.work.now h self.entry.span p }
+    {
+        if !self.is_ensure(p) {
+            return 0;
         }
-        None => 0,
+        match callee_at(self.work, self.span, p.saturating_sub(1)) {
+            Some(g) => {
+                let left = h.stack.saturating_sub(self.work[Columns::LONGEST + g]);
+                self.span.frame.saturating_sub(left)
+            }
+            None => 0,
+        }
     }
-}
 
-// What is kept at point p of s.
-pub fn kept_at(work: &[u32], s: Span, p: usize) -> u32
-    requires { Lies work.now s × (p < s.size) × (columns_end ≤ length work.now) }
-    ensures { result ≡ kept_at work.now s p }
-{
-    s.frame.saturating_sub(figure_at(work, Columns::FILL, s, p))
-}
-
-// What the callee at point p of s leaves of the cache.
-pub fn cut_at(work: &[u32], h: Header, s: Span, p: usize) -> u32
-    requires { Lies work.now s × (p < s.size) × (columns_end ≤ length work.now) }
-    ensures { result ≡ cut_at work.now h s p }
-{
-    match callee_at(work, s, p) {
-        Some(g) => h.stack.saturating_sub(work[Columns::SHORTEST + g]),
-        None => 0,
+    // What is kept at point p.
+    pub fn kept(self, p: usize) -> u32
+        requires { p < self.span.size }
+        ensures { result ≡ kept_at self.entry.work.now self.entry.span p }
+    {
+        let fill = figure_at(self.work, Columns::FILL, self.span, p);
+        self.span.frame.saturating_sub(fill)
     }
-}
 
-// The level of the callee at point p of s.
-pub fn level_at(work: &[u32], s: Span, p: usize) -> u32
-    requires { Lies work.now s × (p < s.size) × (columns_end ≤ length work.now) }
-    ensures { result ≡ level_at work.now s p }
-{
-    match callee_at(work, s, p) {
-        Some(g) => work[Columns::LEVEL + g],
-        None => 0,
+    // What the callee at point p leaves of the cache.
+    pub fn cut(self, h: Header, p: usize) -> u32
+        requires { p < self.span.size }
+        ensures { result ≡ cut_at self.entry.work.now h self.entry.span p }
+    {
+        match callee_at(self.work, self.span, p) {
+            Some(g) => h.stack.saturating_sub(self.work[Columns::SHORTEST + g]),
+            None => 0,
+        }
     }
-}
 
-// The chain of the callee at point p of s along this call, where that of the caller and the price of a move are given.
-pub fn chained_at(work: &[u32], s: Span, own: u32, price: Price, p: usize) -> u32
-    requires { Lies work.now s × (p < s.size) × (columns_end ≤ length work.now) × (s.frame ≤ most_stack) × (own ≤ most_chain) × Small price }
-    ensures { result ≡ chained_at work.now s own price p }
-{
-    if p + 1 < s.size {
-        own + price.of_move(kept_at(work, s, p + 1))
-    } else {
-        0
+    // The level of the callee at point p.
+    pub fn level(self, p: usize) -> u32
+        requires { p < self.span.size }
+        ensures { result ≡ level_at self.entry.work.now self.entry.span p }
+    {
+        match callee_at(self.work, self.span, p) {
+            Some(g) => self.work[Columns::LEVEL + g],
+            None => 0,
+        }
+    }
+
+    // The chain of the callee at point p along this call, where that of the caller and the price of a move are given.
+    pub fn chained(self, own: u32, price: Price, p: usize) -> u32
+        requires { (p < self.span.size) × (self.span.frame ≤ most_stack) × (own ≤ most_chain) × Small price }
+        ensures { result ≡ chained_at self.entry.work.now self.entry.span own price p }
+    {
+        if p + 1 < self.span.size {
+            own + price.of_move(self.kept(p + 1))
+        } else {
+            0
+        }
     }
 }
 

@@ -14,7 +14,7 @@ ghost use Rattle.displace.specs.Range.{widened, RangeOf};
 ghost use Rattle.levels.specs.Levels.{largest_within, shortest_in, level_in, Room};
 ghost use Rattle.displace.specs.Ordered.{Ordered};
 
-use columns::Columns;
+use columns::{Columns, FuncColumns};
 use problems::{Numbers, Scratch};
 use tables::{Header, Span};
 
@@ -89,7 +89,8 @@ fn shortest_of(
     let Some(b) = range else {
         return s.frame;
     };
-    columns::each_point(s, levels, |p| columns::level_at(work, s, p));
+    let points = FuncColumns { work, span: s };
+    columns::each_point(s, levels, |p| points.level(p));
     let level = problems::lowest_level(work, s, levels, x);
     s.frame + called_least(work, f + 1, h.funcs, level, b.least)
 }

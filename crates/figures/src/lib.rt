@@ -10,7 +10,7 @@ ghost use Rattle.columns.specs.Columns.{columns_end, OnlyColumns};
 ghost use Rattle.figures.specs.Figured.{Figured};
 ghost use Rattle.figures.specs.Steps.{High, Dead, Need, Next, Fill, index_of, point_columns, Working, ChainedTo, Done, OnlyPoints};
 
-use columns::Columns;
+use columns::{Columns, FuncColumns};
 use model::Limits;
 use prices::Price;
 use problems::{Numbers, Scratch};
@@ -30,7 +30,8 @@ fn write_fill(work: &mut [u32], h: Header, f: usize, x: &mut Buffers)
     ensures { Working work.new h f (index_of Fill) × OnlyPoints work.old work.new }
 {
     let s = tables::span_at(work, f);
-    columns::each_point(s, &mut x.out, |p| columns::fill_at(work, h, s, p));
+    let points = FuncColumns { work, span: s };
+    columns::each_point(s, &mut x.out, |p| points.fill(h, p));
     columns::put_points(work, Columns::FILL, s, &x.out);
 }
 
@@ -40,7 +41,8 @@ fn write_next(work: &mut [u32], h: Header, f: usize, x: &mut Buffers)
     ensures { Working work.new h f (index_of Next) × OnlyPoints work.old work.new }
 {
     let s = tables::span_at(work, f);
-    columns::each_point(s, &mut x.values, |p| columns::kept_at(work, s, p));
+    let points = FuncColumns { work, span: s };
+    columns::each_point(s, &mut x.values, |p| points.kept(p));
     problems::next_points(work, s, &x.values, &mut x.scratch, &mut x.out);
     columns::put_points(work, Columns::NEXT, s, &x.out);
 }
@@ -71,7 +73,8 @@ fn write_high(work: &mut [u32], h: Header, f: usize, x: &mut Buffers)
     ensures { Working work.new h f (index_of High) × OnlyPoints work.old work.new }
 {
     let s = tables::span_at(work, f);
-    columns::each_point(s, &mut x.values, |p| columns::cut_at(work, h, s, p));
+    let points = FuncColumns { work, span: s };
+    columns::each_point(s, &mut x.values, |p| points.cut(h, p));
     let start = h.stack.min(work[Columns::ENTRY + f] + s.frame);
     problems::high_points(work, s, start, &x.values, &mut x.scratch, &mut x.out);
     columns::put_points(work, Columns::HIGH, s, &x.out);
@@ -96,16 +99,9 @@ fn raise_callees(work: &mut [u32], h: Header, price: Price, f: usize, x: &mut Bu
 {
     let s = tables::span_at(work, f);
     let own = work[Columns::CHAIN + f];
-    columns::each_point(
-        s,
-        &mut x.values,
-        |p| columns::chained_at(work, s, own, price, p),
-    );
-    columns::each_point(
-        s,
-        &mut x.out,
-        |p| columns::figure_at(work, Columns::HIGH, s, p),
-    );
+    let points = FuncColumns { work, span: s };
+    columns::each_point(s, &mut x.values, |p| points.chained(own, price, p));
+    columns::each_point(s, &mut x.out, |p| points.high(p));
     columns::raise(work, s, Columns::CHAIN, &x.values);
     columns::raise(work, s, Columns::ENTRY, &x.out);
 }

@@ -1,10 +1,6 @@
 -- The lowest level of the walks gives d; a function that calls nothing has its frame.
 use Rattle.std.proofs.Common.{rules}
-use Prim.Native.Nat.{◌≤◌}
 use native.Mathlib.Omega.{arith}
-use lib.ListN.{length}
-use Rattle.tables.specs.Valid.{Fits}
-use Rattle.columns.specs.Columns.{columns_end}
 use Rattle.problems.proofs.Laws.{filled-as}
 use Rattle.columns.proofs.Limits.{shortest-low}
 use Rattle.displace.proofs.Displaces.{ordered-fits, ordered-calls, leaf-here, levels-low, shortest-here}
@@ -15,13 +11,16 @@ returns-in_default c =
     let a = c.requires in
     leaf-here a.0 a.1 a.2 (rw c.in_default.is at a.3)
 
+pub invariant_of-points : goal.invariant_of-points
+invariant_of-points c =
+    let a = c.requires in
+    let r = ordered-calls a.0 a.1 a.2 in
+    record { lies = r.0; room = r.1 }
+
 pub each_point-requires : goal.each_point-requires
 each_point-requires c =
     let a = c.requires in
-    let i : Fits c.args.work.now c.args.s = ordered-fits a.0 a.1 a.2 in
-    let l = i.lies in
-    let r : columns_end ≤ length c.args.work.now = (ordered-calls a.0 a.1 a.2).1 in
-    (λ p h. search rules, omega (arith, i.small))
+    (λ p h. search rules, omega (arith, (ordered-fits a.0 a.1 a.2).small))
 
 pub lowest_level-level-requires : goal.lowest_level-level-requires
 lowest_level-level-requires c =

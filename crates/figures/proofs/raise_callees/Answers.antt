@@ -1,20 +1,21 @@
 -- The callees have one caller more.
 use Rattle.std.proofs.Common.{rules}
-use Prim.Native.Nat.{◌≤◌}
 use native.Mathlib.Omega.{arith}
-use lib.ListN.{length}
-use Rattle.columns.specs.Columns.{columns_end}
 use Rattle.problems.proofs.Laws.{filled-as}
 use Rattle.figures.proofs.Points.{turn-values}
 use Rattle.figures.proofs.Stages.{turn-of, own-chain, done-raised}
 use Rattle.figures.proofs.raise_callees.Goals as goal
 
+pub invariant_of-points : goal.invariant_of-points
+invariant_of-points c =
+    let v = turn-values (turn-of c.requires.0 c.span_at-s.ensures) in
+    record { lies = v.0; room = v.1 }
+
 pub each_point-requires : goal.each_point-requires
 each_point-requires c =
     let k = c.requires in
     let v = turn-values (turn-of k.0 c.span_at-s.ensures) in
-    let l = v.0 in
-    let r : columns_end ≤ length c.args.work.now = v.1 in
+    let frame = v.2 in
     let small = k.2 in
     let own = own-chain _ k.2 k.0 k.1 in
     (λ p h. search rules, omega (arith, v.3))
@@ -22,8 +23,6 @@ each_point-requires c =
 pub each_point-requires-2 : goal.each_point-requires-2
 each_point-requires-2 c =
     let v = turn-values (turn-of c.requires.0 c.span_at-s.ensures) in
-    let l = v.0 in
-    let r : columns_end ≤ length c.args.work.now = v.1 in
     (λ p h. search rules, omega (arith, v.3))
 
 pub raise-requires : goal.raise-requires

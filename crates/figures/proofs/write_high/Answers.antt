@@ -1,8 +1,5 @@
 -- The cuts are what the callees leave of the cache.
 use Rattle.std.proofs.Common.{rules}
-use Prim.Native.Nat.{◌≤◌}
-use lib.ListN.{length}
-use Rattle.columns.specs.Columns.{columns_end}
 use Rattle.problems.proofs.Laws.{filled-as}
 use native.Mathlib.Omega.{arith}
 use Rattle.figures.specs.Steps.{High}
@@ -15,11 +12,14 @@ returns c =
     let a = turn-of c.requires c.span_at-s.ensures in
     worked-put High a (of-high a (filled-as (λ p v i e. search rules) c.each_point.ensures) c.min-start.ensures c.high_points.ensures.0) c.put_points.ensures
 
+pub invariant_of-points : goal.invariant_of-points
+invariant_of-points c =
+    let v = turn-values (turn-of c.requires c.span_at-s.ensures) in
+    record { lies = v.0; room = v.1 }
+
 pub each_point-requires : goal.each_point-requires
 each_point-requires c =
     let v = turn-values (turn-of c.requires c.span_at-s.ensures) in
-    let l = v.0 in
-    let r : columns_end ≤ length c.args.work.now = v.1 in
     (λ p h. search rules, omega (arith, v.3))
 
 pub overflow_add-work : goal.overflow_add-work

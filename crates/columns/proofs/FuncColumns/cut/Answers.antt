@@ -1,7 +1,7 @@
 -- By the branches of the definition.
 use native.Mathlib.Omega.{arith}
 use Rattle.columns.specs.Values.{cut_at}
-use Rattle.columns.proofs.cut_at.Goals as goal
+use Rattle.columns.proofs.FuncColumns.cut.Goals as goal
 
 pub returns-in-Some : goal.returns-in-Some
 unfolding cut_at
