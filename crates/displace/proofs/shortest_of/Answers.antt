@@ -22,11 +22,15 @@ each_point-requires c =
     let a = c.requires in
     (λ p h. search rules, omega (arith, (ordered-fits a.0 a.1 a.2).small))
 
+pub invariant_of-lowest_level : goal.invariant_of-lowest_level
+invariant_of-lowest_level c =
+    let a = c.requires in
+    record { fits = ordered-fits a.0 a.1 a.2 }
+
 pub lowest_level-level-requires : goal.lowest_level-level-requires
 lowest_level-level-requires c =
     let a = c.requires in
-    let i = ordered-fits a.0 a.1 a.2 in
-    (i, levels-low a.0 a.1 a.2 (filled-as (λ p v h e. search rules) c.each_point.ensures))
+    levels-low a.0 a.1 a.2 (filled-as (λ p v h e. search rules) c.each_point.ensures)
 
 pub returns : goal.returns
 returns c =

@@ -27,11 +27,14 @@ overflow_add-work c =
     let a = turn-of c.requires c.span_at-s.ensures in
     omega (arith, turn-entry a, (turn-fits a).frame)
 
+pub invariant_of-func : goal.invariant_of-func
+invariant_of-func c = record { fits = turn-fits (turn-of c.requires c.span_at-s.ensures) }
+
 pub high_points-requires : goal.high_points-requires
 high_points-requires c =
     let a = turn-of c.requires c.span_at-s.ensures in
     let stack = a.begun.worked.ready.settled.formed.shaped.stack_high in
-    (turn-fits a, cut-blocks c.args.work.now c.args.h c.span_at-s.result stack (filled-as (λ p v i e. search rules) c.each_point.ensures), omega (arith, c.min-start.ensures, stack), turn-reached a)
+    (cut-blocks c.args.work.now c.args.h c.span_at-s.result stack (filled-as (λ p v i e. search rules) c.each_point.ensures), omega (arith, c.min-start.ensures, stack), turn-reached a)
 
 pub put_points-requires : goal.put_points-requires
 put_points-requires c =

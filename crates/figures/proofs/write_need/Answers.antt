@@ -10,8 +10,8 @@ returns c =
     let a = turn-of c.requires c.span_at-s.ensures in
     worked-put Need a (of-need a c.need_points.ensures.0) c.put_points.ensures
 
-pub need_points-requires : goal.need_points-requires
-need_points-requires c = turn-fits (turn-of c.requires c.span_at-s.ensures)
+pub invariant_of-func : goal.invariant_of-func
+invariant_of-func c = record { fits = turn-fits (turn-of c.requires c.span_at-s.ensures) }
 
 pub put_points-requires : goal.put_points-requires
 put_points-requires c =

@@ -22,10 +22,13 @@ each_point-requires c =
     let v = turn-values (turn-of c.requires c.span_at-s.ensures) in
     (λ p h. search rules, omega (arith, v.3))
 
+pub invariant_of-func : goal.invariant_of-func
+invariant_of-func c = record { fits = turn-fits (turn-of c.requires c.span_at-s.ensures) }
+
 pub next_points-requires : goal.next_points-requires
 next_points-requires c =
     let i = turn-fits (turn-of c.requires c.span_at-s.ensures) in
-    (i, kept-blocks c.args.work.now c.span_at-s.result i.frame (filled-as (λ p v i e. search rules) c.each_point.ensures))
+    kept-blocks c.args.work.now c.span_at-s.result i.frame (filled-as (λ p v i e. search rules) c.each_point.ensures)
 
 pub put_points-requires : goal.put_points-requires
 put_points-requires c =

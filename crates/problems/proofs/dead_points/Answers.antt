@@ -9,7 +9,7 @@ use Rattle.problems.proofs.dead_points.Goals as goal
 pub returns : goal.returns
 returns c =
     let a = c.solve.ensures in (
-      filled-as (dead-read _ _ c.requires a.0)
-          (filled-front (λ m v. Lowest m c.args.s.frame v) _ (omega arith) (filled-as (λ p v i k. search rules) c.each_set.ensures)),
+      filled-as (dead-read _ _ c.args.func.fits a.0)
+          (filled-front (λ m v. Lowest m c.args.func.span.frame v) _ (omega arith) (filled-as (λ p v i k. search rules) c.each_set.ensures)),
       a.1,
     )

@@ -4,4 +4,4 @@ use Rattle.problems.proofs.fill.Given as goal
 
 abbrev pub invariant-loop-p : goal.invariant-loop-p
 invariant-loop-p l =
-    Filled (Gives l.problem l.work l.s l.column) l.p l.initial.gens l.gens × Filled (Takes l.problem l.work l.s l.column) l.p l.initial.kills l.kills
+    Filled (Gives l.problem l.func.work.now l.func.span l.column) l.p l.initial.gens l.gens × Filled (Takes l.problem l.func.work.now l.func.span l.column) l.p l.initial.kills l.kills

@@ -13,7 +13,7 @@ returns c =
     let n = c.new-flow.ensures in
     let k = rw (n.0, n.1, n.2, n.3) at c.forward.ensures in (
       filled-as
-          (λ p v h top t g e r. high_read _ _ i.0 _ _ _ low f.0 f.1 t g e r i.2 i.3 k.0 p v h top)
+          (λ p v h top t g e r. high_read _ _ c.args.func.fits _ _ _ low f.0 f.1 t g e r i.1 i.2 k.0 p v h top)
           (filled-front Top _ (omega arith) c.each_set.ensures),
       record { of_gens = f.0.kept; of_kills = f.1.kept; of_sets = k.1; of_state = k.2 },
     )

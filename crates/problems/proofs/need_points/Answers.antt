@@ -8,4 +8,4 @@ use Rattle.problems.proofs.need_points.Goals as goal
 pub returns : goal.returns
 returns c =
     let a = c.solve.ensures in
-    (filled-as (need-read _ _ c.requires a.0) (filled-front Top _ (omega arith) c.each_set.ensures), a.1)
+    (filled-as (need-read _ _ c.args.func.fits a.0) (filled-front Top _ (omega arith) c.each_set.ensures), a.1)
