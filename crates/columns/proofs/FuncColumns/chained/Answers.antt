@@ -1,0 +1,23 @@
+-- The point after a call keeps at most the frame, which has a price.
+use Prim.Native.Nat.{◌+◌}
+use native.Mathlib.Omega.{arith}
+use borrow.Author.Tests.{lt-ltb, le-ltb}
+use Rattle.columns.specs.Values.{chained_at}
+use Rattle.columns.proofs.Values.{kept_low}
+use Rattle.columns.proofs.FuncColumns.chained.Goals as goal
+
+pub returns-then-p-self : goal.returns-then-p-self
+unfolding chained_at
+returns-then-p-self c =
+    let a = c.args in
+    rw (lt-ltb (a.p + 1) a.self.span.size (omega arith), ← c.kept.ensures) (omega (arith, c.of_move.ensures.0))
+
+pub returns-else-p-self : goal.returns-else-p-self
+unfolding chained_at
+returns-else-p-self c =
+    let a = c.args in
+    rw (le-ltb (a.p + 1) a.self.span.size (omega arith))
+
+pub of_move-requires : goal.of_move-requires
+of_move-requires c =
+    (c.requires.3, omega (arith, kept_low _ _ _ c.kept.ensures))

@@ -1,0 +1,7 @@
+-- By the definition.
+use Rattle.columns.specs.Values.{kept_at}
+use Rattle.columns.proofs.FuncColumns.kept.Goals as goal
+
+pub returns : goal.returns
+unfolding kept_at
+returns c = rw (← c.figure_at-fill.ensures) c.saturating_sub.ensures
