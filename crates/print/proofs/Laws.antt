@@ -35,6 +35,9 @@ pasted-one : (at d : ℕ) (out : List ℕ) → at < length out → set out at d 
 unfolding pasted
 pasted-one at d out h = rw add-one (set_split out at d h)
 
+pub wrote-over : (w out : List ℕ) {o : List ℕ} {r : ℕ} → Wrote 0 w out r o → (r ≡ length w) × (o ≡ over w out)
+wrote-over w out x = (omega (arith, x.end), x.buffer ∙ pasted-start w out)
+
 -- what stands from a byte on that was written
 pub drop-set : (i d : ℕ) (out : List ℕ) → i < length out → drop i (set out i d) ≡ d ∷ drop (suc i) out
 drop-set i d out h =
