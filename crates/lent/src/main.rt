@@ -33,8 +33,8 @@ fn untouched(work: &[u32]) -> usize {
 
 fn say_verdict(rt: &impl Print, v: Verdict) -> io::Result<()> {
     let (code, place) = match v {
-        Verdict::Accepted => (0, 0),
-        Verdict::Refused(r) => (codes::code_of(r.row), r.place),
+        Ok(()) => (0, 0),
+        Err(r) => (codes::code_of(r.row), r.place),
     };
     println!(rt; "  code {code} place {place}")
 }

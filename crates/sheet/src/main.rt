@@ -6,7 +6,7 @@ ghost use Rattle.std.specs.Io.{StartsWith};
 ghost use Rattle.print.specs.Print.{Wrote};
 ghost use Rattle.sheet.specs.Answer.{refusal_line, Answers, most_line, IsPrefixLen};
 
-use model::{Limits, Refusal, Verdict};
+use model::{Limits, Refusal};
 use std::fmt::InlineText;
 use std::io;
 use std::io::Read;
@@ -65,10 +65,9 @@ fn answer(text: &[u8], output: &mut [u8], work: &mut [u32]) -> usize
     ensures fits { IsPrefixLen result output.new }
 {
     let result = services::report(text, InBlocks::START, InBlocks::EACH, output, work);
-    let verdict = result.verdict;
-    match verdict {
-        Verdict::Accepted => result.written as usize,
-        Verdict::Refused(r) => put_refusal(output, r),
+    match result {
+        Ok(n) => n as usize,
+        Err(r) => put_refusal(output, r),
     }
 }
 
