@@ -4,23 +4,22 @@ use Prim.Native.Nat.{ℕ, zero, suc, ◌+◌, ◌-◌, ◌*◌, ◌≤◌, ◌<�
 use mathlib.Core.Bool.{Bool, false}
 use mathlib.Core.List.{List, [], ◌∷◌, ◌++◌, map, map-map, map-append, Memᴰ}
 use mathlib.Core.Logic.{◌⊎◌, inl, inr, ⊎_elim}
-use mathlib.Core.Path.{◌≡◌, refl, sym, ap, subst, ◌∙◌}
+use mathlib.Core.Path.{◌≡◌, sym, ap, subst, ◌∙◌}
 use native.Mathlib.Decide.{dec_lt}
 use native.Mathlib.Nat.{mul-le-mul_right, suc-mul}
 use native.Mathlib.Numerals.{add-one}
 use native.Mathlib.Omega.{arith}
 use lib.Dec.{T, ltb, ltb→lt, lt→ltb}
 use lib.ListN.{length, take, get_or, replicate, length-append, length-map, length-take}
-use lib.Seq.{take-suc, get_or-take}
 use Rattle.model.specs.Limits.{most_funcs, most_points, most_dearest}
-use Rattle.model.specs.Basic.{joined, smaller_first, count_from, up_to, sorted}
+use Rattle.model.specs.Basic.{joined, smaller_first, up_to, sorted}
 use Rattle.model.specs.Text.{bytes}
 use Rattle.model.specs.Task.{Task, size, count, func}
 use Rattle.model.specs.Sheet.{Sheet, Record, record_at, records_in, records_of, line_text}
 use Rattle.model.specs.WellFormed.{Shaped}
 use Rattle.model.specs.Dearest.{placed_before, dearer, dearest, dear_text, dearest_with}
 use Rattle.theory.proofs.Lists.{same_test, mem-map, map-joined, joined-map, up_to-next, joined-next, length-up_to, sum-most, length-joined}
-use Rattle.theory.proofs.Between.{mem-get_or}
+use Rattle.theory.proofs.Between.{mem-get_or, get_or-mem}
 use Rattle.theory.proofs.Sorting.{first_holds, map_first}
 use Rattle.theory.proofs.Dearest.{record_is, ten-dearest}
 use Rattle.tables.specs.declared.Header.{Header}
@@ -34,9 +33,9 @@ use Rattle.readout.proofs.Limits.{Low, records-low}
 use Rattle.print.proofs.Laws.{none-length}
 use Rattle.print.proofs.Digits.{taken, digits-line}
 use Rattle.ranks.specs.Ranks.{higher, best}
-use Rattle.ranks.proofs.Laws.{best-append, best-zeros, length-best}
-use Rattle.dearest.specs.Ranking.{rank_of, rank_at, point_ranks, func_ranks, ranks_in, ranked_func, ranked_point, ranked_cost, rank_text, line_at}
-use Rattle.dearest.specs.Ranking.{save_end, cost_end, rank_end, most_line, most_list, ListingIn, listed}
+use Rattle.ranks.proofs.Laws.{best-append, best-zeros}
+use Rattle.dearest.specs.Ranking.{rank_of, rank_at, point_ranks, func_ranks, ranks_in, ranked_func, ranked_point, ranked_cost, rank_text}
+use Rattle.dearest.specs.Ranking.{save_end, cost_end, rank_end, most_line, most_list, list_text, Printable, Lists, listed}
 
 -- ---- an order of digits
 
@@ -234,40 +233,36 @@ module _ (t : Task) (s : Sheet) (shaped : Shaped t) (low : (x : Record) → Mem�
         length-take most_dearest (sorted dearer (records_of t s)),
       )
 
--- the first n of a list by their numbers
-first-numbers : (l : List ℕ) (n : ℕ) → n ≤ length l → map (λ i. get_or l i 0) (up_to n) ≡ take n l
-unfolding count_from
-first-numbers l zero h = refl
-first-numbers l (suc n) h =
-    ap (λ (k : ℕ). map (λ i. get_or l i 0) (up_to k)) (sym (add-one n))
-    ∙ ap (map (λ i. get_or l i 0)) (up_to-next n)
-    ∙ map-append (λ i. get_or l i 0) (up_to n) (n ∷ [])
-    ∙ ap (λ r. r ++ (get_or l n 0 ∷ [])) (first-numbers l n (omega arith))
-    ∙ sym (take-suc l n 0 h)
+-- the lines of ranks that can be printed are short
+pub list-most : {ranks : List ℕ} → Printable ranks → length (list_text ranks) ≤ most_list
+list-most {ranks} k =
+    omega (
+      arith,
+      length-joined rank_text ranks,
+      sum-most (λ r. length (rank_text r)) most_line ranks (λ r m. let i = get_or-mem 0 m in line-most r (omega (arith, i.2, k.low i.0 i.1))),
+      k.few,
+    )
 
 -- from no rank, the points of all functions have been taken in
-pub listing : {price : Price} {w : List ℕ} {h : Header} (ranks : List ℕ) (n : ℕ) → Readable price w h
-    → ranks ≡ best (replicate most_dearest 0) (ranks_in price w h) → n ≡ listed h → ListingIn price w h n ranks
-listing {price} {w} {h} ranks n k e m =
+pub listing : {price : Price} {w : List ℕ} {h : Header} (ranks : List ℕ) → Readable price w h
+    → ranks ≡ best (replicate most_dearest 0) (ranks_in price w h) → Lists price w h ranks
+listing {price} {w} {h} ranks k e =
     let t = task_of w h in
     let s = sheet_in price w h in
     let shaped = k.settled.formed.shaped in
     let r = ranks_in price w h in
+    let n = listed h in
     let size = ranks-count s w h h.funcs (omega arith) ∙ points-all k.settled.holds.stacked in
-    let long : length ranks ≡ most_dearest = ap length e ∙ length-best (replicate most_dearest 0) r refl in
-    let c : n ≡ min most_dearest (length r) = omega (arith, m, size) in
+    let c : n ≡ min most_dearest (length r) = omega (arith, size) in
     let top : take n ranks ≡ map rank_of (dearest (records_of t s)) =
     (λ i. take (c i) (e i)) ∙ best-zeros r ∙ ap (λ (q : ℕ). take most_dearest (sorted higher (func_ranks t s q))) (sym (count-is w h))
     ∙ highest-listed t s shaped (records-low k) in
     record {
       printable = record {
-        few = omega arith;
+        few = omega (arith, length-take n ranks);
         low = λ i l.
-            let g = mem-get_or (take n ranks) i 0 (omega (arith, length-take n ranks)) in
-            rw (← get_or-take n ranks i 0 l) (listed-low t s shaped (records-low k) (get_or (take n ranks) i 0) (subst (λ q. Memᴰ (get_or (take n ranks) i 0) q) top g));
+            listed-low t s shaped (records-low k) (get_or (take n ranks) i 0)
+            (subst (λ q. Memᴰ (get_or (take n ranks) i 0) q) top (mem-get_or (take n ranks) i 0 l));
       };
-      text =
-          sym (joined-map rank_text (λ i. get_or ranks i 0) (line_at ranks) (up_to n) (λ i l. refl))
-          ∙ ap (joined rank_text) (first-numbers ranks n (omega arith) ∙ top)
-          ∙ listed-lines t s shaped (records-low k);
+      text = ap (joined rank_text) top ∙ listed-lines t s shaped (records-low k);
     }

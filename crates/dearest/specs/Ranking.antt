@@ -1,5 +1,5 @@
 -- A record's rank: one number that is higher where the record comes earlier in the list of the dearest points. And the list as it is printed from ranks.
-use Rattle.std.specs.Prelude.{ℕ, ◌+◌, ◌-◌, ◌*◌, ◌/◌, ◌%◌, ◌≤◌, ◌<◌, min, ◌≡◌, List, [], ◌∷◌, map, get_or}
+use Rattle.std.specs.Prelude.{ℕ, ◌+◌, ◌-◌, ◌*◌, ◌/◌, ◌%◌, ◌≤◌, ◌<◌, min, ◌≡◌, List, [], ◌∷◌, map, get_or, length, take}
 use Rattle.model.specs.Limits.{most_funcs, most_points, most_dearest}
 use Rattle.model.specs.Basic.{joined, up_to}
 use Rattle.model.specs.Text.{bytes}
@@ -50,15 +50,12 @@ ranked_point r = most_points - 1 - r % most_points
 abbrev pub ranked_cost : ℕ → ℕ
 ranked_cost r = r / most_points / most_funcs / save_end
 
--- the line of a rank, and the lines of the first n of these ranks
+-- the line of a rank, and the lines of these ranks
 unfoldable pub rank_text : ℕ → List ℕ
 rank_text r = line_text (bytes "(dear") (ranked_func r ∷ ranked_point r ∷ ranked_cost r ∷ [])
 
-abbrev pub line_at : List ℕ → ℕ → List ℕ
-line_at ranks i = rank_text (get_or ranks i 0)
-
-abbrev pub list_text : List ℕ → ℕ → List ℕ
-list_text ranks n = joined (line_at ranks) (up_to n)
+abbrev pub list_text : List ℕ → List ℕ
+list_text ranks = joined rank_text ranks
 
 -- a cost has at most seven digits, so costs and ranks are below these numbers; the most bytes of a line, and of a list
 abbrev pub cost_end : ℕ
@@ -73,23 +70,24 @@ most_line = 22
 abbrev pub most_list : ℕ
 most_list = most_line * most_dearest
 
--- the first n of these ranks can be printed
-pub record Printable (n : ℕ) (ranks : List ℕ) : Type 0 where
-  pub few : n ≤ most_dearest
-  pub low : (i : ℕ) → i < n → get_or ranks i 0 < rank_end
+-- these ranks can be printed
+pub record Printable (ranks : List ℕ) : Type 0 where
+  pub few : length ranks ≤ most_dearest
+  pub low : (i : ℕ) → i < length ranks → get_or ranks i 0 < rank_end
 
--- the lines of the first n of these ranks are the list of the dearest points of a task on this sheet
-pub record Listing (t : Task) (s : Sheet) (n : ℕ) (ranks : List ℕ) : Type 0 where
-  pub printable : Printable n ranks
-  pub text : list_text ranks n ≡ dearest_with t s
+-- the lines of these ranks are the list of the dearest points of a task on this sheet
+pub record Listing (t : Task) (s : Sheet) (ranks : List ℕ) : Type 0 where
+  pub printable : Printable ranks
+  pub text : list_text ranks ≡ dearest_with t s
 
 -- that of the task and the sheet in the working space w
 abbrev pub list_in : Price → List ℕ → Header → List ℕ
 list_in price w h = dearest_with (task_of w h) (sheet_in price w h)
 
-abbrev pub ListingIn : Price → List ℕ → Header → ℕ → List ℕ → Type 0
-ListingIn price w h n ranks = Listing (task_of w h) (sheet_in price w h) n ranks
-
 -- how many points are listed of a task with this header
 abbrev pub listed : Header → ℕ
 listed h = min most_dearest h.points
+
+-- the first of these ranks, as many as are listed, have that list
+abbrev pub Lists : Price → List ℕ → Header → List ℕ → Type 0
+Lists price w h ranks = Listing (task_of w h) (sheet_in price w h) (take (listed h) ranks)

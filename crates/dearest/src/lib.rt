@@ -2,22 +2,20 @@
 // one number that is higher where the point comes earlier in the list, so the pass compares numbers.
 #![tactic(auto)]
 
-ghost use Rattle.std.specs.Prelude.{◌≡◌, ◌+◌, ◌<◌, ◌≤◌, length, replicate};
-ghost use Rattle.model.specs.Limits.{most_funcs, most_points, most_dearest};
+ghost use Rattle.std.specs.Prelude.{◌≡◌, ◌+◌, ◌<◌, ◌≤◌, length};
+ghost use Rattle.model.specs.Limits.{most_funcs, most_points};
 ghost use Rattle.model.specs.Text.{bytes};
 ghost use Rattle.model.specs.Sheet.{line_text};
 ghost use Rattle.model.specs.Services.{over};
-ghost use Rattle.readout.specs.Sheet.{sheet_in};
-ghost use Rattle.readout.specs.Readable.{Readable, InFunc};
-ghost use Rattle.ranks.specs.Ranks.{Falling, best};
-ghost use Rattle.print.specs.Print.{Wrote};
-ghost use Rattle.dearest.specs.Ranking.{save_end, rank_with, rank_at, point_ranks, ranks_in, rank_text, list_text, rank_end, most_line, most_list};
-ghost use Rattle.dearest.specs.Ranking.{Printable, ListingIn, listed as listed·spec};
+ghost use Rattle.tables.specs.Tables.{size_at};
+ghost use Rattle.readout.specs.View.{sheet_of};
+ghost use Rattle.ranks.specs.Ranks.{best};
+ghost use Rattle.dearest.specs.Ranking.{save_end, rank_with, point_ranks, ranks_in, rank_text, list_text, rank_end, most_list, Printable, Lists};
 
 use model::Limits;
-use prices::Price;
-use readout::PointFigures;
-use tables::{Header, Span};
+use print::{Counter, Sink, Writer};
+use ranks::Ranks;
+use readout::{PointFigures, Sheet};
 
 // How many prices of what is saved, functions of a task and points of a function a rank has room for.
 #[derive(Clone, Copy)]
@@ -41,67 +39,33 @@ fn rank_with(x: PointFigures, f: usize, p: usize) -> u64
     ((x.cost as u64 * Rank::SAVES + x.save as u64) * Rank::FUNCS + func) * Rank::POINTS + point
 }
 
-// The rank of point p of function f, which is s.
-fn rank_at(work: &[u32], h: Header, price: Price, f: usize, s: Span, p: usize) -> u64
-    requires { InFunc price work.now h f s × (p < s.size) }
-    ensures { result ≡ rank_at (sheet_in price work.now h) f p }
+// Takes the points of function f in.
+fn rank_points(ranks: &mut Ranks, sheet: Sheet, f: usize)
+    requires { f < sheet.header.funcs }
+    ensures { ranks.new.places ≡ best ranks.old.places (point_ranks (sheet_of sheet.entry) f (size_at sheet.entry.work.now f)) }
 {
-    let x = readout::point_figures(work, h, price, f, s, p);
-    rank_with(x, f, p)
-}
-
-// Takes the points of function f in, which is s.
-fn rank_points(
-    ranks: &mut [u64; Limits::DEAREST],
-    work: &[u32],
-    h: Header,
-    price: Price,
-    f: usize,
-    s: Span,
-)
-    requires { InFunc price work.now h f s × Falling ranks.old × (length ranks.old ≡ most_dearest) }
-    ensures { ranks.new ≡ best ranks.old (point_ranks (sheet_in price work.now h) f s.size) }
-{
-    let size = s.size;
-    let mut p: usize = 0;
-    while p < size {
-        let rank = rank_at(work, h, price, f, s, p);
-        ranks::take_in(ranks, rank);
-        p += 1;
+    for p in 0..tables::span_at(sheet.work, f).size {
+        let rank = rank_with(sheet.point(f, p), f, p);
+        ranks.take_in(rank);
     }
 }
 
 // Takes the points of all functions in.
-fn rank_funcs(ranks: &mut [u64; Limits::DEAREST], work: &[u32], h: Header, price: Price)
-    requires { Readable price work.now h × Falling ranks.old × (length ranks.old ≡ most_dearest) }
-    ensures { ranks.new ≡ best ranks.old (ranks_in price work.now h) }
+fn rank_funcs(ranks: &mut Ranks, sheet: Sheet)
+    ensures { ranks.new.places ≡ best ranks.old.places (ranks_in sheet.entry.price sheet.entry.work.now sheet.entry.header) }
 {
-    let funcs = h.funcs;
-    let mut f: usize = 0;
-    while f < funcs {
-        let s = tables::span_at(work, f);
-        rank_points(ranks, work, h, price, f, s);
-        f += 1;
+    for f in 0..sheet.header.funcs {
+        rank_points(ranks, sheet, f);
     }
 }
 
-// How many points are listed.
-fn listed(h: Header) -> usize
-    ensures { result ≡ listed·spec h }
+// Ranks the points of a task. The first of these ranks are those of its dearest points: as many as it has points, and at most ten.
+pub fn rank_task(sheet: Sheet) -> Ranks
+    ensures { Lists sheet.entry.price sheet.entry.work.now sheet.entry.header result.places }
 {
-    if h.points < Limits::DEAREST {
-        return h.points;
-    }
-    Limits::DEAREST
-}
-
-// Ranks the dearest points of the task that the tables hold, from the dearest on, and returns how many they are.
-pub fn rank_task(ranks: &mut [u64; Limits::DEAREST], work: &[u32], h: Header, price: Price) -> usize
-    requires { Readable price work.now h × (ranks.old ≡ replicate most_dearest 0) }
-    ensures { ListingIn price work.now h result ranks.new }
-{
-    rank_funcs(ranks, work, h, price);
-    listed(h)
+    let mut ranks = Ranks::none();
+    rank_funcs(&mut ranks, sheet);
+    ranks
 }
 
 // The numbers of the line of a rank: function, point and cost.
@@ -116,47 +80,35 @@ fn rank_numbers(rank: u64) -> [u32; 3]
     [func as u32, point as u32, cost as u32]
 }
 
-// How many bytes the line has.
-fn line_length(rank: u64) -> usize
-    requires { rank < rank_end }
-    ensures { (result ≡ length (rank_text rank)) × (result ≤ most_line) }
+// Puts the lines of these ranks.
+fn put_ranks<S: Sink>(out: &mut S, ranks: &[u64])
+    requires { Printable ranks.now × (S.end out.old + length (list_text ranks.now) ≤ S.room out.old) }
+    ensures { S.Puts (list_text ranks.now) out.old out.new }
 {
-    print::line_length(b"(dear", &rank_numbers(rank))
-}
-
-// Writes the line from byte at on, and returns where it ends.
-fn put_line(out: &mut [u8], at: usize, rank: u64) -> usize
-    requires { (rank < rank_end) × (at + length (rank_text rank) ≤ length out.old) }
-    ensures { Wrote at (rank_text rank) out.old result out.new }
-{
-    print::put_line(out, at, b"(dear", &rank_numbers(rank))
-}
-
-// How many bytes the lines of the first n ranks have.
-pub fn list_length(ranks: &[u64; Limits::DEAREST], n: usize) -> usize
-    requires { Printable n ranks.now }
-    ensures { (result ≡ length (list_text ranks.now n)) × (result ≤ most_list) }
-{
-    let mut length: usize = 0;
-    let mut i: usize = 0;
-    while i < n {
-        length += line_length(ranks[i]);
-        i += 1;
+    for rank in ranks {
+        print::put_line(out, b"(dear", &rank_numbers(*rank));
     }
-    length
+}
+
+// How many bytes the lines of these ranks have.
+pub fn list_length(ranks: &[u64]) -> usize
+    requires { Printable ranks.now }
+    ensures { (result ≡ length (list_text ranks.now)) × (result ≤ most_list) }
+{
+    let mut lines = Counter { count: 0 };
+    put_ranks(&mut lines, ranks);
+    lines.count
 }
 
 // Writes them over the first bytes of the output, and returns how many they are.
-pub fn put_list(output: &mut [u8], ranks: &[u64; Limits::DEAREST], n: usize) -> usize
-    requires { Printable n ranks.now × (length (list_text ranks.now n) ≤ length output.old) }
-    ensures { (result ≡ length (list_text ranks.now n))
-        × (output.new ≡ over (list_text ranks.now n) output.old) }
+pub fn put_list(output: &mut [u8], ranks: &[u64]) -> usize
+    requires { Printable ranks.now × (length (list_text ranks.now) ≤ length output.old) }
+    ensures { (result ≡ length (list_text ranks.now)) × (output.new ≡ over (list_text ranks.now) output.old) }
 {
-    let mut end: usize = 0;
-    let mut i: usize = 0;
-    while i < n {
-        end = put_line(output, end, ranks[i]);
-        i += 1;
-    }
-    end
+    let mut lines = Writer {
+        out: output,
+        end: 0,
+    };
+    put_ranks(&mut lines, ranks);
+    lines.end
 }

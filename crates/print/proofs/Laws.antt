@@ -13,10 +13,9 @@ use Rattle.model.specs.Basic.{joined, count_from, up_to}
 use Rattle.model.specs.Text.{bytes}
 use Rattle.model.specs.Sheet.{decimal, line_text}
 use Rattle.model.specs.Services.{over}
-use Rattle.theory.proofs.Lists.{joined-append, joined_snoc, joined-next, length-joined, sum_room}
+use Rattle.theory.proofs.Lists.{joined-append, joined_snoc, length-joined, sum_room}
 use Rattle.theory.proofs.Decimal.{decimal-small, decimal-large, length-small, length-large}
 use Rattle.print.specs.Print.{pasted, Wrote, spaced}
-use Rattle.print.specs.Wrote.{wrote_on, wrote_nothing}
 
 -- a buffer that bytes are written into
 
@@ -34,6 +33,9 @@ copied at k w v out e i = rw (e, i, drop-drop (length w) at out)
 pasted-one : (at d : ℕ) (out : List ℕ) → at < length out → set out at d ≡ pasted at (d ∷ []) out
 unfolding pasted
 pasted-one at d out h = rw add-one (set_split out at d h)
+
+pub wrote-over : (w out : List ℕ) {o : List ℕ} {r : ℕ} → Wrote 0 w out r o → (r ≡ length w) × (o ≡ over w out)
+wrote-over w out x = (omega (arith, x.end), x.buffer ∙ pasted-start w out)
 
 -- what stands from a byte on that was written
 pub drop-set : (i d : ℕ) (out : List ℕ) → i < length out → drop i (set out i d) ≡ d ∷ drop (suc i) out
@@ -96,65 +98,27 @@ wrote-two at m out h k l =
           ∙ number-last at (at + 1) m out h (omega arith) (omega arith);
     }
 
--- numbers with a space before each
+-- a piece for each number of a list: one more, and that it lies before the end of all
+module _ (g : ℕ → List ℕ) (l : List ℕ) (i : ℕ) where
+  pub item-next : i < length l → joined g (take (i + 1) l) ≡ joined g (take i l) ++ g (get_or l i 0)
+  item-next h = rw (add-one, take-suc l i 0 h) (joined_snoc g (take i l) (get_or l i 0))
 
--- none of them
-pub length_none : length (spaced []) ≡ 0
-unfolding joined
-length_none = refl
+  items-first : (k : ℕ) → length (joined g (take k l)) ≤ length (joined g l)
+  items-first k =
+      let e = ap (λ (r : List ℕ). length (joined g r)) (take-append-drop k l) in
+      let f = ap length (joined-append g (take k l) (drop k l)) in
+      omega (arith, length-append (joined g (take k l)) (joined g (drop k l)))
 
-pub spaced-none : (at : ℕ) (out : List ℕ) → Wrote at (spaced []) out at out
-unfolding joined
-spaced-none at out = wrote_nothing at out
+  pub item-within : i < length l → length (joined g (take i l)) + length (g (get_or l i 0)) ≤ length (joined g l)
+  item-within h =
+      omega (arith, ap length (item-next h), length-append (joined g (take i l)) (g (get_or l i 0)), items-first (i + 1))
 
--- one more
-pub spaced-next : (l : List ℕ) (i : ℕ) → i < length l → spaced (take (i + 1) l) ≡ spaced (take i l) ++ (bytes " " ++ decimal (get_or l i 0))
-spaced-next l i h = rw (add-one, take-suc l i 0 h) (joined_snoc (λ m. bytes " " ++ decimal m) (take i l) (get_or l i 0))
-
-pub length-next : (l : List ℕ) (i : ℕ) → i < length l
-    → length (spaced (take (i + 1) l)) ≡ length (spaced (take i l)) + 1 + length (decimal (get_or l i 0))
-length-next l i h =
-    let w = spaced (take i l) in
-    let v = decimal (get_or l i 0) in
-    omega (arith, ap length (spaced-next l i h), length-append w (bytes " " ++ v))
-
--- the first i of them are not longer than all
-length-first : (l : List ℕ) (i : ℕ) → length (spaced (take i l)) ≤ length (spaced l)
-length-first l i =
-    let e = ap (λ (r : List ℕ). length (spaced r)) (take-append-drop i l) in
-    let f = ap length (joined-append (λ m. bytes " " ++ decimal m) (take i l) (drop i l)) in
-    omega (arith, length-append (spaced (take i l)) (spaced (drop i l)))
-
-pub length-room : (l : List ℕ) (i : ℕ) → i < length l → length (spaced (take i l)) + 1 + length (decimal (get_or l i 0)) ≤ length (spaced l)
-length-room l i h = omega (arith, length-next l i h, length-first l (i + 1))
-
--- a space and a number written after those before it
-pub spaced-on : {at e r z : ℕ} (i : ℕ) (l : List ℕ) {out o o' o'' : List ℕ} → i < length l → at ≤ length out
-    → Wrote at (spaced (take i l)) out e o → Wrote e (bytes " ") o r o' → Wrote r (decimal (get_or l i 0)) o' z o''
-    → Wrote at (spaced (take (i + 1) l)) out z o''
-spaced-on i l h k a b d =
-    rw (spaced-next l i h, ← append_assoc (spaced (take i l)) (bytes " ") (decimal (get_or l i 0))) (wrote_on k (wrote_on k a b) d)
-
--- pieces for the numbers below n, one after the other
-
+-- pieces for the numbers below n: no piece, and a piece lies before the end of all
 module _ (g : ℕ → List ℕ) where
-  -- no piece, and one more
   pub none-length : length (joined g (up_to 0)) ≡ 0
   unfolding joined count_from
   none-length = refl
 
-  pub next-length : (n : ℕ) → length (joined g (up_to (n + 1))) ≡ length (joined g (up_to n)) + length (g n)
-  next-length n = ap length (joined-next g n) ∙ length-append (joined g (up_to n)) (g n)
-
-  pub none-wrote : (at : ℕ) (out : List ℕ) → Wrote at (joined g (up_to 0)) out at out
-  unfolding joined count_from
-  none-wrote at out = wrote_nothing at out
-
-  pub next-wrote : {at e r : ℕ} (n : ℕ) {out o o' : List ℕ} → at ≤ length out → Wrote at (joined g (up_to n)) out e o → Wrote e (g n) o r o'
-      → Wrote at (joined g (up_to (n + 1))) out r o'
-  next-wrote n h a b = rw (joined-next g n) (wrote_on h a b)
-
-  -- a piece lies before the end of all
   pub next-room : (k n : ℕ) → k < n → length (joined g (up_to k)) + length (g k) ≤ length (joined g (up_to n))
   next-room k n h = omega (arith, length-joined g (up_to k), length-joined g (up_to n), sum_room (λ i. length (g i)) k n h)
 

@@ -1,15 +1,15 @@
 -- Bytes put into any sink, one piece after the other: their room, numbers with a space before each, and pieces for the numbers below n.
 use Prim.Native.Nat.{ℕ, ◌+◌, ◌≤◌, ◌<◌}
 use native.Mathlib.Omega.{arith}
-use mathlib.Core.List.{List, [], ◌++◌}
+use mathlib.Core.List.{List, ◌++◌}
 use lib.ListN.{length, get_or, take}
 use Rattle.model.specs.Basic.{joined, count_from, up_to}
 use Rattle.model.specs.Text.{bytes}
-use Rattle.model.specs.Sheet.{decimal, line_text}
+use Rattle.model.specs.Sheet.{line_text}
 use Rattle.theory.proofs.Lists.{joined-next}
 use Rattle.print.specs.Print.{spaced}
 use Rattle.print.specs.Sink.{SinkLaws}
-use Rattle.print.proofs.Laws.{length-room, spaced-next, line-parts, next-room}
+use Rattle.print.proofs.Laws.{item-next, item-within, line-parts, next-room}
 
 module _ {S : Type 0} {end room : S → ℕ} {Puts : List ℕ → S → S → Type 0} (laws : SinkLaws end room Puts) where
   -- what is left of the room
@@ -19,17 +19,18 @@ module _ {S : Type 0} {end room : S → ℕ} {Puts : List ℕ → S → S → Ty
   pub then : {w v : List ℕ} {s t u : S} → Puts w s t → Puts v t u → Puts (w ++ v) s u
   then p q = laws.more _ _ _ _ _ p q
 
-  -- numbers with a space before each: none, the room of one more, and one more
-  pub spaced_none : (s : S) → end s ≤ room s → Puts (spaced []) s s
-  unfolding joined
-  spaced_none s h = laws.nothing s h
+  -- a piece for each number of a list: none, the room of one more, and one more
+  module _ (g : ℕ → List ℕ) (l : List ℕ) where
+    pub items-none : (s : S) → end s ≤ room s → Puts (joined g (take 0 l)) s s
+    unfolding joined
+    items-none s h = laws.nothing s h
 
-  module _ (l : List ℕ) (i : ℕ) {s t : S} (k : i < length l) (p : Puts (spaced (take i l)) s t) where
-    pub space-room : end s + length (spaced l) ≤ room s → end t + 1 + length (decimal (get_or l i 0)) ≤ room t
-    space-room h = omega (arith, room-after (1 + length (decimal (get_or l i 0))) (omega (arith, length-room l i k)) p)
+    module _ (i : ℕ) {s t : S} (k : i < length l) (p : Puts (joined g (take i l)) s t) where
+      pub item-room : end s + length (joined g l) ≤ room s → end t + length (g (get_or l i 0)) ≤ room t
+      item-room h = room-after (length (g (get_or l i 0))) (omega (arith, item-within g l i k)) p
 
-    pub spaced-more : {u v : S} → Puts (bytes " ") t u → Puts (decimal (get_or l i 0)) u v → Puts (spaced (take (i + 1) l)) s v
-    spaced-more q r = rw (spaced-next l i k) (then p (then q r))
+      pub item-more : {u : S} → Puts (g (get_or l i 0)) t u → Puts (joined g (take (i + 1) l)) s u
+      item-more q = rw (item-next g l i k) (then p q)
 
   -- a line
   pub line-put : (w l : List ℕ) {s t u v : S} → Puts w s t → Puts (spaced l) t u → Puts (bytes ")\n") u v → Puts (line_text w l) s v

@@ -13,6 +13,9 @@ pub record Wrote (at : ℕ) (w out : List ℕ) (r : ℕ) (out' : List ℕ) : Typ
   pub end : r ≡ at + length w
   pub buffer : out' ≡ pasted at w out
 
--- numbers in decimal with a space before each, as a line of the report has them
+-- a number in decimal with a space before it, and several, as a line of the report has them
+abbrev pub spaced_number : ℕ → List ℕ
+spaced_number m = bytes " " ++ decimal m
+
 abbrev pub spaced : List ℕ → List ℕ
-spaced l = joined (λ m. bytes " " ++ decimal m) l
+spaced l = joined spaced_number l

@@ -10,7 +10,7 @@ use native.Mathlib.Decide.{dec_le}
 use native.Mathlib.Numerals.{add-one}
 use native.Mathlib.Omega.{arith}
 use lib.Dec.{ltb→lt, nltb→le}
-use lib.ListN.{length, get_or, set, take, drop, replicate, length-take, length-set, drop_of_length-le}
+use lib.ListN.{length, get_or, set, take, drop, replicate, length-take, drop_of_length-le}
 use lib.Seq.{take_all, take-length, take-take, take-append-le, drop-cons, append_snoc, take-suc-set, drop-set-lt}
 use Rattle.model.specs.Limits.{most_dearest}
 use Rattle.model.specs.Basic.{inserted, sorted_onto, sorted}
@@ -101,34 +101,24 @@ pub sunk-best : (y : ℕ) (l : List ℕ) → Falling l → length l ≡ most_dea
 unfolding best sorted_onto
 sunk-best y l p h = sunk-inserted y l p ∙ ap (λ (n : ℕ). take n (inserted higher y l)) h
 
--- the rank has sunk to place i of ten as y; the places before it are done
+-- the rank has sunk to place i as y; the places before it are done
 pub record Sinking (rank y i : ℕ) (l l' : List ℕ) : Type 0 where
-  pub within : i ≤ most_dearest
-  pub long : length l' ≡ most_dearest
   pub so_far : sunk rank l ≡ take i l' ++ sunk y (drop i l')
 
-pub sinking-first : (y : ℕ) (l : List ℕ) → length l ≡ most_dearest → Sinking y y 0 l l
-sinking-first y l h = record { within = omega arith; long = h; so_far = refl }
-
 -- place i keeps a, the higher one, and b goes on
-pub sinking-on : {rank y i a b : ℕ} {l l' : List ℕ} → Sinking rank y i l l' → i < most_dearest
+pub sinking-on : {rank y i a b : ℕ} {l l' : List ℕ} → Sinking rank y i l l' → i < length l'
     → a ≡ max (get_or l' i 0) y → b ≡ min (get_or l' i 0) y → Sinking rank b (i + 1) l (set l' i a)
 unfolding sunk
-sinking-on {rank} {y} {i} {a} {b} {l} {l'} s h e d =
-    let k : i < length l' = omega (arith, s.long) in
+sinking-on {i = i} {a} {l' = l'} s k e d =
     record {
-      within = omega arith;
-      long = simp length-set s.long;
       so_far =
           rw (add-one i, take-suc-set l' i a k, drop-set-lt (suc i) l' i a (omega arith), append_snoc, e, d)
           (s.so_far ∙ rw (drop-cons l' i 0 k) refl);
     }
 
-pub sinking-end : {rank y i : ℕ} {l l' : List ℕ} → Sinking rank y i l l' → most_dearest ≤ i → l' ≡ sunk rank l
+pub sinking-end : {rank y i : ℕ} {l l' : List ℕ} → Sinking rank y i l l' → length l' ≤ i → l' ≡ sunk rank l
 unfolding sunk
-sinking-end {i = i} {l' = l'} s h =
-    let k : length l' ≤ i = omega (arith, s.long) in
-    sym (s.so_far ∙ rw (drop_of_length-le l' k, append-nil) (take_all i l' k))
+sinking-end {i = i} {l' = l'} s k = sym (s.so_far ∙ rw (drop_of_length-le l' k, append-nil) (take_all i l' k))
 
 -- ---- from ten zeros on
 

@@ -1,35 +1,48 @@
-// The ten highest ranks of those met so far, from the highest on, in a lent array. A rank is a number by which something is put in order.
-// The functions go through a slice of the array, since that tells the proof that there are ten places.
+// The ten highest ranks of those met so far, from the highest on. A rank is a number by which something is put in order.
 #![tactic(auto)]
 
-ghost use Rattle.std.specs.Prelude.{◌≡◌, [], ◌∷◌};
-ghost use Rattle.ranks.specs.Ranks.{Falling, sunk, best};
+ghost use Rattle.std.specs.Prelude.{◌≡◌, [], ◌∷◌, length, replicate};
+ghost use Rattle.model.specs.Limits.{most_dearest};
+ghost use Rattle.ranks.specs.Ranks.{Falling, falling_prop, sunk, best};
 
 use model::Limits;
 
-// Each place keeps the higher of its rank and of the one that comes to it; the lower goes on to the next place, and past the last one it is dropped.
-fn sink(ranks: &mut [u64; Limits::DEAREST], rank: u64)
-    ensures { ranks.new ≡ sunk rank ranks.old }
-{
-    let places: &mut [u64] = ranks;
-    let mut sinking = rank;
-    let mut i: usize = 0;
-    while i < Limits::DEAREST {
-        let here = places[i];
-        places[i] = numbers::larger_u64(here, sinking);
-        sinking = numbers::smaller_u64(here, sinking);
-        i += 1;
+// The ten highest ranks, from the highest on. Before any is met they are 0.
+#[derive(Clone, Copy)]
+pub struct Ranks {
+    pub places: [u64; Limits::DEAREST],
+    pub ghost ten: { length places ≡ most_dearest },
+    pub ghost falling: { Falling places } by { falling_prop places },
+}
+
+impl Ranks {
+    pub fn none() -> Ranks
+        ensures { result.places ≡ replicate most_dearest 0 }
+    {
+        Ranks {
+            places: [0; Limits::DEAREST],
+        }
+    }
+
+    // Takes one more rank in. Most are no higher than the last one, and change nothing.
+    pub fn take_in(&mut self, rank: u64)
+        ensures { self.new.places ≡ best self.old.places (rank ∷ []) }
+    {
+        if rank <= self.places[Limits::DEAREST - 1] {
+            return;
+        }
+        sink(&mut self.places, rank);
     }
 }
 
-// Takes one more rank in. Most are no higher than the last one, and change nothing.
-pub fn take_in(ranks: &mut [u64; Limits::DEAREST], rank: u64)
-    requires { Falling ranks.old }
-    ensures { ranks.new ≡ best ranks.old (rank ∷ []) }
+// Each place keeps the higher of its rank and of the one that comes to it; the lower goes on to the next place, and past the last one it is dropped.
+fn sink(places: &mut [u64], rank: u64)
+    ensures { places.new ≡ sunk rank places.old }
 {
-    let places: &[u64] = ranks;
-    if rank <= places[Limits::DEAREST - 1] {
-        return;
+    let mut sinking = rank;
+    for place in places.iter_mut() {
+        let here = *place;
+        *place = here.max(sinking);
+        sinking = here.min(sinking);
     }
-    sink(ranks, rank);
 }

@@ -3,12 +3,13 @@ use Prim.Native.Nat.{ℕ, ◌+◌, ◌-◌, ◌*◌, ◌≤◌, ◌<◌}
 use native.Mathlib.Omega.{arith}
 use mathlib.Core.List.{List, Memᴰ}
 use mathlib.Core.Path.{refl, subst}
-use Rattle.model.specs.Limits.{most_stack}
+use Rattle.model.specs.Limits.{most_stack, most_points}
 use Rattle.model.specs.Sheet.{PointSheet, costed, Record, records_of}
 use Rattle.theory.proofs.Dearest.{record_is}
 use Rattle.tables.specs.declared.Header.{Header}
 use Rattle.tables.specs.Tables.{item, base_at, size_at, task_of}
 use Rattle.tables.proofs.Laws.{count-is, size_is}
+use Rattle.tables.proofs.Valid.{settled-fits}
 use Rattle.prices.specs.declared.Price.{Price}
 use Rattle.prices.specs.Prices.{price_of, most_price}
 use Rattle.prices.proofs.Laws.{price-small}
@@ -31,6 +32,10 @@ pub record Low (m : ℕ) (x : PointSheet) : Type 0 where
   pub fill : x.fill ≤ m
 
 module _ {price : Price} {w : List ℕ} {h : Header} (k : Readable price w h) (f : ℕ) (l : f < h.funcs) where
+  -- the function has few points
+  pub size-low : size_at w f ≤ most_points
+  size-low = (settled-fits k.settled f l).small
+
   pub figures-within : (m : ℕ) → ((n : ℕ) → n ≤ most_stack → price_of price n ≤ m) → (p : ℕ) → p < size_at w f → Low m ((sheet_in price w h).at f p)
   unfolding costed
   figures-within m priced p i =

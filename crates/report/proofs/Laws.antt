@@ -1,95 +1,64 @@
 -- The lines of the report by the figures that are read back, part after part.
-use Prim.Native.Nat.{ℕ, ◌+◌, ◌≤◌, ◌<◌, zero-le}
+use Prim.Native.Nat.{ℕ, ◌+◌, ◌≤◌, ◌<◌}
 use native.Mathlib.Omega.{arith}
 use mathlib.Core.Bool.{Bool, true, false}
-use lib.Dec.{eqb, eqb→eq}
 use mathlib.Core.Path.{◌≡◌, refl, ap, sym, ◌∙◌}
 use mathlib.Core.List.{List, [], ◌∷◌, ◌++◌, append_assoc}
-use lib.ListN.{length, length-append}
+use lib.ListN.{length, take, length-append}
 use Rattle.model.specs.Basic.{joined, sum_of, count_from, up_to}
 use Rattle.model.specs.Text.{bytes}
 use Rattle.model.specs.Task.{Task, count}
-use Rattle.model.specs.Sheet.{Sheet, PointSheet, counts_blocks, line_text, record_at, records_in, records_of, total_of, total_text, head_text, point_text, func_text, report_with}
-use Rattle.model.specs.Services.{over}
+use Rattle.model.specs.Sheet.{Sheet, PointSheet, line_text, record_at, records_in, records_of, total_of, total_text, head_text, point_text, func_text, report_with}
 use Rattle.theory.proofs.Lists.{joined-map, joined-next, sum-joined, sum-next, sum_room}
 use Rattle.theory.proofs.Total.{total-in}
 use Rattle.tables.specs.declared.Header.{Header}
-use Rattle.tables.specs.declared.Span.{Span}
 use Rattle.tables.specs.Tables.{size_at, task_of}
 use Rattle.tables.proofs.Laws.{size_is, count-is}
 use Rattle.prices.specs.declared.Price.{Price}
-use Rattle.print.specs.Print.{Wrote}
-use Rattle.print.proofs.Laws.{pasted-start, wrote_on, wrote_nothing, next-room}
+use Rattle.print.specs.Sink.{SinkLaws}
+use Rattle.print.proofs.Sinks.{then, room-after, piece-room}
 use Rattle.readout.specs.declared.FuncFigures.{FuncFigures}
 use Rattle.readout.specs.Sheet.{sheet_in}
-use Rattle.readout.specs.Readable.{InFunc, func_figures}
-use Rattle.report.specs.declared.Lines.{Lines}
+use Rattle.readout.specs.Readable.{func_figures}
 use Rattle.report.specs.Report.{Part, both, first_parts, shows_once, point_numbers, at_text, points_part, head_part, func_part, funcs_part, foot_text, report_in, ends_text}
-use Rattle.report.specs.Report.{Room, Counts, Adds}
+use Rattle.report.specs.Report.{Room, Adds, shown, most_total}
 
--- ---- parts that are counted or written one after the other
+-- ---- parts that are put into a sink one after the other
 
-module _ {l m r : Lines} {a b : Part} where
-  pub counts-both : Counts l a m → Counts m b r → Counts l (both a b) r
-  counts-both x y = record { end = omega (arith, x.end, y.end, length-append a.text b.text); total = omega (arith, x.total, y.total) }
+next-part : (part : ℕ → Part) (n : ℕ) → first_parts part (n + 1) ≡ both (first_parts part n) (part n)
+next-part part n = λ i. record { text = joined-next (λ k. (part k).text) n i; cost = sum-next (λ k. (part k).cost) n i }
 
-  pub adds-both : {out o o' : List ℕ} → l.end ≤ length out → Adds l a out m o → Adds m b o r o' → Adds l (both a b) out r o'
-  adds-both h x y = record { wrote = wrote_on h x.wrote y.wrote; total = omega (arith, x.total, y.total) }
+module _ {S : Type 0} {end room : S → ℕ} {Puts : List ℕ → S → S → Type 0} (laws : SinkLaws end room Puts) where
+  -- two parts, and the room of each
+  pub adds-both : (a b : Part) {s t u : S} {k m r : ℕ} → r ≡ k + m → Adds Puts a s k t → Adds Puts b t m u → Adds Puts (both a b) s r u
+  adds-both a b e x y = record { put = then laws x.put y.put; sum = omega (arith, e, x.sum, y.sum) }
 
--- a part of one line
-module _ {l m : Lines} (a : Part) {k : ℕ} (cost : k ≡ a.cost) where
-  pub line-counted : {n : ℕ} → n ≡ length a.text → (m.end ≡ l.end + n) × (m.total ≡ l.total + k) → Counts l a m
-  line-counted e r = record { end = omega (arith, e, r.0); total = omega (arith, r.1, cost) }
+  pub room-first : (a b : Part) {s : S} → Room (end s) (both a b) (room s) → Room (end s) a (room s)
+  room-first a b x = record { bytes = omega (arith, x.bytes, length-append a.text b.text); sum = omega (arith, x.sum) }
 
-  pub line-added : {text out o : List ℕ} {n : ℕ} → text ≡ a.text → Wrote l.end text out n o → (m.end ≡ n) × (m.total ≡ l.total + k)
-      → Adds l a out m o
-  line-added e x r = record { wrote = rw r.0 (rw e at x); total = omega (arith, r.1, cost) }
+  pub room-second : (a b : Part) {s t : S} → Room (end s) (both a b) (room s) → Puts a.text s t → Room (end t) b (room t)
+  room-second a b x p =
+      record { bytes = room-after laws (length b.text) (omega (arith, x.bytes, length-append a.text b.text)) p; sum = omega (arith, x.sum) }
 
--- what is written is counted
-pub adds-counts : {l r : Lines} {a : Part} {out o : List ℕ} → Adds l a out r o → Counts l a r
-adds-counts x = record { end = x.wrote.end; total = x.total }
+  -- the first of many: none, one more, its room, and the sum with it
+  module _ (part : ℕ → Part) where
+    pub none-added : (s : S) → end s ≤ room s → Adds Puts (first_parts part 0) s 0 s
+    unfolding joined sum_of count_from
+    none-added s h = record { put = laws.nothing s h; sum = omega arith }
 
--- each of two has room where both have, the second after the first
-module _ {l : Lines} (a b : Part) {n : ℕ} (x : Room l (both a b) n) where
-  pub room-first : Room l a n
-  room-first = record { bytes = omega (arith, x.bytes, length-append a.text b.text); sum = omega (arith, x.sum) }
+    pub next-added : (n : ℕ) {s t u : S} {k m r : ℕ} → r ≡ k + m → Adds Puts (first_parts part n) s k t → Adds Puts (part n) t m u
+        → Adds Puts (first_parts part (n + 1)) s r u
+    next-added n e x y = rw (next-part part n) (adds-both (first_parts part n) (part n) e x y)
 
-  pub room-second : {m : Lines} → Counts l a m → Room m b n
-  room-second y = record {
-    bytes = omega (arith, x.bytes, y.end, length-append a.text b.text);
-    sum = omega (arith, x.sum, y.total);
-  }
+    module _ (k n : ℕ) {s t : S} {z : ℕ} (h : k < n) (x : Room (end s) (first_parts part n) (room s)) (y : Adds Puts (first_parts part k) s z t) where
+      pub next-has-room : Room (end t) (part k) (room t)
+      next-has-room = record {
+        bytes = piece-room laws (λ i. (part i).text) k n h x.bytes y.put;
+        sum = omega (arith, x.sum, sum_room (λ i. (part i).cost) k n h);
+      }
 
-pub room-start : {l : Lines} {a : Part} {n : ℕ} → Room l a n → l.end ≤ n
-room-start x = omega (arith, x.bytes)
-
--- the first of many: none, and one more
-module _ (part : ℕ → Part) where
-  next-part : (n : ℕ) → first_parts part (n + 1) ≡ both (first_parts part n) (part n)
-  next-part n = λ i. record { text = joined-next (λ k. (part k).text) n i; cost = sum-next (λ k. (part k).cost) n i }
-
-  pub none-counted : (l : Lines) → Counts l (first_parts part 0) l
-  unfolding joined sum_of count_from
-  none-counted l = record { end = omega arith; total = omega arith }
-
-  pub none-added : (l : Lines) (out : List ℕ) → Adds l (first_parts part 0) out l out
-  unfolding joined sum_of count_from
-  none-added l out = record { wrote = wrote_nothing l.end out; total = omega arith }
-
-  module _ (n : ℕ) {l m r : Lines} where
-    pub next-counted : Counts l (first_parts part n) m → Counts m (part n) r → Counts l (first_parts part (n + 1)) r
-    next-counted x y = rw (next-part n) (counts-both x y)
-
-    pub next-added : {out o o' : List ℕ} → l.end ≤ length out → Adds l (first_parts part n) out m o → Adds m (part n) o r o'
-        → Adds l (first_parts part (n + 1)) out r o'
-    next-added h x y = rw (next-part n) (adds-both h x y)
-
-  -- the next one has room where all have
-  pub next-has-room : (k n : ℕ) {l m : Lines} {b : ℕ} → k < n → Room l (first_parts part n) b → Counts l (first_parts part k) m → Room m (part k) b
-  next-has-room k n h x y = record {
-    bytes = omega (arith, x.bytes, y.end, next-room (λ i. (part i).text) k n h);
-    sum = omega (arith, x.sum, y.total, sum_room (λ i. (part i).cost) k n h);
-  }
+      pub next-sum : {u : S} {r : ℕ} → Adds Puts (part k) t r u → z + r ≤ most_total
+      next-sum a = omega (arith, x.sum, y.sum, a.sum, sum_room (λ i. (part i).cost) k n h)
 
 -- ---- the parts of the report
 
@@ -98,25 +67,16 @@ pub point-text : {x y : PointSheet} (price : Price) (f p : ℕ) → x ≡ y → 
 unfolding point_text
 point-text price f p e = ap (λ (z : PointSheet). at_text price p z) e
 
--- by whether it has once
-pub shown-text : (price : Price) (p : ℕ) (x : PointSheet) (b : Bool) {numbers : List ℕ} → shows_once price ≡ b → numbers ≡ point_numbers b p x
-    → line_text (bytes "  (at") numbers ≡ at_text price p x
-shown-text price p x b e k = ap (line_text (bytes "  (at")) k ∙ ap (λ (c : Bool). line_text (bytes "  (at") (point_numbers c p x)) (sym e)
+-- the numbers that it shows
+pub shown-numbers : (b : Bool) (p : ℕ) (x : PointSheet) → take (shown b) (point_numbers true p x) ≡ point_numbers b p x
+shown-numbers true p x = refl
+shown-numbers false p x = refl
 
-pub shown-wrote : (price : Price) (p : ℕ) (x : PointSheet) (b : Bool) {numbers : List ℕ} {at r : ℕ} {out out' : List ℕ} → shows_once price ≡ b
-    → numbers ≡ point_numbers b p x → Wrote at (line_text (bytes "  (at") numbers) out r out' → Wrote at (at_text price p x) out r out'
-shown-wrote price p x b e k w = rw (← shown-text price p x b e k) w
-
--- start and each, by their tests
-pub start-counts : (start each : ℕ) → (start ≡ 0 → ⊥) → false ≡ counts_blocks start each
-start-counts start each h = go (eqb start 0) refl
-  where
-    go : (b : Bool) → eqb start 0 ≡ b → false ≡ counts_blocks start each
-    go true e = absurd (h (eqb→eq start 0 (rw e tt)))
-    go false e = rw e refl
-
-pub each_counts : (start each : ℕ) → start ≡ 0 → eqb each 1 ≡ counts_blocks start each
-each_counts start each e = rw e refl
+-- the line of point p of function f, by its figures and its numbers
+pub point-line : (price : Price) (f : ℕ) {p k : ℕ} {x y : PointSheet} {numbers : List ℕ} → x ≡ y → numbers ≡ point_numbers true p x
+    → k ≡ shown (shows_once price)
+    → line_text (bytes "  (at") (take k numbers) ≡ point_text (shows_once price) (record { fn = f; at = p; figures = y })
+point-line price f {p} {x = x} e i j = rw (i, j, shown-numbers (shows_once price) p x) (point-text price f p e)
 
 pub head-text : (price : Price) (w : List ℕ) (h : Header) (f : ℕ) (r : FuncFigures) → r ≡ func_figures price w h f
     → line_text (bytes "  (func") (f ∷ r.frame ∷ r.shortest ∷ r.longest ∷ r.spill ∷ r.chain ∷ []) ≡ (head_part price w h f).text
@@ -140,12 +100,6 @@ module _ (price : Price) (w : List ℕ) (h : Header) (f : ℕ) (l : f < h.funcs)
 
   pub func-parts : func_part price w h f ≡ both (head_part price w h f) (points_part price w h f (size_at w f))
   func-parts = λ i. record { text = func-lines i; cost = func-cost i }
-
--- the same of a function that has been read
-pub opened-func : {price : Price} {w : List ℕ} {h : Header} {f : ℕ} {s : Span} → InFunc price w h f s
-    → func_part price w h f ≡ both (head_part price w h f) (points_part price w h f s.size)
-opened-func {price} {w} {h} {f} k =
-    func-parts price w h f k.low ∙ sym (ap (λ (s : Span). both (head_part price w h f) (points_part price w h f s.size)) k.span)
 
 -- the length of a report: that of its first and its last line, of the lines of the functions and of the foot line
 pub report-length : (once : Bool) (t : Task) (s : Sheet) → length (report_with once t s)
@@ -188,15 +142,12 @@ module _ (price : Price) (w : List ℕ) (h : Header) where
       ∙ ap (λ (n : ℕ). ends_text + length (funcs_part price w h n).text + length (foot_text price w h)) (count-is w h)
 
   -- the foot line, by the sum of the costs of all functions
-  pub foot-text : (n : ℕ) → n ≡ 0 + (funcs_part price w h h.funcs).cost → line_text (bytes "  (total") (n ∷ []) ≡ foot_text price w h
+  pub foot-text : (n : ℕ) → n ≡ (funcs_part price w h h.funcs).cost → line_text (bytes "  (total") (n ∷ []) ≡ foot_text price w h
   unfolding total_text
   foot-text n e = ap (λ (m : ℕ). line_text (bytes "  (total") (m ∷ [])) (omega (arith, e, total-all))
 
-  -- the report, written line after line
-  pub report-wrote : {e r y z : ℕ} {out o o' o'' o''' : List ℕ} → Wrote 0 (bytes "(report\n") out e o
-      → Wrote e (funcs_part price w h h.funcs).text o r o' → Wrote r (foot_text price w h) o' y o'' → Wrote y (bytes ")\n") o'' z o'''
-      → (z ≡ length (report_in price w h)) × (o''' ≡ over (report_in price w h) out)
-  report-wrote {z = z} {out = out} {o''' = o'''} a b c d =
-      let l = report_in price w h in
-      let x : Wrote 0 l out z o''' = rw report-lines (wrote_on zero-le (wrote_on zero-le (wrote_on zero-le a b) c) d) in
-      (omega (arith, x.end), x.buffer ∙ pasted-start l out)
+  -- the report, put line after line
+  pub report-put : {S : Type 0} {end room : S → ℕ} {Puts : List ℕ → S → S → Type 0} (laws : SinkLaws end room Puts) {s t u v z : S}
+      → Puts (bytes "(report\n") s t → Puts (funcs_part price w h h.funcs).text t u → Puts (foot_text price w h) u v → Puts (bytes ")\n") v z
+      → Puts (report_in price w h) s z
+  report-put laws a b c d = rw report-lines (then laws (then laws (then laws a b) c) d)

@@ -18,8 +18,7 @@ use Rattle.theory.proofs.Prices.{moves-blocks}
 use Rattle.theory.proofs.Dearest.{record_is}
 use Rattle.theory.proofs.Total.{records-count}
 use Rattle.tables.specs.declared.Header.{Header}
-use Rattle.tables.specs.declared.Span.{Span}
-use Rattle.tables.specs.Tables.{task_of}
+use Rattle.tables.specs.Tables.{size_at, task_of}
 use Rattle.tables.proofs.Laws.{count-is, size_is, sum-funcs}
 use Rattle.prices.specs.declared.Price.{Price}
 use Rattle.prices.specs.Prices.{price_of, most_price, Small}
@@ -27,10 +26,9 @@ use Rattle.prices.proofs.Laws.{price-small}
 use Rattle.columns.specs.Values.{most_chain}
 use Rattle.columns.proofs.Limits.{frame-low, longest-low, shortest-low}
 use Rattle.readout.specs.Sheet.{sheet_in}
-use Rattle.readout.specs.Readable.{Readable, InFunc}
+use Rattle.readout.specs.Readable.{Readable}
 use Rattle.readout.proofs.Limits.{Low, figures-within, figures-low, spill-low, chain-low}
 use Rattle.print.proofs.Digits.{Within, taken, digits-line}
-use Rattle.report.specs.declared.Lines.{Lines}
 use Rattle.report.specs.Report.{Sums, shows_once, point_numbers, funcs_part, report_in, Room, most_total}
 use Rattle.report.specs.Report.{most_point_text, most_head_text, most_foot_text, ends_text, most_length, most_report}
 use Rattle.report.proofs.Laws.{report-length, report-size, total-all}
@@ -169,10 +167,10 @@ module _ (once : Bool) {t : Task} {s : Sheet} (shaped : Shaped t) (low : LowShee
 -- ---- the sheet in the columns
 
 -- the figures of a point as they were read are small enough to add
-pub sums-read : {price : Price} {w : List ℕ} {h : Header} {f : ℕ} {s : Span} {x : PointSheet} → InFunc price w h f s → (p : ℕ) → p < s.size
+pub sums-read : {price : Price} {w : List ℕ} {h : Header} {f : ℕ} {x : PointSheet} → Readable price w h → f < h.funcs → (p : ℕ) → p < size_at w f
     → x ≡ (sheet_in price w h).at f p → Sums x
-sums-read {f = f} k p i e =
-    let l = figures-low k.readable f k.low p (omega (arith, ap (λ (s : Span). s.size) k.span)) in
+sums-read {f = f} k l p i e =
+    let l = figures-low k f l p i in
     rw e (record { save = l.save; reload = l.reload; later = l.later; chain = omega (arith, l.chain) })
 
 module _ {price : Price} {w : List ℕ} {h : Header} (k : Readable price w h) where
@@ -202,9 +200,8 @@ module _ {price : Price} {w : List ℕ} {h : Header} (k : Readable price w h) wh
   report-small = report-limited (shows_once price) k.settled.formed.shaped columns-low
 
   -- all functions have room after the first line, where the report has
-  pub funcs-room : (n : ℕ) (l : Lines) → length (report_in price w h) ≤ n → l.end ≡ length (bytes "(report\n") → l.total ≡ 0
-      → Room l (funcs_part price w h h.funcs) n
-  funcs-room n l r e z = record {
+  pub funcs-room : (e : ℕ) {r : ℕ} → e + length (report_in price w h) ≤ r → Room (e + length (bytes "(report\n")) (funcs_part price w h h.funcs) r
+  funcs-room e l = record {
     bytes = omega (arith, report-size price w h);
     sum = omega (arith, total-all price w h, total-low);
   }

@@ -1,5 +1,5 @@
 -- The report, piece by piece: its lines, the sum of the costs that they show, and how long it can be.
-use Rattle.std.specs.Prelude.{ℕ, ◌+◌, ◌*◌, ◌≤◌, Bool, ◌≡◌, List, ◌∷◌, ◌++◌, length}
+use Rattle.std.specs.Prelude.{ℕ, ◌+◌, ◌*◌, ◌≤◌, Bool, true, false, ◌≡◌, List, ◌∷◌, ◌++◌, length}
 use Rattle.model.specs.Limits.{most_funcs, most_in_all}
 use Rattle.model.specs.Basic.{joined, sum_of, up_to}
 use Rattle.model.specs.Text.{bytes}
@@ -9,8 +9,6 @@ use Rattle.prices.specs.declared.Price.{Price}
 use Rattle.prices.specs.Prices.{most_price}
 use Rattle.tables.specs.Tables.{task_of}
 use Rattle.readout.specs.Sheet.{sheet_in}
-use Rattle.print.specs.Print.{Wrote}
-use Rattle.report.specs.declared.Lines.{Lines}
 
 -- the lines of the points have once, where a price is a number of blocks
 abbrev pub shows_once : Price → Bool
@@ -20,6 +18,11 @@ shows_once price = counts_blocks price.start price.each
 abbrev pub point_numbers : Bool → ℕ → PointSheet → List ℕ
 point_numbers once p x =
     p ∷ x.high ∷ x.dead ∷ x.need ∷ x.save ∷ x.reload ∷ x.later ∷ x.chain ∷ x.cost ∷ x.fill ∷ once_field once x
+
+-- how many numbers a line has, with once or without
+abbrev pub shown : Bool → ℕ
+shown true = 11
+shown false = 10
 
 -- the figures of a point are small enough to add
 pub record Sums (x : PointSheet) : Type 0 where
@@ -71,26 +74,21 @@ foot_text price w h = total_text (records_of (task_of w h) (sheet_in price w h))
 abbrev pub report_in : Price → List ℕ → Header → List ℕ
 report_in price w h = report_with (shows_once price) (task_of w h) (sheet_in price w h)
 
--- ---- lines that are counted or written after those so far
+-- ---- lines that are put into a sink after those so far
 
 -- the most that the costs of all points add up to
 abbrev pub most_total : ℕ
 most_total = most_price * (most_funcs + 2) * most_in_all
 
--- they have room in so many bytes, and their costs in a sum of 32 bits
-pub record Room (lines : Lines) (part : Part) (room : ℕ) : Type 0 where
-  pub bytes : lines.end + length part.text ≤ room
-  pub sum : lines.total + part.cost ≤ most_total
+-- after so many bytes they have room in so many, and their costs in a sum of 32 bits
+pub record Room (end : ℕ) (part : Part) (room : ℕ) : Type 0 where
+  pub bytes : end + length part.text ≤ room
+  pub sum : part.cost ≤ most_total
 
--- they are counted
-pub record Counts (lines : Lines) (part : Part) (r : Lines) : Type 0 where
-  pub end : r.end ≡ lines.end + length part.text
-  pub total : r.total ≡ lines.total + part.cost
-
--- they are written into out, which is then out'
-pub record Adds (lines : Lines) (part : Part) (out : List ℕ) (r : Lines) (out' : List ℕ) : Type 0 where
-  pub wrote : Wrote lines.end part.text out r.end out'
-  pub total : r.total ≡ lines.total + part.cost
+-- they are put into s, which is then t, and r is the sum of their costs
+pub record Adds {S : Type 0} (Puts : List ℕ → S → S → Type 0) (part : Part) (s : S) (r : ℕ) (t : S) : Type 0 where
+  pub put : Puts part.text s t
+  pub sum : r ≡ part.cost
 
 -- ---- how long it can be
 

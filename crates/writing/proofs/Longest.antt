@@ -15,7 +15,7 @@ use Rattle.model.specs.Task.{Task, Judged, refused, task}
 use Rattle.model.specs.Sheet.{move_price, counts_blocks, priced_sheet, records_of, total_of, report_text}
 use Rattle.model.specs.Dearest.{dearest_text}
 use Rattle.model.specs.Refusal.{or_task, with_rows, judged, priced_rows, judge, no_rows, rows_before, output_rows}
-use Rattle.model.specs.Services.{cleared, verdict_of, AfterWrite, written_as, written_by, report_of, dearest_of}
+use Rattle.model.specs.Services.{cleared, verdict_of, AfterWrite, written_verdict, written_as, written_by, report_of, dearest_of}
 use Rattle.model.specs.WellFormed.{Shaped}
 use Rattle.theory.proofs.Accepted.{judged-as, judges, accepted}
 use Rattle.prices.specs.declared.Price.{Price}
@@ -103,11 +103,11 @@ module _ (asked : ℕ) (first : Option Refusal) (rows : Task → Option Refusal)
   room-written =
       ap (λ (j : Judged). written_as print j (cleared asked work) output) (judged-room first rows print text (length output) fits)
 
-  pub room-verdict : (written_by asked first rows print text work output).result.verdict ≡ verdict_of (judge first rows text)
+  pub room-verdict : written_verdict (written_by asked first rows print text work output).result ≡ verdict_of (judge first rows text)
   unfolding verdict_of
-  room-verdict = ap (λ (x : AfterWrite). x.result.verdict) room-written ∙ go (judge first rows text)
+  room-verdict = ap (λ (x : AfterWrite). written_verdict x.result) room-written ∙ go (judge first rows text)
     where
-      go : (j : Judged) → (written_as print j (cleared asked work) output).result.verdict ≡ verdict_of j
+      go : (j : Judged) → written_verdict (written_as print j (cleared asked work) output).result ≡ verdict_of j
       go (refused r) = refl
       go (task t) = refl
 
@@ -127,14 +127,14 @@ module _ (asked : ℕ) (rows : Task → Option Refusal) (print : ℕ → ℕ →
       let small = priced-small asked (length work) (record { start = start; each = each }) a.no-first in
       omega (arith, bound text t start each (judges text t a.task) small.start small.each)
 
-  pub priced-verdict : (written_by asked first rows (print start each) text work output).result.verdict ≡ verdict_of (judge first rows text)
+  pub priced-verdict : written_verdict (written_by asked first rows (print start each) text work output).result ≡ verdict_of (judge first rows text)
   priced-verdict = room-verdict asked first rows (print start each) text work output priced-fits
 
 -- report and the dearest points
 pub report-verdict : (text : List ℕ) (start each : ℕ) (work output : List ℕ) → most_report ≤ length output
-    → (report_of text start each work output).result.verdict ≡ verdict_of (judge (priced_rows work_length (length work) start each) no_rows text)
+    → written_verdict (report_of text start each work output).result ≡ verdict_of (judge (priced_rows work_length (length work) start each) no_rows text)
 report-verdict = priced-verdict work_length no_rows (λ start each. report_text (counts_blocks start each) (move_price start each)) most_report report-fits
 
 pub dearest-verdict : (text : List ℕ) (start each : ℕ) (work output : List ℕ) → most_list ≤ length output
-    → (dearest_of text start each work output).result.verdict ≡ verdict_of (judge (priced_rows work_length (length work) start each) no_rows text)
+    → written_verdict (dearest_of text start each work output).result ≡ verdict_of (judge (priced_rows work_length (length work) start each) no_rows text)
 dearest-verdict = priced-verdict work_length no_rows (λ start each. dearest_text (move_price start each)) most_list list-fits

@@ -5,5 +5,5 @@ use Rattle.report.proofs.func_numbers.Goals as goal
 
 pub returns : goal.returns
 returns c =
-    let a = c.args in
-    (head-text a.price a.work.now a.h a.f c.func_figures-x.result c.func_figures-x.ensures, refl)
+    let s = c.args.sheet in
+    (head-text s.price s.work.now s.header c.args.f c.func-x.result c.func-x.ensures, refl)

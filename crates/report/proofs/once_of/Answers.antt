@@ -5,4 +5,4 @@ use Rattle.report.proofs.once_of.Goals as goal
 
 pub returns : goal.returns
 unfolding once_of
-returns c = omega (arith, c.smaller.ensures, c.above-missing.ensures, c.larger.ensures)
+returns c = omega (arith, c.min.ensures, c.saturating_sub-missing.ensures, c.max.ensures)

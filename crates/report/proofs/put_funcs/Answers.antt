@@ -1,41 +1,39 @@
--- The loop's invariant: the lines of the first f functions are written.
+-- One function a turn.
 use native.Mathlib.Omega.{arith}
-use mathlib.Core.Path.{◌≡◌, refl}
+use mathlib.Core.Path.{◌≡◌}
 use Rattle.report.specs.Report.{func_part}
-use Rattle.report.proofs.Laws.{adds-counts, none-added, next-added, next-has-room, room-start}
+use Rattle.report.proofs.Laws.{none-added, next-added, next-has-room, next-sum}
 use Rattle.report.proofs.put_funcs.Goals as goal
 
 pub loop-f-init : goal.loop-f-init
-loop-f-init c =
-    let a = c.args in
-    (omega arith, refl, none-added (func_part a.price a.work.now a.h) a.lines a.out.now)
+loop-f-init g c =
+    let s = c.args.sheet in
+    none-added g.met.S.Sink.laws (func_part s.price s.work.now s.header) _ (omega (arith, c.requires.bytes))
 
-pub put_func-so_far-requires : goal.put_func-so_far-requires
-put_func-so_far-requires c =
-    let a = c.args in
+pub put_func-cost-requires : goal.put_func-cost-requires
+put_func-cost-requires g c =
+    let s = c.args.sheet in
+    let l = c.loop-f in (
+      omega arith,
+      next-has-room g.met.S.Sink.laws (func_part s.price s.work.now s.header) l.f s.header.funcs (omega arith) c.requires l.invariant,
+    )
+
+pub overflow_add-total : goal.overflow_add-total
+overflow_add-total g c =
+    let s = c.args.sheet in
     let l = c.loop-f in
-    let part = func_part a.price a.work.now a.h in
-    let room = next-has-room part l.f a.h.funcs (omega arith) c.requires.1 (adds-counts l.invariant.2) in
-    (c.requires.0, omega arith, rw l.invariant.1 room)
-
-pub overflow_add-f : goal.overflow_add-f
-overflow_add-f c = omega (arith, c.requires.0.settled.holds.few)
-
-pub loop-f-smaller : goal.loop-f-smaller
-loop-f-smaller c = omega arith
+    omega (
+      arith,
+      next-sum g.met.S.Sink.laws (func_part s.price s.work.now s.header) l.f s.header.funcs (omega arith) c.requires l.invariant
+          c.put_func-cost.ensures,
+    )
 
 pub loop-f-preserved : goal.loop-f-preserved
-loop-f-preserved c =
-    let a = c.args in
-    let l = c.loop-f in
-    let part = func_part a.price a.work.now a.h in
-    (omega arith, omega arith, next-added part l.f (room-start c.requires.1) l.invariant.2 c.put_func-so_far.ensures)
-
-pub shape_of-out : goal.shape_of-out
-shape_of-out c = omega arith
+loop-f-preserved g c =
+    let s = c.args.sheet in
+    next-added g.met.S.Sink.laws (func_part s.price s.work.now s.header) c.loop-f.f (omega arith) c.loop-f.invariant c.put_func-cost.ensures
 
 pub returns : goal.returns
-returns c =
-    let l = c.loop-f in
-    let e : l.f ≡ c.args.h.funcs = omega arith in
-    rw e at l.invariant.2
+returns g c =
+    let e : c.loop-f.f ≡ c.args.sheet.header.funcs = omega arith in
+    rw e at c.loop-f.invariant

@@ -1,42 +1,45 @@
--- The loop's invariant: the lines of the first p points are written.
+-- One point a turn.
 use native.Mathlib.Omega.{arith}
-use mathlib.Core.Path.{◌≡◌, refl}
-use Rattle.readout.proofs.Read.{size_low}
+use mathlib.Core.Path.{◌≡◌, ap}
+use Rattle.tables.specs.declared.Span.{Span}
+use Rattle.tables.specs.Tables.{size_at}
 use Rattle.report.specs.Report.{point_part}
-use Rattle.report.proofs.Laws.{adds-counts, none-added, next-added, next-has-room, room-start}
+use Rattle.report.proofs.Laws.{none-added, next-added, next-has-room, next-sum}
 use Rattle.report.proofs.put_points.Goals as goal
 
 pub loop-p-init : goal.loop-p-init
-loop-p-init c =
-    let a = c.args in
-    (omega arith, refl, none-added (point_part a.price a.work.now a.h a.f) a.lines a.out.now)
+loop-p-init g c =
+    let s = c.args.sheet in
+    none-added g.met.S.Sink.laws (point_part s.price s.work.now s.header c.args.f) _ (omega (arith, c.requires.1.bytes))
 
-pub put_point-so_far-requires : goal.put_point-so_far-requires
-put_point-so_far-requires c =
-    let a = c.args in
+pub put_point-total-requires : goal.put_point-total-requires
+put_point-total-requires g c =
+    let s = c.args.sheet in
+    let part = point_part s.price s.work.now s.header c.args.f in
+    let size = ap (λ (s : Span). s.size) c.span_at-p-end.ensures in
+    let l = c.loop-p in (
+      c.requires.0,
+      omega (arith, size),
+      next-has-room g.met.S.Sink.laws part l.p (size_at s.work.now c.args.f) (omega (arith, size)) c.requires.1 l.invariant,
+    )
+
+pub overflow_add-total : goal.overflow_add-total
+overflow_add-total g c =
+    let s = c.args.sheet in
+    let part = point_part s.price s.work.now s.header c.args.f in
+    let size = ap (λ (s : Span). s.size) c.span_at-p-end.ensures in
     let l = c.loop-p in
-    let part = point_part a.price a.work.now a.h a.f in
-    let room = next-has-room part l.p a.s.size (omega arith) c.requires.1 (adds-counts l.invariant.2) in
-    (c.requires.0, omega arith, rw l.invariant.1 room)
-
-pub overflow_add-p : goal.overflow_add-p
-overflow_add-p c = omega (arith, size_low c.requires.0)
-
-pub loop-p-smaller : goal.loop-p-smaller
-loop-p-smaller c = omega arith
+    omega (
+      arith,
+      next-sum g.met.S.Sink.laws part l.p (size_at s.work.now c.args.f) (omega (arith, size)) c.requires.1 l.invariant c.put_point-total.ensures,
+    )
 
 pub loop-p-preserved : goal.loop-p-preserved
-loop-p-preserved c =
-    let a = c.args in
-    let l = c.loop-p in
-    let part = point_part a.price a.work.now a.h a.f in
-    (omega arith, omega arith, next-added part l.p (room-start c.requires.1) l.invariant.2 c.put_point-so_far.ensures)
-
-pub shape_of-out : goal.shape_of-out
-shape_of-out c = omega arith
+loop-p-preserved g c =
+    let s = c.args.sheet in
+    next-added g.met.S.Sink.laws (point_part s.price s.work.now s.header c.args.f) c.loop-p.p (omega arith) c.loop-p.invariant c.put_point-total.ensures
 
 pub returns : goal.returns
-returns c =
-    let l = c.loop-p in
-    let e : l.p ≡ c.args.s.size = omega arith in
-    rw e at l.invariant.2
+returns g c =
+    let e : c.loop-p.p ≡ size_at c.args.sheet.work.now c.args.f = omega (arith, ap (λ (s : Span). s.size) c.span_at-p-end.ensures) in
+    rw e at c.loop-p.invariant
