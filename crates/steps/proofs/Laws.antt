@@ -1,6 +1,6 @@
 -- The frames of a state after a step, and the turn of the model that a step is.
 use Prim.Native.Nat.{ℕ, zero, suc, ◌+◌, ◌-◌, ◌*◌, ◌≤◌, ◌<◌}
-use mathlib.Core.List.{List, [], ◌∷◌}
+use mathlib.Core.List.{List, ◌∷◌}
 use mathlib.Core.Path.{◌≡◌, refl, ap, sym, ◌∙◌}
 use native.Mathlib.Omega.{arith}
 use lib.ListN.{length, set, length-set}
@@ -14,7 +14,7 @@ use Rattle.tables.proofs.Laws.{here, elsewhere}
 use Rattle.machine.specs.Moves.{core_of, OnCache}
 use Rattle.steps.specs.declared.State.{State}
 use Rattle.steps.specs.declared.Turned.{Turned}
-use Rattle.steps.specs.Frames.{frames_at, frames_end, put_caller, places_in, frames_from, frames_of, turn_of, plain_turn}
+use Rattle.steps.specs.Frames.{frames_at, frames_end, caller_at, put_caller, places_in, frames_from, frames_of, turn_of, plain_turn}
 use Rattle.steps.specs.Steps.{Stays, IsTurn, IsPlain}
 
 -- the running frame and its callers, where there is one
@@ -101,19 +101,16 @@ module _ (w : List ℕ) (n f p : ℕ) where
       })
 
 -- the last of n callers runs
-pub callers-none : (w : List ℕ) (n : ℕ) → n ≡ 0 → [] ≡ places_in w n
+pub callers-none : (w : List ℕ) (n f p : ℕ) → n ≡ 0 → frames_from w n f p ≡ places_in w n
 unfolding places_in
-callers-none w n e = rw e refl
+callers-none w n f p e = rw e refl
 
-pub caller_runs : (w : List ℕ) (n f p : ℕ) → (n ≡ 0 → ⊥) → f ≡ item w (frames_at + 2 * (n - 1)) → p ≡ item w (frames_at + 2 * (n - 1) + 1)
-    → frames_from w n f p ≡ places_in w n
+pub caller_runs : (w : List ℕ) (n : ℕ) → (n ≡ 0 → ⊥)
+    → frames_from w n (item w (frames_at + 2 * (n - 1))) (item w (frames_at + 2 * (n - 1) + 1)) ≡ places_in w n
 unfolding places_in
-caller_runs w zero f p h a b = absurd (h refl)
-caller_runs w (suc n) f p h a b =
-    let e : suc n - 1 ≡ n = omega arith in
-    let g = a ∙ ap (λ (m : ℕ). item w (frames_at + 2 * m)) e in
-    let i = b ∙ ap (λ (m : ℕ). item w (frames_at + 2 * m + 1)) e in
-    λ j. record { fn = g j; at = i j } ∷ places_in w n
+caller_runs w zero h = absurd (h refl)
+caller_runs w (suc n) h =
+    let e : suc n - 1 ≡ n = omega arith in ap (λ (m : ℕ). caller_at w m ∷ places_in w n) e
 
 -- a step that leaves the running frame
 pub leave-does : (x y : State) (w cache memory : List ℕ) (n : ℕ) (c : Core) → frames_of w y ≡ places_in w n

@@ -6,4 +6,4 @@ use Rattle.steps.proofs.goto_step.Goals as goal
 pub returns : goal.returns
 returns c =
     λ t v w cache memory o.
-    plain-does c.args.x _ _ _ _ _ w cache memory _ c.requires o c.onwards.ensures c.wide.ensures refl refl
+    plain-does c.args.x _ _ _ _ _ w cache memory _ c.requires o c.onwards.ensures refl refl refl

@@ -6,4 +6,4 @@ use Rattle.steps.proofs.load_step.Goals as goal
 
 pub returns : goal.returns
 returns c =
-    λ t v w memory. plain-does c.args.x _ _ _ _ _ w _ memory _ c.requires.some c.requires.on c.onwards.ensures (omega arith) (c.load-answer.ensures memory) refl
+    λ t v w memory. plain-does c.args.x _ _ _ _ _ w _ memory _ c.requires.some c.requires.on c.onwards.ensures (omega arith) (c.load.ensures memory) refl

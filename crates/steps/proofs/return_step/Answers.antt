@@ -9,7 +9,7 @@ use Rattle.steps.proofs.return_step.Goals as goal
 pub returns : goal.returns
 returns c =
     let r = c.caller_runs-state.ensures in
-    let f = c.free-freed.ensures in
+    let f = c.free-machine.ensures in
     let x = c.args.x in
     let cache = c.args.cache.now in
     λ t v memory e.

@@ -8,5 +8,5 @@ pub returns : goal.returns
 returns c =
     let x = c.args.x in
     λ t w memory.
-    plain-does (record { depth = x.depth; f = x.f; p = x.p; machine = c.store-stored.result; moved = x.moved; allowed = x.allowed }) _ _ _ _ _ w _ memory _ c.requires.some c.store-stored.ensures.1 c.onwards.ensures
-    (omega arith) refl (c.store-stored.ensures.0 memory)
+    plain-does (record { depth = x.depth; f = x.f; p = x.p; machine = c.store-machine.result; moved = x.moved; allowed = x.allowed }) _ _ _ _ _ w _ memory _ c.requires.some c.store-machine.ensures.1 c.onwards.ensures
+    (omega arith) refl (c.store-machine.ensures.0 memory)
