@@ -11,10 +11,9 @@ use Rattle.model.specs.Run as run
 use Rattle.model.specs.Run.{Place, onwards}
 use Rattle.tables.specs.Tables.{item}
 use Rattle.tables.proofs.Laws.{here, elsewhere}
-use Rattle.machine.specs.Moves.{core_of, OnCache}
-use Rattle.steps.specs.declared.State.{State}
+use Rattle.machine.specs.Moves.{core_of}
 use Rattle.steps.specs.declared.Turned.{Turned}
-use Rattle.steps.specs.Frames.{frames_at, frames_end, caller_at, put_caller, places_in, frames_from, frames_of, turn_of, plain_turn}
+use Rattle.steps.specs.Frames.{frames_at, frames_end, caller_at, put_caller, places_in, frames_from, turn_of}
 use Rattle.steps.specs.Steps.{Stays, IsTurn, IsPlain}
 
 -- the running frame and its callers, where there is one
@@ -52,14 +51,6 @@ plain-turn price n {r = r} {w} {cache} {memory} {u} d =
       moved = omega (arith, n, d.moved, ap price o, ap price b);
       bound = omega (arith, d.allowed);
     }
-
--- a step that moves nothing
-pub plain-does : (x : State) (r : Turned) (p a p' a' : ℕ) (w cache memory : List ℕ) (c : Core) → 0 < x.depth → OnCache x.machine cache
-    → r ≡ plain_turn x p a → p ≡ p' → a ≡ a'
-    → core_of x.machine cache memory ≡ c → IsPlain x.moved x.allowed r w cache memory (onwards x.f p' (places_in w (x.depth - 1)) c a' 0 0)
-plain-does x r p a p' a' w cache memory c h o e i j k =
-    rw e
-    (record { turn = turn_on (plain_turn x p a) w cache memory _ _ _ _ _ _ _ h refl i refl k j; on = o; moved = refl; allowed = refl })
 
 -- ---- the callers
 
@@ -111,16 +102,3 @@ unfolding places_in
 caller_runs w zero h = absurd (h refl)
 caller_runs w (suc n) h =
     let e : suc n - 1 ≡ n = omega arith in ap (λ (m : ℕ). caller_at w m ∷ places_in w n) e
-
--- a step that leaves the running frame
-pub leave-does : (x y : State) (w cache memory : List ℕ) (n : ℕ) (c : Core) → frames_of w y ≡ places_in w n
-    → core_of y.machine cache memory ≡ c → OnCache y.machine cache → y.moved ≡ x.moved → y.allowed ≡ x.allowed
-    → IsPlain x.moved x.allowed (record { state = y; answer = 0 }) w cache memory
-    (record { state = record { frames = places_in w n; core = c }; answer = 0; out = 0; back = 0 })
-leave-does x y w cache memory n c e k o m a =
-    record {
-      turn = λ i. record { state = record { frames = e i; core = k i }; answer = 0; out = 0; back = 0 };
-      on = o;
-      moved = m;
-      allowed = a;
-    }
