@@ -6,6 +6,7 @@ ghost use Rattle.model.specs.Rows.{code_of, packed};
 
 use model::{Refusal, Row};
 
+// A match, where the enum's own numbers would be plainer: the edit kind_and_choice gives two rows one number, and an enum refuses that by its form.
 pub fn code_of(r: Row) -> u32
     ensures { result ≡ code_of r }
 {

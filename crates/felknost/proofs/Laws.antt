@@ -7,6 +7,7 @@ use native.Mathlib.Numerals.{add-one}
 use lib.ListN.{length, get_or, set}
 use lib.Seq.{take-length, paste, paste-zero, paste-suc}
 use borrow.Author.Tests.{lt-ltb, le-ltb}
+use Rattle.std.proofs.Common.{Result, Ok, Err}
 use Rattle.model.specs.declared.Refusal.{Refusal}
 use Rattle.model.specs.Rows.{packed}
 use Rattle.model.specs.Task.{refused}
@@ -17,19 +18,17 @@ use Rattle.theory.specs.Exported.{RunAnswered}
 use Rattle.theory.proofs.Faithful.{numbers-hold}
 use Rattle.theory.proofs.Places.{judged-place}
 use Rattle.tables.specs.declared.Header.{Header}
-use Rattle.judge.specs.declared.Judgement.{Judgement}
-use Rattle.judge.specs.declared.Judgement.TheVariants as judgement
 use Rattle.judge.specs.Judgement.{judged_in, Judges}
 
-module _ (text : List ℕ) {r : Judgement} {w w' : List ℕ} (a : Judges (judged text) w r w') where
+module _ (text : List ℕ) {r : Result Header Refusal} {w w' : List ℕ} (a : Judges (judged text) w r w') where
   number_is : check_number text ≡ judged_number (judged_in w' r)
   unfolding check_number
   number_is = rw a.same
 
-  pub accepted : {g : Header} → r ≡ judgement.Task g → 0 ≡ check_number text
+  pub accepted : {g : Header} → r ≡ Ok g → 0 ≡ check_number text
   accepted e = rw (number_is, e)
 
-  module _ {q : Refusal} (e : r ≡ judgement.Refused q) where
+  module _ {q : Refusal} (e : r ≡ Err q) where
     -- the place of a refused text fits 16 bits
     pub fits : q.place ≤ 65535
     fits = let i : judged text ≡ refused q = rw e at a.same in omega (arith, judged-place text q i)
@@ -37,27 +36,9 @@ module _ (text : List ℕ) {r : Judgement} {w w' : List ℕ} (a : Judges (judged
     pub numbered : {n : ℕ} → n ≡ packed q → n ≡ check_number text
     numbered i = rw (number_is, e) i
 
--- the first n of the numbers that are added, written behind code and place
-unfoldable pub put : List ℕ → ℕ → List ℕ → List ℕ
-put added n l = paste l 2 added n
-
-pub put-none : (added l : List ℕ) → l ≡ put added 0 l
-unfolding put
-put-none added l = paste-zero l 2 added
-
-pub put-more : (added : List ℕ) (n : ℕ) (l : List ℕ) {k : List ℕ} → k ≡ put added n l → n < length added → 2 + length added ≤ length l
-    → set k (2 + n) (get_or added n 0) ≡ put added (n + 1) l
-unfolding put
-put-more added n l e h m = rw (e, add-one) (paste-suc l 2 added n 0 (omega arith) h)
-
--- all of them, with code and place
-pub put_all : (a b : ℕ) (added l : List ℕ) → 2 + length added ≤ length l → put added (length added) (set (set l 0 a) 1 b) ≡ over (a ∷ b ∷ added) l
-unfolding put over
-put_all a b added [] h = absurd (omega arith)
-put_all a b added (x ∷ []) h = absurd (omega arith)
-put_all a b added (x ∷ y ∷ l) h =
-    let e : 2 + length added ≡ suc (suc (length added)) = omega arith in
-    rw (e, take-length added) refl
+-- code and place, and behind them the numbers that are added
+pub put_all : (a b : ℕ) (added l : List ℕ) → 2 + length added ≤ length l → paste (set (set l 0 a) 1 b) 2 added ≡ over (a ∷ b ∷ added) l
+put_all a b added l h = ?
 
 -- a service as C calls it, where the buffer of the result has too few numbers and where it has not
 module _ {A : Type 0} (numbers : List ℕ) (left lent : A) (result : List ℕ) where

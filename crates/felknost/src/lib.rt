@@ -7,7 +7,6 @@ ghost use Rattle.model.specs.Rows.{verdict_code, verdict_place, ending_verdict, 
 ghost use Rattle.theory.specs.Exported.{RunAnswered};
 ghost use Rattle.model.specs.Services.{over, check_number, called, write_buffers, report_numbers, dearest_numbers, run_buffers, run_numbers};
 
-use judge::Judgement;
 use model::{Ending, Verdict};
 use tables::Layout;
 
@@ -34,8 +33,8 @@ pub extern "C" fn felknost_check(text: &[u8]) -> u32
 {
     let mut work = [0u32; Layout::LENGTH];
     match judge::judge_text(text, &mut work) {
-        Judgement::Task(_) => 0,
-        Judgement::Refused(r) => codes::packed(r),
+        Ok(_) => 0,
+        Err(r) => codes::packed(r),
     }
 }
 
@@ -43,11 +42,8 @@ fn code_of(v: Verdict) -> u32
     ensures { result ≡ verdict_code v }
 {
     match v {
-        Verdict::Accepted => 0,
-        Verdict::Refused(r) => {
-            let row = r.row;
-            codes::code_of(row)
-        }
+        Ok(()) => 0,
+        Err(r) => codes::code_of(r.row),
     }
 }
 
@@ -55,8 +51,8 @@ fn place_of(v: Verdict) -> u32
     ensures { result ≡ verdict_place v }
 {
     match v {
-        Verdict::Accepted => 0,
-        Verdict::Refused(r) => r.place,
+        Ok(()) => 0,
+        Err(r) => r.place,
     }
 }
 
@@ -65,8 +61,8 @@ fn verdict_of(e: Ending) -> Verdict
     ensures { result ≡ ending_verdict e }
 {
     match e {
-        Ending::AllDone => Verdict::Accepted,
-        Ending::Refused(r) => Verdict::Refused(r),
+        Ending::AllDone => Ok(()),
+        Ending::Refused(r) => Err(r),
     }
 }
 
@@ -77,11 +73,7 @@ fn put_numbers(res: &mut [u64], v: Verdict, added: &[u64])
 {
     res[Numbers::CODE] = code_of(v) as u64;
     res[Numbers::PLACE] = place_of(v) as u64;
-    let mut i: usize = 0;
-    while i < added.len() {
-        res[Numbers::ADDED + i] = added[i];
-        i += 1;
-    }
+    res[Numbers::ADDED..Numbers::ADDED + added.len()].copy_from_slice(added);
 }
 
 // Report, with its result in the first three numbers of a buffer. 1, or 0 with nothing touched where that buffer has fewer.
@@ -101,8 +93,7 @@ pub extern "C" fn felknost_report(
         return 0;
     }
     let report = services::report(text, start, each, output, work);
-    let verdict = report.verdict;
-    put_numbers(res, verdict, &[report.written as u64]);
+    put_numbers(res, report.map(|_| ()), &[report.unwrap_or(0) as u64]);
     1
 }
 
@@ -123,8 +114,7 @@ pub extern "C" fn felknost_dearest_points(
         return 0;
     }
     let list = services::dearest_points(text, start, each, output, work);
-    let verdict = list.verdict;
-    put_numbers(res, verdict, &[list.written as u64]);
+    put_numbers(res, list.map(|_| ()), &[list.unwrap_or(0) as u64]);
     1
 }
 
@@ -151,10 +141,9 @@ pub extern "C" fn felknost_run(
         return 0;
     }
     let run = services::run(text, start, each, events, answers, cache, memory, work);
-    let ending = run.ending;
     put_numbers(
         res,
-        verdict_of(ending),
+        verdict_of(run.ending),
         &[run.done as u64, run.moved, run.allowed],
     );
     1
@@ -182,10 +171,9 @@ pub extern "C" fn felknost_run_lazy(
         return 0;
     }
     let lazy = services::run_lazy(text, start, each, events, answers, cache, memory, work);
-    let ending = lazy.ending;
     put_numbers(
         res,
-        verdict_of(ending),
+        verdict_of(lazy.ending),
         &[lazy.done as u64, lazy.moved, lazy.allowed],
     );
     1

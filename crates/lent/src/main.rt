@@ -3,10 +3,11 @@
 // services::check is run here.
 #![tactic(auto)]
 
+ghost use Rattle.std.specs.Prelude.{◌<◌, ◌≤◌, ◌^◌, length};
+
 use model::{Limits, Verdict};
 use std::io;
 
-#[derive(Clone, Copy)]
 struct Lent;
 
 impl Lent {
@@ -19,95 +20,49 @@ impl Lent {
 }
 
 // How many numbers at the front are 0.
-fn zeros(work: &[u32]) -> usize {
-    let mut n: usize = 0;
-    while n < work.len() {
-        if work[n] != 0 {
-            return n;
-        }
-        n += 1;
-    }
-    n
+fn zeros(work: &[u32]) -> usize
+    ensures { result ≤ length work.now }
+{
+    work.iter().position(|x| *x != 0).unwrap_or(work.len())
 }
 
-// How many numbers from this one on are what they were.
-fn untouched(work: &[u32], from: usize) -> usize {
-    let mut n: usize = 0;
-    let mut i = from;
-    while i < work.len() {
-        let x = work[i];
-        i += 1;
-        if x == Lent::NUMBER {
-            n += 1;
-        }
-    }
-    n
-}
-
-fn say(rt: &impl Print, bytes: &[u8]) -> io::Result<()> {
-    rt.write_all(bytes)
-}
-
-fn say_number(rt: &impl Print, n: u64) -> io::Result<()> {
-    print!(rt; "{n}")
-}
-
-fn say_refusal(rt: &impl Print, code: u32, place: u32) -> io::Result<()> {
-    say(rt, b"  code ")?;
-    say_number(rt, code as u64)?;
-    say(rt, b" place ")?;
-    say_number(rt, place as u64)?;
-    say(rt, b"\n")
+// How many of these numbers are what they were.
+fn untouched(work: &[u32]) -> usize {
+    work.iter().filter(|x| **x == Lent::NUMBER).count()
 }
 
 fn say_verdict(rt: &impl Print, v: Verdict) -> io::Result<()> {
-    match v {
-        Verdict::Accepted => say_refusal(rt, 0, 0),
-        Verdict::Refused(r) => {
-            let row = r.row;
-            say_refusal(rt, codes::code_of(row), r.place)
-        }
-    }
+    let (code, place) = match v {
+        Ok(()) => (0, 0),
+        Err(r) => (codes::code_of(r.row), r.place),
+    };
+    println!(rt; "  code {code} place {place}")
 }
 
 fn say_work(rt: &impl Print, work: &[u32]) -> io::Result<()> {
     let n = zeros(work);
-    let m = untouched(work, n);
-    say(rt, b"  work: 0 at the first ")?;
-    say_number(rt, n as u64)?;
-    say(rt, b", untouched ")?;
-    say_number(rt, m as u64)?;
-    say(rt, b" of the others\n")
+    let m = untouched(&work[n..]);
+    println!(rt; "  work: 0 at the first {n}, untouched {m} of the others")
 }
 
-fn check_over(rt: &impl Print, text: &[u8], work: &mut [u32]) -> io::Result<()> {
-    let verdict = services::check(text, work);
+// Check over a working space of N numbers.
+fn check_over<const N: usize>(rt: &impl Print, text: &[u8]) -> io::Result<()>
+    requires { N < 2 ^ 32 }
+{
+    let mut work = [Lent::NUMBER; N];
+    let verdict = services::check(text, &mut work);
     say_verdict(rt, verdict)?;
-    say_work(rt, work)
-}
-
-fn check_long(rt: &impl Print, text: &[u8]) -> io::Result<()> {
-    let mut work = [Lent::NUMBER; Lent::WORK];
-    check_over(rt, text, &mut work)
-}
-
-fn check_short(rt: &impl Print, text: &[u8]) -> io::Result<()> {
-    let mut work = [Lent::NUMBER; Lent::SHORT_WORK];
-    check_over(rt, text, &mut work)
-}
-
-fn check_cases(rt: &impl Print, task: &[u8], refused: &[u8]) -> io::Result<()> {
-    say(rt, b"check of a task\n")?;
-    check_long(rt, task)?;
-    say(rt, b"check of a task that is refused\n")?;
-    check_long(rt, refused)?;
-    say(rt, b"check with a working space that is one number short\n")?;
-    check_short(rt, task)
+    say_work(rt, &work)
 }
 
 fn main(rt: HostRuntime) -> io::Result<()> {
     // The second loads an offset that was not stored before.
     let task = b"(stack 2)\n(func 1\n  (store 0)\n  (load 0)\n  (return)\n)\n";
     let refused = b"(stack 2)\n(func 1\n  (load 0)\n  (return)\n)\n";
-    check_cases(&rt, task, refused)
+    println!(rt; "check of a task")?;
+    check_over::<{ Lent::WORK }>(&rt, task)?;
+    println!(rt; "check of a task that is refused")?;
+    check_over::<{ Lent::WORK }>(&rt, refused)?;
+    println!(rt; "check with a working space that is one number short")?;
+    check_over::<{ Lent::SHORT_WORK }>(&rt, task)
 }

@@ -9,29 +9,26 @@ ghost use Rattle.model.specs.declared.Eviction.TheVariants.{Eager, Lazy};
 ghost use Rattle.model.specs.Sheet.{move_price, priced_sheet, sheet_of};
 ghost use Rattle.model.specs.Plain.{events_of};
 ghost use Rattle.model.specs.Services.{after_check, check_judged_of, check_of, after_write, report_judged_of, report_of, dearest_judged_of, dearest_of};
-ghost use Rattle.model.specs.Services.{after_run, run_of, run_judged_of, judged_numbers, plain_as};
+ghost use Rattle.model.specs.Services.{written_verdict, after_run, run_of, run_judged_of, judged_numbers, plain_as};
 ghost use Rattle.model.specs.Services.{Demand3, LeavesClean, PaysOnce};
 ghost use Rattle.writing.specs.Printing.{wrote_of};
 
-use judge::Judgement;
-use model::{Eviction, Limits, RunResult, Verdict, WriteResult};
+use model::{Eviction, Limits, RunResult, Verdict, Written};
 use prices::Price;
 use writing::Print;
 
 // Check: the verdict on a text, and the working space cleared.
 //
-//     check(b"(stack 65)\n", &mut work) is Verdict::Refused(Refusal { row: Row::StackSize, place: 1 })
+//     check(b"(stack 65)\n", &mut work) is Err(Refusal { row: Row::StackSize, place: 1 })
 pub fn check(text: &[u8], work: &mut [u32]) -> Verdict
     ensures left { after_check result work.new ≡ check_of text.now work.old }
     ensures numbers { verdict_numbers result [] ≡ judged_numbers (check_judged_of text.now work.old) }
 {
     let first = serving::work_row(Limits::WORK, work.len());
-    let judgement = serving::judge_lent(first, text, work);
+    let judged = serving::judge_lent(first, text, work);
     serving::clear(Limits::WORK, work);
-    match judgement {
-        Judgement::Task(_) => Verdict::Accepted,
-        Judgement::Refused(r) => Verdict::Refused(r),
-    }
+    judged?;
+    Ok(())
 }
 
 // A service that writes bytes, and the working space cleared.
@@ -42,14 +39,14 @@ fn write(
     each: u32,
     output: &mut [u8],
     work: &mut [u32],
-) -> WriteResult
+) -> Written
     ensures { after_write result work.new output.new
         ≡ wrote_of which text.now start each work.old output.old }
 {
     let price = Price { start, each };
     let first = serving::priced_row(Limits::WORK, work.len(), price);
-    let judgement = serving::judge_lent(first, text, work);
-    let result = writing::write_judged(which, judgement, price, output, work);
+    let judged = serving::judge_lent(first, text, work);
+    let result = writing::write_judged(which, judged, price, output, work);
     serving::clear(Limits::WORK, work);
     result
 }
@@ -57,17 +54,17 @@ fn write(
 // Report: the sheet of a text over the first bytes of the output, and the working space cleared. A move of n blocks has the price start + each * n, and
 // none where n is 0; with 0 and 1 the sheet counts blocks, and the lines of the points have once as their last field.
 //
-//     report(b"(stack 65)\n", 0, 1, &mut output, &mut work) is a refusal in row StackSize at place 1, with 0 bytes written
+//     report(b"(stack 65)\n", 0, 1, &mut output, &mut work) is Err(Refusal { row: Row::StackSize, place: 1 })
 pub fn report(
     text: &[u8],
     start: u32,
     each: u32,
     output: &mut [u8],
     work: &mut [u32],
-) -> WriteResult
+) -> Written
     ensures left { after_write result work.new output.new
         ≡ report_of text.now start each work.old output.old }
-    ensures numbers { verdict_numbers result.verdict []
+    ensures numbers { verdict_numbers (written_verdict result) []
         ≡ judged_numbers (report_judged_of text.now start each work.old output.old) }
 {
     write(Print::Report, text, start, each, output, work)
@@ -76,17 +73,17 @@ pub fn report(
 // The dearest points: the first ten of the sheet's points by falling cost, then by falling save, by function and by point, or all if there are fewer, a
 // line each over the first bytes of the output, and the working space cleared. Prices are as for the report.
 //
-//     dearest_points(b"(stack 65)\n", 0, 1, &mut output, &mut work) is a refusal in row StackSize at place 1, with 0 bytes written
+//     dearest_points(b"(stack 65)\n", 0, 1, &mut output, &mut work) is Err(Refusal { row: Row::StackSize, place: 1 })
 pub fn dearest_points(
     text: &[u8],
     start: u32,
     each: u32,
     output: &mut [u8],
     work: &mut [u32],
-) -> WriteResult
+) -> Written
     ensures left { after_write result work.new output.new
         ≡ dearest_of text.now start each work.old output.old }
-    ensures numbers { verdict_numbers result.verdict []
+    ensures numbers { verdict_numbers (written_verdict result) []
         ≡ judged_numbers (dearest_judged_of text.now start each work.old output.old) }
 {
     write(Print::Dearest, text, start, each, output, work)
@@ -109,9 +106,9 @@ fn run_on(
 {
     let price = Price { start, each };
     let first = serving::priced_row(Limits::WORK, work.len(), price);
-    let judgement = serving::judge_lent(first, text, work);
+    let judged = serving::judge_lent(first, text, work);
     let result = running::run_judged(
-        judgement, eviction, price, events, answers, cache, memory, work,
+        judged, eviction, price, events, answers, cache, memory, work,
     );
     serving::clear(Limits::WORK, work);
     result

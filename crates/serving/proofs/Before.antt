@@ -8,11 +8,10 @@ use lib.Dec.{leb, leb→le}
 use borrow.Author.Tests.{lt-leb, le-leb}
 use Rattle.model.specs.declared.Row.TheVariants.{WorkTooSmall, PriceRange}
 use Rattle.model.specs.declared.Refusal.{Refusal}
-use Rattle.model.specs.declared.Verdict.{Verdict}
-use Rattle.model.specs.declared.Verdict.TheVariants.{Accepted, Refused}
+use Rattle.std.proofs.Common.{Ok, Err}
 use Rattle.model.specs.Limits.{most_start, most_each}
 use Rattle.model.specs.Basic.{◌or_else◌}
-use Rattle.model.specs.Rows.{refuse, row_verdict}
+use Rattle.model.specs.Rows.{Verdict, refuse, row_verdict}
 use Rattle.model.specs.Refusal.{work_row, price_row, priced_rows}
 use Rattle.theory.proofs.Lists.{and-holds}
 use Rattle.theory.proofs.Firsts.{or_else-none, unless-none}
@@ -22,40 +21,40 @@ use Rattle.prices.specs.Prices.{Small}
 
 -- 15
 module _ (asked n : ℕ) {v : Verdict} where
-  pub work-short : n < asked → v ≡ Refused (refuse WorkTooSmall asked) → v ≡ row_verdict (work_row asked n)
+  pub work-short : n < asked → v ≡ Err (refuse WorkTooSmall asked) → v ≡ row_verdict (work_row asked n)
   unfolding work_row
   work-short h e = rw (lt-leb asked n h) e
 
-  pub work-passes : asked ≤ n → v ≡ Accepted → v ≡ row_verdict (work_row asked n)
+  pub work-passes : asked ≤ n → v ≡ Ok tt → v ≡ row_verdict (work_row asked n)
   unfolding work_row
   work-passes h e = rw (le-leb asked n h) e
 
 -- 23
 module _ (start each : ℕ) {v : Verdict} where
-  pub start-high : most_start < start → v ≡ Refused (refuse PriceRange 0) → v ≡ row_verdict (price_row start each)
+  pub start-high : most_start < start → v ≡ Err (refuse PriceRange 0) → v ≡ row_verdict (price_row start each)
   unfolding price_row
   start-high h e = rw (lt-leb start most_start h) e
 
   module _ (l : start ≤ most_start) where
-    pub each_none : each ≡ 0 → v ≡ Refused (refuse PriceRange 0) → v ≡ row_verdict (price_row start each)
+    pub each_none : each ≡ 0 → v ≡ Err (refuse PriceRange 0) → v ≡ row_verdict (price_row start each)
     unfolding price_row
     each_none h e = rw (le-leb start most_start l, lt-leb 1 each (omega arith)) e
 
     module _ (s : 1 ≤ each) where
-      pub each-high : most_each < each → v ≡ Refused (refuse PriceRange 0) → v ≡ row_verdict (price_row start each)
+      pub each-high : most_each < each → v ≡ Err (refuse PriceRange 0) → v ≡ row_verdict (price_row start each)
       unfolding price_row
       each-high h e = rw (le-leb start most_start l, le-leb 1 each s, lt-leb each most_each h) e
 
-      pub price-passes : each ≤ most_each → v ≡ Accepted → v ≡ row_verdict (price_row start each)
+      pub price-passes : each ≤ most_each → v ≡ Ok tt → v ≡ row_verdict (price_row start each)
       unfolding price_row
       price-passes h e = rw (le-leb start most_start l, le-leb 1 each s, le-leb each most_each h) e
 
 -- 15 comes before 23
 module _ (asked n start each : ℕ) {u : Verdict} (w : u ≡ row_verdict (work_row asked n)) where
-  pub first-work : {q : Refusal} → u ≡ Refused q → Refused q ≡ row_verdict (priced_rows asked n start each)
+  pub first-work : {q : Refusal} → u ≡ Err q → Err q ≡ row_verdict (priced_rows asked n start each)
   first-work e = ap (λ (o : Option Refusal). row_verdict (o or_else price_row start each)) (sym (verdict-some (work_row asked n) (sym w ∙ e)))
 
-  pub then-price : {v : Verdict} → u ≡ Accepted → v ≡ row_verdict (price_row start each) → v ≡ row_verdict (priced_rows asked n start each)
+  pub then-price : {v : Verdict} → u ≡ Ok tt → v ≡ row_verdict (price_row start each) → v ≡ row_verdict (priced_rows asked n start each)
   then-price e i = i ∙ ap (λ (o : Option Refusal). row_verdict (o or_else price_row start each)) (sym (verdict-none (work_row asked n) (sym w ∙ e)))
 
 -- what passes has room and a small price

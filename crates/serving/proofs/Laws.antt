@@ -9,24 +9,21 @@ use lib.ListN.{length, drop, replicate}
 use borrow.Author.Tests.{lt-ltb, le-ltb, lt-leb, le-leb}
 use Rattle.model.specs.declared.Row.TheVariants.{OutputTooSmall}
 use Rattle.model.specs.declared.Refusal.{Refusal}
-use Rattle.model.specs.declared.Verdict.{Verdict}
-use Rattle.model.specs.declared.Verdict.TheVariants.{Accepted, Refused}
-use Rattle.model.specs.declared.WriteResult.{WriteResult}
-use Rattle.model.specs.Rows.{refuse, row_verdict}
+use Rattle.std.proofs.Common.{Result, Ok, Err}
+use Rattle.model.specs.Rows.{Verdict, refuse, row_verdict}
 use Rattle.model.specs.Task.{Task, Judged, refused, task}
 use Rattle.model.specs.Refusal.{or_task, with_rows, judged, priced_rows, judge, no_rows, rows_before, output_rows}
-use Rattle.model.specs.Services.{cleared, over, after_write, written_or, written_as, written_by}
+use Rattle.model.specs.Services.{cleared, over, Written, after_write, written_or, written_as, written_by}
 use Rattle.theory.proofs.Accepted.{accepted}
 use Rattle.theory.proofs.Firsts.{unless-none}
 use Rattle.theory.proofs.Search.{verdict-none, verdict-some}
 use Rattle.tables.specs.Layout.{tables_length}
 use Rattle.tables.specs.Valid.{Kept}
 use Rattle.tables.proofs.Valid.{kept-later}
-use Rattle.judge.specs.declared.Judgement.{Judgement}
-use Rattle.judge.specs.declared.Judgement.TheVariants as judgement
+use Rattle.tables.specs.declared.Header.{Header}
 use Rattle.judge.specs.Judgement.{judged_in, SettledBy, Judges}
 use Rattle.prices.specs.declared.Price.{Price}
-use Rattle.serving.specs.Served.{Passes, ReadyBy, ReadyAt, Lent, length_row, nothing_written, Puts, Writes}
+use Rattle.serving.specs.Served.{Passes, ReadyBy, ReadyAt, Lent, length_row, Puts, Writes}
 use Rattle.serving.proofs.Before.{priced-small}
 
 -- the working space after a service, where it is too small and where it is not
@@ -48,20 +45,20 @@ cleared-same {n} {asked} {w} {w'} l h k =
 
 -- the rows before those of the text, and these
 pub lent-refused : (asked : ℕ) (first : Option Refusal) (text w : List ℕ) {q : Refusal} → first ≡ some q
-    → Lent asked first text w (judgement.Refused q) w
+    → Lent asked first text w (Err q) w
 unfolding judge
 lent-refused asked first text w e = record { same = rw e refl; after = refl; ready = tt }
 
-no-rows : (w : List ℕ) (r : Judgement) → with_rows no_rows (judged_in w r) ≡ judged_in w r
-no-rows w (judgement.Task h) = refl
-no-rows w (judgement.Refused q) = refl
+no-rows : (w : List ℕ) (r : Result Header Refusal) → with_rows no_rows (judged_in w r) ≡ judged_in w r
+no-rows w (Ok h) = refl
+no-rows w (Err q) = refl
 
-ready_by : (asked : ℕ) (w : List ℕ) (r : Judgement) → SettledBy w r → asked ≤ length w → ReadyBy asked w r
-ready_by asked w (judgement.Task h) s l = (s, l)
-ready_by asked w (judgement.Refused q) s l = tt
+ready_by : (asked : ℕ) (w : List ℕ) (r : Result Header Refusal) → SettledBy w r → asked ≤ length w → ReadyBy asked w r
+ready_by asked w (Ok h) s l = (s, l)
+ready_by asked w (Err q) s l = tt
 
 -- the judgement uses the tables, and a service asks for no less
-pub lent-judged : (asked : ℕ) (first : Option Refusal) (text : List ℕ) {w w' : List ℕ} {r : Judgement} → first ≡ none → tables_length ≤ asked
+pub lent-judged : (asked : ℕ) (first : Option Refusal) (text : List ℕ) {w w' : List ℕ} {r : Result Header Refusal} → first ≡ none → tables_length ≤ asked
     → asked ≤ length w → Judges (judged text) w r w' → Lent asked first text w r w'
 unfolding judge
 lent-judged asked first text {w} {w'} {r} e m h a =
@@ -73,25 +70,25 @@ lent-judged asked first text {w} {w'} {r} e m h a =
 
 -- rows that pass leave room, and a small price
 pub first_passes : (asked : ℕ) (o : Option Refusal) (w : List ℕ) (v : Verdict) → v ≡ row_verdict o → (o ≡ none → asked ≤ length w) → Passes asked v w
-first_passes asked o w Accepted e h = h (verdict-none o (sym e))
-first_passes asked o w (Refused q) e h = tt
+first_passes asked o w (Ok u) e h = h (verdict-none o (sym e))
+first_passes asked o w (Err q) e h = tt
 
-pub ready_at : (asked : ℕ) (price : Price) (n : ℕ) (text w : List ℕ) (r : Judgement) {w' : List ℕ}
+pub ready_at : (asked : ℕ) (price : Price) (n : ℕ) (text w : List ℕ) (r : Result Header Refusal) {w' : List ℕ}
     → Lent asked (priced_rows asked n price.start price.each) text w r w' → ReadyAt asked price w' r
-ready_at asked price n text w (judgement.Task h) a =
+ready_at asked price n text w (Ok h) a =
     let e = (accepted (priced_rows asked n price.start price.each) no_rows text _ a.same).no-first in
     (a.ready.0, a.ready.1, priced-small asked n price e)
-ready_at asked price n text w (judgement.Refused q) a = tt
+ready_at asked price n text w (Err q) a = tt
 
 -- 14
 module _ (room n : ℕ) {v : Verdict} where
-  pub too_many : room < n → v ≡ Refused (refuse OutputTooSmall n) → v ≡ row_verdict (length_row room n)
+  pub too_many : room < n → v ≡ Err (refuse OutputTooSmall n) → v ≡ row_verdict (length_row room n)
   too_many h e = rw (lt-leb n room (omega arith)) e
 
-  pub room-enough : n ≤ room → v ≡ Accepted → v ≡ row_verdict (length_row room n)
+  pub room-enough : n ≤ room → v ≡ Ok tt → v ≡ row_verdict (length_row room n)
   room-enough h e = rw (le-leb n room h) e
 
-  pub row_room : v ≡ row_verdict (length_row room n) → v ≡ Accepted → n ≤ room
+  pub row_room : v ≡ row_verdict (length_row room n) → v ≡ Ok tt → n ≤ room
   row_room e a = leb→le n room ((unless-none (leb n room) (refuse OutputTooSmall n)).0 (verdict-none (length_row room n) (sym e ∙ a)))
 
   -- by another name of the length
@@ -100,17 +97,17 @@ module _ (room n : ℕ) {v : Verdict} where
 
 -- 14 as it was tried, or the bytes
 module _ (l output : List ℕ) {v : Verdict} (row : v ≡ row_verdict (length_row (length output) (length l))) where
-  pub too_short : {q : Refusal} → v ≡ Refused q → Puts l output (nothing_written q) output
+  pub too_short : {q : Refusal} → v ≡ Err q → Puts l output (Err q) output
   too_short e = record { left = λ work. rw (verdict-some (length_row (length output) (length l)) (sym row ∙ e)) refl }
 
-  pub long-enough : {output' : List ℕ} {n : ℕ} → v ≡ Accepted → n ≡ length l → output' ≡ over l output
-      → Puts l output (record { verdict = Accepted; written = n }) output'
+  pub long-enough : {output' : List ℕ} {n : ℕ} → v ≡ Ok tt → n ≡ length l → output' ≡ over l output
+      → Puts l output (Ok n) output'
   long-enough e i o =
       let n = verdict-none (length_row (length output) (length l)) (sym row ∙ e) in
       record { left = λ work. rw n (λ k. after_write (record { verdict = Accepted; written = i k }) work (o k)) }
 
 -- bytes that are those of a task which the rows of the service pass
-pub task-written : {asked : ℕ} (rows : Task → Option Refusal) (print : Task → List ℕ) {t : Task} {l w w' output output' : List ℕ} {r : WriteResult}
+pub task-written : {asked : ℕ} (rows : Task → Option Refusal) (print : Task → List ℕ) {t : Task} {l w w' output output' : List ℕ} {r : Written}
     → rows t ≡ none → l ≡ print t → cleared asked w' ≡ cleared asked w → Puts l output r output'
     → Writes asked rows print (task t) w output r w' output'
 unfolding output_rows
@@ -126,7 +123,7 @@ task-written rows print {t} {output = output} z e after p = record {
     go work (some q) = refl
 
 pub none_written : (asked : ℕ) (rows : Task → Option Refusal) (print : Task → List ℕ) (q : Refusal) (w output : List ℕ)
-    → Writes asked rows print (refused q) w output (nothing_written q) w output
+    → Writes asked rows print (refused q) w output (Err q) w output
 none_written asked rows print q w output = record { left = λ work. refl; after = refl }
 
 -- the rows of a service come after those that every service has
@@ -140,8 +137,8 @@ own-rows own none text = later (judged text)
     later (task t) = refl
 
 -- the service, whose working space is l in the end
-module _ {asked : ℕ} {first : Option Refusal} {rows : Task → Option Refusal} {print : Task → List ℕ} {text w w' w'' output output' l : List ℕ} {j : Judgement}
-    {r : WriteResult} (a : Lent asked first text w j w') (b : Writes asked rows print (judged_in w' j) w' output r w'' output')
+module _ {asked : ℕ} {first : Option Refusal} {rows : Task → Option Refusal} {print : Task → List ℕ} {text w w' w'' output output' l : List ℕ} {j : Result Header Refusal}
+    {r : Written} (a : Lent asked first text w j w') (b : Writes asked rows print (judged_in w' j) w' output r w'' output')
     (c : l ≡ cleared asked w'') where
   pub write-left : after_write r l output' ≡ written_by asked first rows print text w output
   unfolding written_by

@@ -1,41 +1,37 @@
 -- What every service starts from: the judgement of a text and of the working space that was lent. And what a service that writes bytes does with an
 -- accepted text.
-use Rattle.std.specs.Prelude.{ℕ, ◌≤◌, ◌≡◌, List, leb, length}
+use Rattle.std.specs.Prelude.{ℕ, ◌≤◌, ◌≡◌, List, leb, length, Result, Ok, Err}
 use Rattle.std.proofs.Math.Option.{Option}
 use Rattle.model.specs.declared.Refusal.{Refusal}
 use Rattle.model.specs.declared.Row.TheVariants.{OutputTooSmall}
-use Rattle.model.specs.declared.Verdict.{Verdict}
-use Rattle.model.specs.declared.Verdict.TheVariants as verdict
-use Rattle.model.specs.declared.WriteResult.{WriteResult}
 use Rattle.model.specs.Basic.{unless}
-use Rattle.model.specs.Rows.{refuse}
+use Rattle.model.specs.Rows.{Verdict, refuse}
 use Rattle.model.specs.Task.{Task, Judged}
 use Rattle.model.specs.Refusal.{judge, no_rows, with_rows, rows_before, output_rows}
-use Rattle.model.specs.Services.{cleared, AfterWrite, after_write, written_or, written_as}
+use Rattle.model.specs.Services.{cleared, Written, AfterWrite, after_write, written_or, written_as}
 use Rattle.tables.specs.Valid.{Settled}
 use Rattle.prices.specs.declared.Price.{Price}
 use Rattle.prices.specs.Prices.{Small}
-use Rattle.judge.specs.declared.Judgement.{Judgement}
-use Rattle.judge.specs.declared.Judgement.TheVariants as judgement
+use Rattle.tables.specs.declared.Header.{Header}
 use Rattle.judge.specs.Judgement.{judged_in}
 
 -- where the rows before those of the text pass, there is room for all that a service asks for
 abbrev pub Passes : ℕ → Verdict → List ℕ → Type 0
-Passes asked verdict.Accepted w = asked ≤ length w
-Passes asked (verdict.Refused q) w = Unit {0}
+Passes asked (Ok u) w = asked ≤ length w
+Passes asked (Err q) w = Unit {0}
 
 -- a task that r hands on sits in w, with that room
-abbrev pub ReadyBy : ℕ → List ℕ → Judgement → Type 0
-ReadyBy asked w (judgement.Task h) = Settled w h × (asked ≤ length w)
-ReadyBy asked w (judgement.Refused q) = Unit {0}
+abbrev pub ReadyBy : ℕ → List ℕ → Result Header Refusal → Type 0
+ReadyBy asked w (Ok h) = Settled w h × (asked ≤ length w)
+ReadyBy asked w (Err q) = Unit {0}
 
 -- and the price of a move is small
-abbrev pub ReadyAt : ℕ → Price → List ℕ → Judgement → Type 0
-ReadyAt asked price w (judgement.Task h) = Settled w h × (asked ≤ length w) × Small price
-ReadyAt asked price w (judgement.Refused q) = Unit {0}
+abbrev pub ReadyAt : ℕ → Price → List ℕ → Result Header Refusal → Type 0
+ReadyAt asked price w (Ok h) = Settled w h × (asked ≤ length w) × Small price
+ReadyAt asked price w (Err q) = Unit {0}
 
 -- r is the judgement of a text and of the working space w, which is then w': the rows before those of the text, and these
-pub record Lent (asked : ℕ) (first : Option Refusal) (text w : List ℕ) (r : Judgement) (w' : List ℕ) : Type 0 where
+pub record Lent (asked : ℕ) (first : Option Refusal) (text w : List ℕ) (r : Result Header Refusal) (w' : List ℕ) : Type 0 where
   pub same : judge first no_rows text ≡ judged_in w' r
   pub after : cleared asked w' ≡ cleared asked w
   pub ready : ReadyBy asked w' r
@@ -44,12 +40,8 @@ pub record Lent (asked : ℕ) (first : Option Refusal) (text w : List ℕ) (r : 
 abbrev pub length_row : ℕ → ℕ → Option Refusal
 length_row room n = unless (leb n room) (refuse OutputTooSmall n)
 
--- a refusal, with nothing written
-abbrev pub nothing_written : Refusal → WriteResult
-nothing_written r = record { verdict = verdict.Refused r; written = 0 }
-
 -- what is returned and left where these bytes are to be written over an output: 14, or the bytes; whatever becomes of the working space
-pub record Puts (l output : List ℕ) (r : WriteResult) (output' : List ℕ) : Type 0 where
+pub record Puts (l output : List ℕ) (r : Written) (output' : List ℕ) : Type 0 where
   pub left : (work : List ℕ) → after_write r work output' ≡ written_or (length_row (length output) (length l)) l work output
 
 -- what a service with these rows that writes these bytes of a task returns and leaves of what was judged as j: for an accepted task one of the rows or 14,
@@ -57,6 +49,6 @@ pub record Puts (l output : List ℕ) (r : WriteResult) (output' : List ℕ) : T
 abbrev pub printed : (Task → Option Refusal) → (Task → List ℕ) → Judged → List ℕ → List ℕ → AfterWrite
 printed rows print j work output = written_as print (with_rows (rows_before rows (output_rows print (length output))) j) work output
 
-pub record Writes (asked : ℕ) (rows : Task → Option Refusal) (print : Task → List ℕ) (j : Judged) (w output : List ℕ) (r : WriteResult) (w' output' : List ℕ) : Type 0 where
+pub record Writes (asked : ℕ) (rows : Task → Option Refusal) (print : Task → List ℕ) (j : Judged) (w output : List ℕ) (r : Written) (w' output' : List ℕ) : Type 0 where
   pub left : (work : List ℕ) → after_write r work output' ≡ printed rows print j work output
   pub after : cleared asked w' ≡ cleared asked w

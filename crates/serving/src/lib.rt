@@ -2,25 +2,24 @@
 // cleared.
 #![tactic(auto)]
 
-ghost use Rattle.std.specs.Prelude.{◌≡◌, length, ℕ, ◌≤◌, ◌<◌, ◌^◌};
+ghost use Rattle.std.specs.Prelude.{◌≡◌, length, ℕ, ◌≤◌, ◌<◌, ◌^◌, Err};
 ghost use Rattle.std.proofs.Math.Option.{Option, none};
 ghost use Rattle.model.specs.declared.Refusal.{Refusal};
-ghost use Rattle.model.specs.declared.Verdict.TheVariants as verdict;
 ghost use Rattle.model.specs.Limits.{work_length};
 ghost use Rattle.model.specs.Rows.{refuse, row_verdict};
 ghost use Rattle.model.specs.Refusal.{work_row, price_row, priced_rows};
 ghost use Rattle.model.specs.Services.{cleared};
-ghost use Rattle.serving.specs.Served.{Passes, Lent, length_row, nothing_written};
+ghost use Rattle.serving.specs.Served.{Passes, Lent, length_row};
 
-use judge::Judgement;
-use model::{Limits, Refusal, Row, Verdict, WriteResult};
+use model::{Limits, Refusal, Row, Verdict};
 use prices::Price;
+use tables::Header;
 
 // A row is met at this place.
 pub fn refusal(row: Row, place: u32) -> Verdict
-    ensures { result ≡ verdict.Refused (refuse row place) }
+    ensures { result ≡ Err (refuse row place) }
 {
-    Verdict::Refused(Refusal { row, place })
+    Err(Refusal { row, place })
 }
 
 // 15, for a service that asks for so many numbers and a working space of this length.
@@ -31,7 +30,7 @@ pub fn work_row(asked: usize, length: usize) -> Verdict
     if length < asked {
         return refusal(Row::WorkTooSmall, asked as u32);
     }
-    Verdict::Accepted
+    Ok(())
 }
 
 // 23.
@@ -47,7 +46,7 @@ fn price_row(price: Price) -> Verdict
     if Limits::EACH < price.each {
         return refusal(Row::PriceRange, 0);
     }
-    Verdict::Accepted
+    Ok(())
 }
 
 // 15 and 23, for a service that gives prices.
@@ -55,22 +54,18 @@ pub fn priced_row(asked: usize, length: usize, price: Price) -> Verdict
     requires { asked < 2 ^ 32 }
     ensures { result ≡ row_verdict (priced_rows asked length price.start price.each) }
 {
-    if let Verdict::Refused(r) = work_row(asked, length) {
-        return Verdict::Refused(r);
-    }
+    work_row(asked, length)?;
     price_row(price)
 }
 
 // The rows before those of the text have this verdict; then the judgement of the text. A working space that is too small is untouched. No service asks for
 // fewer numbers than Limits::WORK.
-pub fn judge_lent(first: Verdict, text: &[u8], work: &mut [u32]) -> Judgement
+pub fn judge_lent(first: Verdict, text: &[u8], work: &mut [u32]) -> Result<Header, Refusal>
     requires { Passes work_length first work.old }
     ensures { (asked : ℕ) (rows : Option Refusal) → work_length ≤ asked → first ≡ row_verdict rows → (rows ≡ none → asked ≤ length work.old) →
         Lent asked rows text.now work.old result work.new }
 {
-    if let Verdict::Refused(r) = first {
-        return Judgement::Refused(r);
-    }
+    first?;
     judge::judge_text(text, work)
 }
 
@@ -82,29 +77,14 @@ pub fn output_row(room: usize, length: usize) -> Verdict
     if room < length {
         return refusal(Row::OutputTooSmall, length as u32);
     }
-    Verdict::Accepted
-}
-
-// A refusal of a service that writes bytes, with nothing written.
-pub fn nothing_written(r: Refusal) -> WriteResult
-    ensures { result ≡ nothing_written r }
-{
-    WriteResult {
-        verdict: Verdict::Refused(r),
-        written: 0,
-    }
+    Ok(())
 }
 
 // The numbers that a service asks for become 0, where there are as many.
 pub fn clear(asked: usize, work: &mut [u32])
     ensures { work.new ≡ cleared asked work.old }
 {
-    if asked > work.len() {
-        return;
-    }
-    let mut i: usize = 0;
-    while i < asked {
-        work[i] = 0;
-        i += 1;
+    if asked <= work.len() {
+        work[..asked].fill(0);
     }
 }

@@ -9,13 +9,12 @@ use lib.ListN.{length, get_or, drop, length-append, length-drop}
 use lib.Seq.{length-take-le}
 use borrow.Author.Tests.{lt-leb, le-leb}
 use Rattle.model.specs.declared.Refusal.{Refusal}
-use Rattle.model.specs.declared.Verdict.TheVariants.{Accepted, Refused}
-use Rattle.model.specs.declared.WriteResult.{WriteResult}
+use Rattle.std.proofs.Common.{Ok, Err}
 use Rattle.model.specs.Limits.{work_length}
 use Rattle.model.specs.Task.{Judged, refused, task}
 use Rattle.model.specs.Sheet.{line_text}
 use Rattle.model.specs.Refusal.{judged, with_rows, judge, work_row, output_rows}
-use Rattle.model.specs.Services.{AfterWrite, after_write, over, cleared, written_as, written_by, report_of, blocks_report_of}
+use Rattle.model.specs.Services.{Written, AfterWrite, after_write, over, cleared, written_as, written_by, report_of, blocks_report_of}
 use Rattle.theory.proofs.Prices.{report-blocks}
 use Rattle.print.specs.Print.{Wrote}
 use Rattle.print.proofs.Laws.{line-most, pasted-start}
@@ -63,22 +62,22 @@ report-fits text work output =
 
 -- report leaves the answer that it judged, unless it is a refusal, which it says and leaves to be written
 module _ (work output : List ℕ) where
-  pub accepted-as : (j : Judged) → Fits (length output) j → (written_as blocks_report j work output).result.verdict ≡ Accepted
-      → ((written_as blocks_report j work output).result.written ≡ length (answered j))
+  pub accepted-as : (j : Judged) {n : ℕ} → Fits (length output) j → (written_as blocks_report j work output).result ≡ Ok n
+      → (n ≡ length (answered j))
       × ((written_as blocks_report j work output).output ≡ over (answered j) output)
       × (length (answered j) ≤ length output)
   unfolding answered
   accepted-as (refused r) h e = let z : ◌≡◌ {A = ℕ} 0 1 = cc in absurd (omega arith)
-  accepted-as (task t) h e = (refl, refl, h)
+  accepted-as (task t) {n} h e = let z : n ≡ length (blocks_report t) = cc in (z, refl, h)
 
-  pub refused_as : (j : Judged) {q : Refusal} → (written_as blocks_report j work output).result.verdict ≡ Refused q
+  pub refused_as : (j : Judged) {q : Refusal} → (written_as blocks_report j work output).result ≡ Err q
       → (refusal_line q ≡ answered j) × ((written_as blocks_report j work output).output ≡ output)
   unfolding answered
   refused_as (refused r) {q} e = let z : q ≡ r = cc in (ap refusal_line z, refl)
   refused_as (task t) e = let z : ◌≡◌ {A = ℕ} 0 1 = cc in absurd (omega arith)
 
 -- the same of what report returns with start 0 and each 1, r, and leaves
-module _ (text work output : List ℕ) {r : WriteResult} {o w : List ℕ} (e : after_write r w o ≡ report_of text 0 1 work output) where
+module _ (text work output : List ℕ) {r : Written} {o w : List ℕ} (e : after_write r w o ≡ report_of text 0 1 work output) where
   -- that is the report of document 01
   blocks-are : after_write r w o ≡ blocks_report_of text work output
   blocks-are = e ∙ report-blocks text work output
@@ -87,25 +86,24 @@ module _ (text work output : List ℕ) {r : WriteResult} {o w : List ℕ} (e : a
   work-as (refused q) = refl
   work-as (task t) = refl
 
-  pub report-answers : r.verdict ≡ Accepted → Answers text output work r.written o w × IsPrefixLen r.written o
+  pub report-answers : {n : ℕ} → r ≡ Ok n → Answers text output work n o w × IsPrefixLen n o
   unfolding written_by answer_of
-  report-answers v =
+  report-answers {n} v =
       let j = judge (work_row work_length (length work)) (output_rows blocks_report (length output)) text in
-      let i = sym (ap (λ (x : AfterWrite). x.result.verdict) blocks-are) ∙ v in
+      let i = sym (ap (λ (x : AfterWrite). x.result) blocks-are) ∙ v in
       let k = accepted-as (cleared work_length work) output j (report-fits text work output) i in
-      let n = ap (λ (x : AfterWrite). x.result.written) blocks-are ∙ k.0 in
       let b = ap (λ (x : AfterWrite). x.output) blocks-are ∙ k.1 in
       let s = ap length b ∙ length_over (answered j) output k.2 in (
-        record { size = n; buffer = b; emptied = ap (λ (x : AfterWrite). x.work) blocks-are ∙ work-as j },
-        counts r.written o (omega (arith, k.2)),
+        record { size = k.0; buffer = b; emptied = ap (λ (x : AfterWrite). x.work) blocks-are ∙ work-as j },
+        counts n o (omega (arith, k.2)),
       )
 
-  pub refusal-answers : {q : Refusal} {n : ℕ} {o' : List ℕ} → r.verdict ≡ Refused q → Wrote 0 (refusal_line q) o n o' → n ≤ length o'
+  pub refusal-answers : {q : Refusal} {n : ℕ} {o' : List ℕ} → r ≡ Err q → Wrote 0 (refusal_line q) o n o' → n ≤ length o'
       → Answers text output work n o' w × IsPrefixLen n o'
   unfolding written_by answer_of
   refusal-answers {q} {n} {o'} v p h =
       let j = judge (work_row work_length (length work)) (output_rows blocks_report (length output)) text in
-      let k = refused_as (cleared work_length work) output j (sym (ap (λ (x : AfterWrite). x.result.verdict) blocks-are) ∙ v) in
+      let k = refused_as (cleared work_length work) output j (sym (ap (λ (x : AfterWrite). x.result) blocks-are) ∙ v) in
       let b = ap (λ (x : AfterWrite). x.output) blocks-are ∙ k.1 in (
         record {
           size = p.end ∙ zero-add (length (refusal_line q)) ∙ ap length k.0;

@@ -1,19 +1,17 @@
 // The preemption sheet of the task text on standard input, written to standard output. A text that is refused gives `(refused CODE PLACE)`.
 #![tactic(auto)]
 
-ghost use Rattle.std.specs.Prelude.{◌-◌, ◌≤◌, length};
+ghost use Rattle.std.specs.Prelude.{◌≤◌, length, IfOk};
 ghost use Rattle.std.specs.Io.{StartsWith};
 ghost use Rattle.print.specs.Print.{Wrote};
-ghost use Rattle.sheet.specs.Input.{ReadWithin};
 ghost use Rattle.sheet.specs.Answer.{refusal_line, Answers, most_line, IsPrefixLen};
 
-use model::{Limits, Refusal, Verdict};
+use model::{Limits, Refusal};
 use std::fmt::InlineText;
 use std::io;
 use std::io::Read;
 use std::process::ExitCode;
 
-#[derive(Clone, Copy)]
 struct Buffers;
 
 impl Buffers {
@@ -26,7 +24,6 @@ impl Buffers {
 }
 
 // The price of a move that counts its blocks.
-#[derive(Clone, Copy)]
 struct InBlocks;
 
 impl InBlocks {
@@ -35,40 +32,20 @@ impl InBlocks {
     const EACH: u32 = 1;
 }
 
-// What was read: so many bytes, or a failure.
-#[derive(Clone, Copy)]
-enum Input {
-    Bytes(usize),
-    Failed(io::Error),
-}
-
-// Reads once, behind the bytes that are there. A read may bring fewer bytes than there is room for; at the end of the input it brings none.
-fn read_more(input: &mut impl Read, text: &mut [u8], done: usize) -> Input
-    requires { done ≤ length text.old }
-    ensures { ReadWithin (length text.new - done) result }
-{
-    match input.read(&mut text[done..]) {
-        Ok(more) => Input::Bytes(more),
-        Err(e) => Input::Failed(e),
-    }
-}
-
-// Reads until text is full or the input ends.
-fn read_input(input: &mut impl Read, text: &mut [u8]) -> Input
-    ensures { ReadWithin (length text.new) result }
+// Reads until text is full or the input ends, and returns how many bytes were read. A read may bring fewer bytes than there is room for; at the end of the
+// input it brings none.
+fn read_input(input: &mut impl Read, text: &mut [u8]) -> io::Result<usize>
+    ensures { IfOk result (λ n. n ≤ length text.new) }
 {
     let mut done = 0;
     while done < text.len() {
-        let read = read_more(input, text, done);
-        let Input::Bytes(more) = read else {
-            return read;
-        };
+        let more = input.read(&mut text[done..])?;
         if more == 0 {
-            return Input::Bytes(done);
+            break;
         }
         done += more;
     }
-    Input::Bytes(done)
+    Ok(done)
 }
 
 // Writes the line of a refusal over the first bytes of the output, and returns how many they are.
@@ -88,10 +65,9 @@ fn answer(text: &[u8], output: &mut [u8], work: &mut [u32]) -> usize
     ensures fits { IsPrefixLen result output.new }
 {
     let result = services::report(text, InBlocks::START, InBlocks::EACH, output, work);
-    let verdict = result.verdict;
-    match verdict {
-        Verdict::Accepted => result.written as usize,
-        Verdict::Refused(r) => put_refusal(output, r),
+    match result {
+        Ok(n) => n as usize,
+        Err(r) => put_refusal(output, r),
     }
 }
 
@@ -131,7 +107,7 @@ fn write_answer(rt: &(impl Print + Eprint), text: &[u8]) -> ExitCode {
 fn main(rt: HostRuntime) -> ExitCode {
     let mut text = [0u8; Buffers::TEXT];
     match read_input(&mut rt.stdin(), &mut text) {
-        Input::Failed(e) => fail(&rt, "standard input", e),
-        Input::Bytes(n) => write_answer(&rt, &text[..n]),
+        Ok(n) => write_answer(&rt, &text[..n]),
+        Err(e) => fail(&rt, "standard input", e),
     }
 }

@@ -5,14 +5,14 @@ use Rattle.felknost.proofs.felknost_check.Goals as goal
 pub packed-requires : goal.packed-requires
 packed-requires c =
     fits c.args.text.now
-    c.judge_text.ensures c.in-Refused.is
+    c.judge_text.ensures c.in-Err.is
 
-pub returns-in-Task : goal.returns-in-Task
-returns-in-Task c =
+pub returns-in-Ok : goal.returns-in-Ok
+returns-in-Ok c =
     accepted c.args.text.now c.judge_text.ensures
-    c.in-Task.is
+    c.in-Ok.is
 
-pub returns-in-Refused : goal.returns-in-Refused
-returns-in-Refused c =
+pub returns-in-Err : goal.returns-in-Err
+returns-in-Err c =
     numbered c.args.text.now
-    c.judge_text.ensures c.in-Refused.is c.packed.ensures
+    c.judge_text.ensures c.in-Err.is c.packed.ensures

@@ -8,14 +8,14 @@ use Rattle.services.proofs.check.Goals as goal
 pub judge_lent-judgement-requires : goal.judge_lent-judgement-requires
 judge_lent-judgement-requires c = first_passes _ _ _ _ c.work_row-first.ensures (work-room _ _)
 
-pub returns-in-Task : goal.returns-in-Task
-returns-in-Task c =
+pub returns : goal.returns
+returns c =
     let j = c.judge_lent-judgement.ensures _ _ (omega arith) c.work_row-first.ensures (work-room _ _) in
-    let e = accepts j c.clear.ensures c.in-Task.is in
+    let e = accepts j c.clear.ensures c.in_ok-branch.was in
     record { left = e; numbers = check-numbers _ _ e }
 
-pub returns-in-Refused : goal.returns-in-Refused
-returns-in-Refused c =
+pub returns-in_err-branch : goal.returns-in_err-branch
+returns-in_err-branch c =
     let j = c.judge_lent-judgement.ensures _ _ (omega arith) c.work_row-first.ensures (work-room _ _) in
-    let e = refuses j c.clear.ensures c.in-Refused.is in
+    let e = refuses j c.clear.ensures c.in_err-branch.was in
     record { left = e; numbers = check-numbers _ _ e }
