@@ -4,10 +4,10 @@ use mathlib.Core.List.{List, ◌∷◌}
 use mathlib.Core.Path.{◌≡◌, refl, ap, sym, ◌∙◌}
 use native.Mathlib.Omega.{arith}
 use lib.ListN.{length}
-use Rattle.model.specs.declared.Point.TheVariants.{Call, Ensure}
+use Rattle.model.specs.declared.Point.TheVariants.{Call}
 use Rattle.model.specs.Limits.{most_stack, most_funcs, most_points, most_in_all}
 use Rattle.model.specs.Task.{func}
-use Rattle.model.specs.Core.{Core, effective, reserve, ensure, preempt, filled_with, save_moves, resume_moves}
+use Rattle.model.specs.Core.{Core, effective, reserve, preempt, filled_with, save_moves, resume_moves}
 use Rattle.model.specs.Run.{onwards}
 use Rattle.tables.specs.declared.Header.{Header}
 use Rattle.tables.specs.declared.Span.{Span}
@@ -20,7 +20,7 @@ use Rattle.prices.specs.Prices.{price_of}
 use Rattle.columns.specs.Columns.{dead_column, need_column, Points}
 use Rattle.readout.specs.Sheet.{sheet_in}
 use Rattle.readout.proofs.Read.{lies-there, dead-there, need-there}
-use Rattle.bounds.specs.Bounds.{cost_bounds, fill_bounds, spill_bounds, bounds_end}
+use Rattle.bounds.specs.Bounds.{cost_bounds, spill_bounds, bounds_end}
 use Rattle.machine.specs.declared.Moved.{Moved}
 use Rattle.machine.specs.declared.Preempted.{Preempted}
 use Rattle.machine.specs.Moves as machine

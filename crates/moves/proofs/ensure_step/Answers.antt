@@ -3,7 +3,7 @@ use native.Mathlib.Omega.{arith}
 use Rattle.machine.specs.Moves.{core_of}
 use Rattle.machine.proofs.Kept.{ensure-blocks}
 use Rattle.bounds.specs.Bounds.{fill_bounds}
-use Rattle.moves.proofs.Laws.{ensure-does, inside-small, read-inside, fill-inside}
+use Rattle.moves.proofs.Laws.{read-inside}
 use Rattle.moves.proofs.ensure_step.Goals as goal
 
 pub moves_price-cost-requires : goal.moves_price-cost-requires
