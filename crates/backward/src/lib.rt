@@ -6,11 +6,10 @@ ghost use Rattle.model.specs.Walk.{leads};
 ghost use Rattle.tables.specs.Tables.{func_in};
 ghost use Rattle.tables.specs.Valid.{Kept};
 ghost use Rattle.flow.specs.Flow.{targets};
-ghost use Rattle.backward.specs.Backward.{Given, Solved};
+ghost use Rattle.backward.specs.Backward.{Solved};
 ghost use Rattle.backward.specs.Rounds.{joined, set_at, There, Right, Round};
 
-use flow::Next;
-use tables::Span;
+use flow::{Flow, Next};
 
 // What comes from the points that are next.
 fn from_next(next: Next, sets: &[u64]) -> u64
@@ -25,26 +24,23 @@ fn from_next(next: Next, sets: &[u64]) -> u64
 }
 
 // The set of point p, from the sets of the points to which it leads.
-fn set_at(work: &[u32], s: Span, p: usize, gens: &[u64], kills: &[u64], sets: &[u64]) -> u64
-    requires { Given work.now s gens.now kills.now × (s.size ≤ length sets.now) × (p < s.size) }
-    ensures { result ≡ set_at (leads (func_in work.now s)) gens.now kills.now sets.now p }
+fn set_at(flow: Flow, p: usize, sets: &[u64]) -> u64
+    requires { (flow.span.size ≤ length sets.now) × (p < flow.span.size) }
+    ensures { result ≡ set_at (leads (func_in flow.entry.work.now flow.entry.span)) flow.entry.gens.now flow.entry.kills.now sets.now p }
 {
-    let after = from_next(flow::next_at(work, s, p), sets);
-    bits::transfer_of(after, kills[p], gens[p])
+    flow.transfer(p, from_next(flow.next(p), sets))
 }
 
 // One round from the last point to the first; whether a set changed.
-fn round(work: &[u32], s: Span, gens: &[u64], kills: &[u64], sets: &mut [u64]) -> bool
-    requires { Given work.now s gens.now kills.now × (s.size ≤ length sets.old)
-        × Right (leads (func_in work.now s)) gens.now kills.now s.size sets.old }
-    ensures { Round (leads (func_in work.now s)) gens.now kills.now s.size 0
+fn round(flow: Flow, sets: &mut [u64]) -> bool
+    requires { (flow.span.size ≤ length sets.old)
+        × Right (leads (func_in flow.work.now flow.span)) flow.gens.now flow.kills.now flow.span.size sets.old }
+    ensures { Round (leads (func_in flow.entry.work.now flow.entry.span)) flow.entry.gens.now flow.entry.kills.now flow.entry.span.size 0
         sets.old result sets.new }
 {
     let mut changed = false;
-    let mut p = s.size;
-    while 0 < p {
-        p -= 1;
-        let m = set_at(work, s, p, gens, kills, sets);
+    for p in (0..flow.span.size).rev() {
+        let m = set_at(flow, p, sets);
         if m != sets[p] {
             sets[p] = m;
             changed = true;
@@ -54,11 +50,11 @@ fn round(work: &[u32], s: Span, gens: &[u64], kills: &[u64], sets: &mut [u64]) -
 }
 
 // For the points of a function: which bits some walk from each meets. The first entries of sets are the answer, whatever they held; the others stay.
-pub fn backward(work: &[u32], s: Span, gens: &[u64], kills: &[u64], sets: &mut [u64])
-    requires { Given work.now s gens.now kills.now × (s.size ≤ length sets.old) }
-    ensures { Solved (leads (func_in work.now s)) s.size gens.now kills.now sets.new
-        × Kept s.size sets.old sets.new }
+pub fn backward(flow: Flow, sets: &mut [u64])
+    requires { flow.span.size ≤ length sets.old }
+    ensures { Solved (leads (func_in flow.entry.work.now flow.entry.span)) flow.entry.span.size flow.entry.gens.now flow.entry.kills.now sets.new
+        × Kept flow.entry.span.size sets.old sets.new }
 {
-    bits::clear_sets(sets, s.size);
-    while round(work, s, gens, kills, sets) {}
+    sets[..flow.span.size].fill(0);
+    while round(flow, sets) {}
 }

@@ -5,15 +5,15 @@ use native.Mathlib.Decide.{dec_lt, ℕ_discrete}
 use native.Mathlib.Numerals.{one-add}
 use native.Mathlib.Omega.{arith}
 use mathlib.Core.Bool.{Bool, true, false, not}
-use mathlib.Core.List.{List}
+use mathlib.Core.List.{List, ◌++◌}
 use mathlib.Core.Logic.{◌↔◌}
 use mathlib.Core.Path.{◌≡◌, refl, ap, sym, ◌∙◌}
 use lib.Bits.{bit_and, bit_or, and_step, or_step, or_zero_r, or_add_and, and_le_r, and_mask}
 use lib.Count.{count_leading_zeros, count_trailing_zeros, under, leading_length}
 use lib.Dec.{T, eqb, ltb, eqb→eq, eqb_refl}
-use lib.ListN.{length, get_or, set, drop, replicate, length-append, length-drop, length-replicate, get_or-append, get_or-replicate, length-set}
+use lib.ListN.{length, get_or, take, drop, replicate, length-append, length-drop, length-replicate, get_or-append, get_or-replicate}
 use lib.Pow.{pow_pos, shl_exact, shr-shr}
-use borrow.Author.Fill.{fill_none, fill_more}
+use Rattle.std.proofs.lemmas.List.{length-take-le}
 use borrow.Author.Tests.{eq-eqb, ne_eqb, lt-ltb, le-ltb}
 use Rattle.bits.specs.Bits.{set_bits, all_bits, bit, Marks, Single, Low, Top, Lowest, union, difference, transfer, cleared}
 
@@ -177,14 +177,13 @@ trailing-there zero m h = absurd (omega arith)
 trailing-there (suc k) m h =
     under-there k m (m % 2) (count_trailing_zeros k (m / 2)) refl (λ i. trailing-there k (m / 2) i) h
 
--- the trailing zeros of a word, where they are fewer than k, and k where they are not
-pub lowest-trailing : (m k : ℕ) → k ≤ set_bits → count_trailing_zeros set_bits m < k → Lowest m k (count_trailing_zeros set_bits m)
-lowest-trailing m k l h =
-    record { within = omega arith; below = trailing_below set_bits m; attained = λ i. trailing-there set_bits m (omega arith) }
-
-pub lowest-none : (m k : ℕ) → k ≤ count_trailing_zeros set_bits m → Lowest m k k
-lowest-none m k h =
-    record { within = omega arith; below = λ j i. trailing_below set_bits m j (omega arith); attained = λ i. absurd (omega arith) }
+-- the trailing zeros of a word, no more than k
+pub lowest-trailing : (m k r : ℕ) → k ≤ set_bits → r ≡ min (count_trailing_zeros set_bits m) k → Lowest m k r
+lowest-trailing m k r l e = record {
+  within = omega arith;
+  below = λ j h. trailing_below set_bits m j (omega arith);
+  attained = λ h. let d : r ≡ count_trailing_zeros set_bits m = omega arith in rw d (trailing-there set_bits m (omega arith));
+}
 
 -- sets as tests: what passes is in the set
 pub marked : {t : ℕ → Bool} {m : ℕ} → Marks t m → (j : ℕ) → j < set_bits → (bit m j ≡ 1) ↔ T (t j)
@@ -238,23 +237,7 @@ unfolding cleared
 item-cleared n p l h =
     get_or-append (replicate n 0) (drop n l) 0 p (rw (length-replicate {A = ℕ} n 0) h) ∙ get_or-replicate n p 0 0 h
 
--- the loop that clears n entries of l has come to entry i
-pub record Clearing (n i : ℕ) (l l' : List ℕ) : Type 0 where
-  pub within : i ≤ n
-  pub long : length l' ≡ length l
-  pub so_far : l' ≡ cleared i l
-
-pub clearing-none : (n : ℕ) (l : List ℕ) → Clearing n 0 l l
+-- a table whose first n entries are filled with 0
+pub filled-cleared : (n : ℕ) (l : List ℕ) {front : List ℕ} → n ≤ length l → front ≡ replicate (length (take n l)) 0 → front ++ drop n l ≡ cleared n l
 unfolding cleared
-clearing-none n l = record { within = omega arith; long = refl; so_far = fill_none l 0 }
-
-pub clearing-more : {n i : ℕ} {l l' : List ℕ} → Clearing n i l l' → n ≤ length l → i < n → Clearing n (i + 1) l (set l' i 0)
-unfolding cleared
-clearing-more {n} {i} {l} {l'} c h k = record {
-  within = omega arith;
-  long = simp length-set c.long;
-  so_far = ap (λ (x : List ℕ). set x i 0) c.so_far ∙ fill_more i 0 l (omega arith);
-}
-
-pub clearing-end : {n i : ℕ} {l l' : List ℕ} → Clearing n i l l' → n ≤ i → l' ≡ cleared n l
-clearing-end {n} {i} c h = let e : i ≡ n = omega (arith, c.within) in rw (← e) c.so_far
+filled-cleared n l h e = rw (e, length-take-le n l h)

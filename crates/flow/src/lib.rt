@@ -1,12 +1,13 @@
-// What the two data-flow kernels share: what they are given, and where a point leads.
+// What the two data-flow kernels share: what they are given, where a point leads, and what leaves it.
 #![tactic(auto)]
 
-ghost use Rattle.std.specs.Prelude.{◌≡◌, ◌<◌};
+ghost use Rattle.std.specs.Prelude.{◌≡◌, ℕ, ◌^◌, ◌<◌};
+ghost use Rattle.bits.specs.Bits.{set_bits, transfer};
 ghost use Rattle.model.specs.Limits.{most_in_all};
 ghost use Rattle.model.specs.Walk.{leads_from, leads};
-ghost use Rattle.tables.specs.Tables.{func_in};
+ghost use Rattle.tables.specs.Tables.{func_in, item};
 ghost use Rattle.tables.specs.Valid.{Lies};
-ghost use Rattle.flow.specs.Flow.{targets};
+ghost use Rattle.flow.specs.Flow.{Given, targets};
 
 use model::Point;
 use tables::Span;
@@ -44,4 +45,45 @@ pub fn next_at(work: &[u32], s: Span, p: usize) -> Next
         return Next::To(p + 1);
     }
     next_of(p, tables::point_at(work, i))
+}
+
+// A function in the tables whose walks a kernel can follow, and for each of its points the bits that it generates and those that it kills.
+#[derive(Clone, Copy)]
+pub struct Flow<'a> {
+    pub work: &'a [u32],
+    pub span: Span,
+    pub gens: &'a [u64],
+    pub kills: &'a [u64],
+    ghost given: { Given work.now span gens.now kills.now },
+    ghost words: { (p : ℕ) → item kills.now p < 2 ^ set_bits },
+}
+
+impl<'a> Flow<'a> {
+    pub fn new(work: &'a [u32], span: Span, gens: &'a [u64], kills: &'a [u64]) -> Flow<'a>
+        requires { Given work.now span gens.now kills.now }
+        ensures { (result.work.now ≡ work.now) × (result.span ≡ span) × (result.gens.now ≡ gens.now) × (result.kills.now ≡ kills.now) }
+    {
+        Flow {
+            work,
+            span,
+            gens,
+            kills,
+        }
+    }
+
+    // Where point p leads.
+    pub fn next(self, p: usize) -> Next
+        requires { p < self.span.size }
+        ensures { targets result ≡ leads (func_in self.entry.work.now self.entry.span) p }
+    {
+        next_at(self.work, self.span, p)
+    }
+
+    // What leaves point p, to which the set m comes.
+    pub fn transfer(self, p: usize, m: u64) -> u64
+        requires { p < self.span.size }
+        ensures { result ≡ transfer m (item self.entry.kills.now p) (item self.entry.gens.now p) }
+    {
+        bits::transfer_of(m, self.kills[p], self.gens[p])
+    }
 }

@@ -8,12 +8,11 @@ ghost use Rattle.tables.specs.Tables.{func_in};
 ghost use Rattle.tables.specs.Valid.{Kept};
 ghost use Rattle.flow.specs.Flow.{targets};
 ghost use Rattle.worklist.specs.Worklist.{worklist_of, Absent};
-ghost use Rattle.forward.specs.Forward.{Given, Solved};
+ghost use Rattle.forward.specs.Forward.{Solved};
 ghost use Rattle.forward.specs.Visits.{progress_of, added_with, LastThere, LastIs, Merged, Propagated, Visited, Visits, Listed, Mergeable, MergeableAll};
 
-use flow::Next;
+use flow::{Flow, Next};
 use model::Limits;
-use tables::Span;
 use worklist::Visit;
 
 // The last point of the worklist, and its set.
@@ -153,94 +152,65 @@ fn propagate(
 
 // The last point of the worklist is taken, and what leaves it is merged into the points that are next.
 fn visit(
-    work: &[u32],
-    s: Span,
-    gens: &[u64],
-    kills: &[u64],
+    flow: Flow,
     sets: &mut [u64],
     state: &mut [u8],
     points: &mut [u8],
     count: usize,
     at: Last,
 ) -> End
-    requires { Given work.now s gens.now kills.now × Listed s.size (progress_of sets.old state.old points.old count)
+    requires { Listed flow.span.size (progress_of sets.old state.old points.old count)
         × (0 < count) × LastIs sets.old points.old count at }
-    ensures { Visited (leads (func_in work.now s)) gens.now kills.now
+    ensures { Visited (leads (func_in flow.entry.work.now flow.entry.span)) flow.entry.gens.now flow.entry.kills.now
         (progress_of sets.old state.old points.old count)
         (progress_of sets.new state.new points.new result.count)
-        × Listed s.size (progress_of sets.new state.new points.new result.count)
+        × Listed flow.entry.span.size (progress_of sets.new state.new points.new result.count)
         × LastIs sets.new points.new result.count result.last }
 {
     let p = at.point;
     let left = worklist::take(state, points, count, p);
-    let m = bits::transfer_of(at.set, kills[p], gens[p]);
-    propagate(flow::next_at(work, s, p), m, sets, state, points, left)
+    let m = flow.transfer(p, at.set);
+    propagate(flow.next(p), m, sets, state, points, left)
 }
 
 // Points are visited until the worklist is empty.
-fn drain(
-    work: &[u32],
-    s: Span,
-    gens: &[u64],
-    kills: &[u64],
-    sets: &mut [u64],
-    state: &mut [u8],
-    points: &mut [u8],
-    first: usize,
-)
-    requires { Given work.now s gens.now kills.now × Listed s.size (progress_of sets.old state.old points.old first) }
-    ensures { Visits (leads (func_in work.now s)) gens.now kills.now
+fn drain(flow: Flow, sets: &mut [u64], state: &mut [u8], points: &mut [u8], first: usize)
+    requires { Listed flow.span.size (progress_of sets.old state.old points.old first) }
+    ensures { Visits (leads (func_in flow.entry.work.now flow.entry.span)) flow.entry.gens.now flow.entry.kills.now
         (progress_of sets.old state.old points.old first)
         (progress_of sets.new state.new points.new 0) }
 {
     let mut count = first;
     let mut at = last_of(sets, points, first);
     while count > 0 {
-        let end = visit(work, s, gens, kills, sets, state, points, count, at);
+        let end = visit(flow, sets, state, points, count, at);
         count = end.count;
         at = end.last;
     }
 }
 
 // The tables are cleared, and the visits start at point 0 with the set entry.
-fn solve(
-    work: &[u32],
-    s: Span,
-    entry: u64,
-    gens: &[u64],
-    kills: &[u64],
-    sets: &mut [u64],
-    state: &mut [u8],
-    points: &mut [u8],
-)
-    requires { Given work.now s gens.now kills.now × (s.size ≤ length sets.old) × (s.size ≤ length state.old)
+fn solve(flow: Flow, entry: u64, sets: &mut [u64], state: &mut [u8], points: &mut [u8])
+    requires { (flow.span.size ≤ length sets.old) × (flow.span.size ≤ length state.old)
         × (length points.old ≡ most_points) }
-    ensures { Solved (leads (func_in work.now s)) s.size entry gens.now kills.now
+    ensures { Solved (leads (func_in flow.entry.work.now flow.entry.span)) flow.entry.span.size entry flow.entry.gens.now flow.entry.kills.now
         sets.new state.new
-        × Kept s.size sets.old sets.new × Kept s.size state.old state.new }
+        × Kept flow.entry.span.size sets.old sets.new × Kept flow.entry.span.size state.old state.new }
 {
-    bits::clear_sets(sets, s.size);
-    bits::clear_marks(state, s.size);
+    sets[..flow.span.size].fill(0);
+    state[..flow.span.size].fill(0);
     let count = add_to_list(sets, state, points, 0, 0, entry);
-    drain(work, s, gens, kills, sets, state, points, count);
+    drain(flow, sets, state, points, count);
 }
 
 // For the points of a function: which of them a walk from point 0 reaches, and which bits such walks carry to each. The first entries of sets
 // and state are the answer, whatever they held; the others stay.
-pub fn forward(
-    work: &[u32],
-    s: Span,
-    entry: u64,
-    gens: &[u64],
-    kills: &[u64],
-    sets: &mut [u64],
-    state: &mut [u8],
-)
-    requires { Given work.now s gens.now kills.now × (s.size ≤ length sets.old) × (s.size ≤ length state.old) }
-    ensures { Solved (leads (func_in work.now s)) s.size entry gens.now kills.now
+pub fn forward(flow: Flow, entry: u64, sets: &mut [u64], state: &mut [u8])
+    requires { (flow.span.size ≤ length sets.old) × (flow.span.size ≤ length state.old) }
+    ensures { Solved (leads (func_in flow.entry.work.now flow.entry.span)) flow.entry.span.size entry flow.entry.gens.now flow.entry.kills.now
         sets.new state.new
-        × Kept s.size sets.old sets.new × Kept s.size state.old state.new }
+        × Kept flow.entry.span.size sets.old sets.new × Kept flow.entry.span.size state.old state.new }
 {
     let mut points = [0u8; Limits::POINTS];
-    solve(work, s, entry, gens, kills, sets, state, &mut points);
+    solve(flow, entry, sets, state, &mut points);
 }

@@ -13,7 +13,7 @@ use borrow.Author.Tests.{not-true, not-false, eq-eqb, ne_eqb}
 use Rattle.model.specs.declared.Point.{Point}
 use Rattle.model.specs.declared.Point.TheVariants.{Call}
 use Rattle.model.specs.declared.Row.TheVariants.{Uncalled}
-use Rattle.model.specs.declared.Verdict.TheVariants.{Accepted, Refused}
+use Rattle.std.proofs.Common.{Ok, Err}
 use Rattle.model.specs.Basic.{first_of, any, count_from, up_to}
 use Rattle.model.specs.Refusal.{is_called, call_row, call_rows}
 use Rattle.model.specs.Rows.{refuse, row_verdict}
@@ -88,10 +88,10 @@ pub calls-start : (w : List ℕ) (h : Header) → Rest (call_rows (task_of w h))
 calls-start w h = ap (λ (c : ℕ). first_of (call_row (task_of w h)) (count_from 1 (c - 1))) (count-is w h)
 
 module _ {w : List ℕ} {h : Header} (k : Holds w h) (f : ℕ) (l : f < h.funcs) {c : Bool} (e : c ≡ is_called (task_of w h) f) where
-  pub row-called : not c ≡ false → Accepted ≡ row_verdict (call_row (task_of w h) f)
+  pub row-called : not c ≡ false → Ok tt ≡ row_verdict (call_row (task_of w h) f)
   unfolding call_row
   row-called d = rw (← e, not-false c d)
 
-  pub row-uncalled : not c ≡ true → {b p : ℕ} → b ≡ base_at w f → p ≡ opening_line f b → Refused (refuse Uncalled p) ≡ row_verdict (call_row (task_of w h) f)
+  pub row-uncalled : not c ≡ true → {b p : ℕ} → b ≡ base_at w f → p ≡ opening_line f b → Err (refuse Uncalled p) ≡ row_verdict (call_row (task_of w h) f)
   unfolding call_row
   row-uncalled d u v = rw (← e, not-true c d, v, u, line-is h k.stacked f l)

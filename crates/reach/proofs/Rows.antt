@@ -3,19 +3,21 @@ use Prim.Native.Nat.{ℕ, zero, suc, ◌+◌, ◌-◌, ◌≤◌, ◌<◌}
 use native.Mathlib.Nat.{sub-zero}
 use native.Mathlib.Omega.{arith}
 use mathlib.Core.Path.{◌≡◌, refl, ap, sym, ◌∙◌}
-use mathlib.Core.Bool.{Bool, true, false, true≢false}
+use mathlib.Core.Bool.{Bool, true, false}
 use mathlib.Core.List.{List}
 use mathlib.Core.Option.{Option, none, some}
 use lib.Dec.{T}
+use lib.ListN.{take}
+use Rattle.std.proofs.lemmas.List.{get_or-take}
 use Rattle.model.specs.declared.Refusal.{Refusal}
 use Rattle.model.specs.declared.Row.{Row}
 use Rattle.model.specs.declared.Row.TheVariants.{Unreachable, Uninitialised}
-use Rattle.model.specs.declared.Verdict.{Verdict}
-use Rattle.model.specs.declared.Verdict.TheVariants.{Accepted, Refused}
+use Rattle.std.proofs.Common.{Ok, Err}
+use Rattle.std.specs.Result.{result_and}
 use Rattle.model.specs.Basic.{unless, ◌or_else◌, first_of, count_from, up_to}
 use Rattle.model.specs.Figures.{reached}
 use Rattle.model.specs.Refusal.{reach_row, load_row, first_point, call_rows, walk_rows}
-use Rattle.model.specs.Rows.{refuse, row_verdict}
+use Rattle.model.specs.Rows.{Verdict, refuse, row_verdict}
 use Rattle.model.specs.Task.{Func, Task, size, count, func, point_line}
 use Rattle.theory.proofs.Firsts.{counted-zero, counted_step, counted-past, below_none}
 use Rattle.theory.proofs.Search.{Rest, count-more, count-end, verdict-none, verdict-some, search-on, search-off, search-end}
@@ -25,7 +27,7 @@ use Rattle.tables.specs.Tables.{base_at, size_at, span_at, func_of, task_of, ope
 use Rattle.tables.specs.Valid.{Holds}
 use Rattle.tables.proofs.Laws.{func-is, size_is, line-is, count-is}
 use Rattle.reach.specs.Reach.{loads_stored, Clean, CleanBefore, Tells, seen, initialised, failing_at, first_failing}
-use Rattle.reach.specs.Reach.{reach_in, load_in, is_refused, first_verdict, verdict_from}
+use Rattle.reach.specs.Reach.{reach_in, load_in, verdict_from}
 
 -- rows that agree have the same first refusal
 first-same : {B : Type 0} (g h : ℕ → Option B) (i n : ℕ) → ((j : ℕ) → i ≤ j → j < i + n → g j ≡ h j)
@@ -52,15 +54,19 @@ module _ (row : Row) (f : ℕ) (s : Span) (test : ℕ → Bool) where
   module _ (p : ℕ) (i : Searching row f s test p) where
     pub searching-on : test p ≡ true → p < s.size → Searching row f s test (p + 1)
     unfolding Searching
-    searching-on e h = search-on _ p s.size i {v = Accepted} (rw e) refl h
+    searching-on e h = search-on _ p s.size i {v = Ok tt} (rw e) refl h
 
-    pub searching-off : test p ≡ false → {l : ℕ} → l ≡ line_in f s.base p → p < s.size → Refused (refuse row l) ≡ row_verdict (first_failing row f s test)
+    pub searching-off : test p ≡ false → {l : ℕ} → l ≡ line_in f s.base p → p < s.size → Err (refuse row l) ≡ row_verdict (first_failing row f s test)
     unfolding Searching
     searching-off e d h = search-off _ p s.size i (rw (e, d)) refl h
 
-    pub searching-end : s.size ≤ p → Accepted ≡ row_verdict (first_failing row f s test)
+    pub searching-end : s.size ≤ p → Ok tt ≡ row_verdict (first_failing row f s test)
     unfolding Searching
     searching-end h = search-end _ p s.size i h
+
+-- a mark among the first n
+pub seen-front : {n p : ℕ} (l : List ℕ) {b : Bool} → p < n → seen (take n l) p ≡ b → seen l p ≡ b
+seen-front {n} {p} l h e = rw (← get_or-take n l p 0 h) e
 
 -- what the tables say of function f of the task that they hold
 module _ {w : List ℕ} {h : Header} (k : Holds w h) (f : ℕ) (l : f < h.funcs) where
@@ -104,36 +110,34 @@ module _ {w : List ℕ} {h : Header} (k : Holds w h) (f : ℕ) (l : f < h.funcs)
   load-clean c = none_in Uninitialised loads_stored c.stored
 
 -- the verdict from a function on, by cases of the three rows
-three : (a b c : Option Refusal) → first_verdict (row_verdict a) (first_verdict (row_verdict b) (row_verdict c)) ≡ row_verdict (a or_else b or_else c)
+three : (a b c : Option Refusal) → result_and (row_verdict a) (result_and (row_verdict b) (row_verdict c)) ≡ row_verdict (a or_else b or_else c)
 three (some r) b c = refl
 three none (some r) c = refl
 three none none c = refl
 
-then-rest : (k : Verdict) (a b : Option Refusal) → first_verdict (first_verdict k (row_verdict a)) (row_verdict b) ≡ first_verdict k (row_verdict (a or_else b))
-then-rest (Refused r) a b = refl
-then-rest Accepted (some r) b = refl
-then-rest Accepted none b = refl
+then-rest : (k : Verdict) (a b : Option Refusal) → result_and (result_and k (row_verdict a)) (row_verdict b) ≡ result_and k (row_verdict (a or_else b))
+then-rest (Err r) a b = refl
+then-rest (Ok u) (some r) b = refl
+then-rest (Ok u) none b = refl
 
-kept-last : (k : Verdict) → k ≡ first_verdict k Accepted
-kept-last (Refused r) = refl
-kept-last Accepted = refl
+kept-last : (k : Verdict) → k ≡ result_and k (Ok tt)
+kept-last (Err r) = refl
+kept-last (Ok u) = refl
 
 module _ (t : Task) (f n : ℕ) (kept : Verdict) where
   -- a refusal 11 in function f goes before all
-  pub from-off : (v : Verdict) → v ≡ row_verdict (reach_in t f) → is_refused v ≡ true → f < n → v ≡ verdict_from t f n kept
+  pub from-off : {r : Refusal} → Err r ≡ row_verdict (reach_in t f) → f < n → Err r ≡ verdict_from t f n kept
   unfolding verdict_from first_of
-  from-off Accepted e d h = absurd (true≢false (sym d))
-  from-off (Refused r) e d h = rw (count-more f n h, verdict-some (reach_in t f) (sym e))
+  from-off e h = rw (count-more f n h, verdict-some (reach_in t f) (sym e))
 
   -- a refusal 13 in function f goes after what is kept
-  pub from_on : (v : Verdict) {u k : Verdict} → v ≡ row_verdict (reach_in t f) → is_refused v ≡ false → u ≡ row_verdict (load_in t f) → k ≡ first_verdict kept u
-      → f < n → verdict_from t (f + 1) n k ≡ verdict_from t f n kept
+  pub from_on : {u k : Verdict} → Ok tt ≡ row_verdict (reach_in t f) → u ≡ row_verdict (load_in t f) → k ≡ result_and kept u → f < n
+      → verdict_from t (f + 1) n k ≡ verdict_from t f n kept
   unfolding verdict_from first_of
-  from_on (Refused r) e d i j h = absurd (true≢false d)
-  from_on Accepted e d i j h =
+  from_on e i j h =
       rw (j, i, count-more f n h, verdict-none (reach_in t f) (sym e))
       (ap
-      (first_verdict (row_verdict (first_of (reach_in t) (count_from (f + 1) (n - (f + 1))))))
+      (result_and (row_verdict (first_of (reach_in t) (count_from (f + 1) (n - (f + 1))))))
       (then-rest kept (load_in t f) (first_of (load_in t) (count_from (f + 1) (n - (f + 1))))))
 
   pub from_end : n ≤ f → kept ≡ verdict_from t f n kept
@@ -156,7 +160,7 @@ unfolding verdict_from reach_in load_in
 from-clean {w} {h} k {f} c e =
     let t = task_of w h in
     let n = count-is w h in
-    (λ i. first_verdict
+    (λ i. result_and
     (row_verdict (rows-from t (reach_row t) f _ n c.within (λ g b. reach-clean k g (omega (arith, c.within)) (c.clean g b)) i))
-    (first_verdict (e i) (row_verdict (rows-from t (load_row t) f _ n c.within (λ g b. load-clean k g (omega (arith, c.within)) (c.clean g b)) i))))
+    (result_and (e i) (row_verdict (rows-from t (load_row t) f _ n c.within (λ g b. load-clean k g (omega (arith, c.within)) (c.clean g b)) i))))
     ∙ three (first_point t (reach_row t)) (call_rows t) (first_point t (load_row t))

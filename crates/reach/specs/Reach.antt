@@ -1,15 +1,14 @@
 -- Refusals 11 and 13 of a function in the tables, and what a pass over its points finds. A set is a number with a bit for each offset.
-use Rattle.std.specs.Prelude.{ℕ, ◌+◌, ◌-◌, ◌≤◌, ◌<◌, Bool, true, false, not, List, ◌≡◌, T, eqb}
+use Rattle.std.specs.Prelude.{ℕ, ◌+◌, ◌-◌, ◌≤◌, ◌<◌, Bool, false, not, List, ◌≡◌, T, eqb}
+use Rattle.std.specs.Result.{result_and}
 use Rattle.std.proofs.Math.Option.{Option, none, some}
 use Rattle.bits.specs.Bits.{bit}
 use Rattle.model.specs.declared.Refusal.{Refusal}
 use Rattle.model.specs.declared.Row.{Row}
-use Rattle.model.specs.declared.Verdict.{Verdict}
-use Rattle.model.specs.declared.Verdict.TheVariants.{Accepted, Refused}
 use Rattle.model.specs.Basic.{unless, first_of, count_from, up_to}
 use Rattle.model.specs.Figures as figure
 use Rattle.model.specs.Refusal.{stored_before, reach_row, load_row}
-use Rattle.model.specs.Rows.{refuse, row_verdict}
+use Rattle.model.specs.Rows.{Verdict, refuse, row_verdict}
 use Rattle.model.specs.Task.{Func, Task, size, func, point}
 use Rattle.model.specs.Walk.{loaded}
 use Rattle.model.specs.WellFormed.{Shaped, Linked}
@@ -66,18 +65,9 @@ reach_in t f = first_of (reach_row t f) (up_to (size (func t f)))
 unfoldable pub load_in : Task → ℕ → Option Refusal
 load_in t f = first_of (load_row t f) (up_to (size (func t f)))
 
--- whether a verdict refuses, and the first of two that does
-abbrev pub is_refused : Verdict → Bool
-is_refused Accepted = false
-is_refused (Refused r) = true
-
-abbrev pub first_verdict : Verdict → Verdict → Verdict
-first_verdict Accepted v = v
-first_verdict (Refused r) v = Refused r
-
 -- 11 of the functions from f on, below n, then what is kept, then 13 of these functions
 unfoldable pub verdict_from : Task → ℕ → ℕ → Verdict → Verdict
 verdict_from t f n kept =
-    first_verdict
+    result_and
     (row_verdict (first_of (reach_in t) (count_from f (n - f))))
-    (first_verdict kept (row_verdict (first_of (load_in t) (count_from f (n - f)))))
+    (result_and kept (row_verdict (first_of (load_in t) (count_from f (n - f)))))

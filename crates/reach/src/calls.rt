@@ -31,10 +31,8 @@ fn mark_calls(work: &[u32], points: usize, marks: &mut [bool; Limits::FUNCS])
     requires { (tables_length ≤ length work.now) × (points ≤ most_in_all) × ((f : ℕ) → mark_of marks.old f ≡ false) }
     ensures { (f : ℕ) → f < most_funcs → mark_of marks.new f ≡ any (calls_at work.now f) (up_to points) }
 {
-    let mut i = 0;
-    while i < points {
+    for i in 0..points {
         mark(tables::point_at(work, i), marks);
-        i += 1;
     }
 }
 
@@ -43,18 +41,16 @@ fn first_unmarked(work: &[u32], h: Header, marks: &[bool; Limits::FUNCS]) -> Ver
     requires { Holds work.now h × ((f : ℕ) → f < h.funcs → mark_of marks.now f ≡ is_called (task_of work.now h) f) }
     ensures { result ≡ row_verdict (call_rows (task_of work.now h)) }
 {
-    let mut f = 1;
-    while f < h.funcs {
+    for f in 1..h.funcs {
         if !marks[f] {
             let s = tables::span_at(work, f);
-            return Verdict::Refused(Refusal {
+            return Err(Refusal {
                 row: Row::Uncalled,
                 place: tables::opening_line(f, s.base),
             });
         }
-        f += 1;
     }
-    Verdict::Accepted
+    Ok(())
 }
 
 // 12 of the task.

@@ -2,7 +2,7 @@
 // the first function that does not pass, the forward kernel decides.
 #![tactic(auto)]
 
-ghost use Rattle.std.specs.Prelude.{true, ◌≡◌, ℕ, ◌+◌, ◌<◌, ◌≤◌, length};
+ghost use Rattle.std.specs.Prelude.{Bool, true, ◌≡◌, ℕ, ◌+◌, ◌<◌, ◌≤◌, length};
 ghost use Rattle.bits.specs.Bits.{Marks};
 ghost use Rattle.model.specs.declared.Row.TheVariants.{Unreachable, Uninitialised};
 ghost use Rattle.model.specs.Limits.{most_funcs, most_in_all};
@@ -12,8 +12,9 @@ ghost use Rattle.model.specs.Walk.{stored, is};
 ghost use Rattle.model.specs.WellFormed.{Shaped, Linked};
 ghost use Rattle.tables.specs.Tables.{item, point_at, task_of};
 ghost use Rattle.tables.specs.Valid.{Holds, Fits};
-ghost use Rattle.reach.specs.Reach.{HoldsLinked, first_failing, seen, initialised, Tells, is_refused, first_verdict, verdict_from};
+ghost use Rattle.reach.specs.Reach.{HoldsLinked, first_failing, seen, initialised, Tells, verdict_from};
 
+use flow::Flow;
 use model::{Limits, Refusal, Row, Verdict};
 use tables::{Header, Span};
 
@@ -26,21 +27,44 @@ type Sets = [u64; Limits::POINTS];
 
 type Bytes = [u8; Limits::POINTS];
 
-// The first n points are marked as reached. The loop always runs through, so that several marks are looked at at a time.
-fn all_reached(state: &[u8], n: usize) -> bool
-    requires { n ≤ length state.now }
-    ensures { result ≡ true → (p : ℕ) → p < n → seen state.now p ≡ true }
+// What the kernel works in, with an entry for each point of a function. No point generates an offset.
+#[derive(Drop)]
+struct Scratch {
+    gens: Sets,
+    kills: Sets,
+    sets: Sets,
+    state: Bytes,
+    ghost no_gens: { (p : ℕ) → item gens p ≡ 0 },
+}
+
+// Every point is marked as reached. The loop always runs through, so that several marks are looked at at a time.
+fn all_reached(state: &[u8]) -> bool
+    ensures { result ≡ true → (p : ℕ) → p < length state.now → seen state.now p ≡ true }
 {
     let mut all = true;
-    let mut p = 0;
-    while p < n {
-        let mark = state[p];
-        p += 1;
-        if mark == 0 {
+    for mark in state {
+        if *mark == 0 {
             all = false;
         }
     }
     all
+}
+
+// A row at the first point of function f that does not pass.
+fn first_failing<F: Fn(usize) -> bool>(row: Row, f: usize, s: Span, passes: F) -> Verdict
+    requires { (f < most_funcs) × (s.base + s.size ≤ most_in_all) × ((p : ℕ) → p < s.size → F.pre passes p) }
+    ensures { (test : ℕ → Bool) → ((p : ℕ) (b : Bool) → p < s.size → F.post passes p b → b ≡ test p)
+        → result ≡ row_verdict (first_failing row f s test) }
+{
+    for p in 0..s.size {
+        if !passes(p) {
+            return Err(Refusal {
+                row,
+                place: tables::line_in(f, s.base, p),
+            });
+        }
+    }
+    Ok(())
 }
 
 // Refusal 11 in function f: the first point that is not marked as reached.
@@ -48,20 +72,10 @@ fn first_unreached(f: usize, s: Span, state: &[u8]) -> Verdict
     requires { (f < most_funcs) × (s.base + s.size ≤ most_in_all) × (s.size ≤ length state.now) }
     ensures { result ≡ row_verdict (first_failing Unreachable f s (seen state.now)) }
 {
-    if all_reached(state, s.size) {
-        return Verdict::Accepted;
+    if all_reached(&state[..s.size]) {
+        return Ok(());
     }
-    let mut p = 0;
-    while p < s.size {
-        if state[p] == 0 {
-            return Verdict::Refused(Refusal {
-                row: Row::Unreachable,
-                place: tables::line_in(f, s.base, p),
-            });
-        }
-        p += 1;
-    }
-    Verdict::Accepted
+    first_failing(Row::Unreachable, f, s, |p| state[p] != 0)
 }
 
 // Refusal 13 in function f: the first load whose offset is in its set, so that some walk reaches it with no store of the offset before.
@@ -69,99 +83,54 @@ fn first_unstored(work: &[u32], f: usize, s: Span, sets: &[u64]) -> Verdict
     requires { (f < most_funcs) × Fits work.now s × (s.size ≤ length sets.now) }
     ensures { result ≡ row_verdict (first_failing Uninitialised f s (initialised work.now s sets.now)) }
 {
-    let mut p = 0;
-    while p < s.size {
-        if point::has_load(sets[p], tables::point_at(work, s.base + p)) {
-            return Verdict::Refused(Refusal {
-                row: Row::Uninitialised,
-                place: tables::line_in(f, s.base, p),
-            });
-        }
-        p += 1;
-    }
-    Verdict::Accepted
+    first_failing(Row::Uninitialised, f, s, |p| {
+        !point::has_load(sets[p], tables::point_at(work, s.base + p))
+    })
 }
 
 fn fill_kills(work: &[u32], s: Span, kills: &mut [u64])
     requires { Fits work.now s × (s.size ≤ length kills.old) }
     ensures { (p : ℕ) → p < s.size → Marks (λ j. is j (stored (point_at work.now (s.base + p)))) (item kills.new p) }
 {
-    let mut p = 0;
-    while p < s.size {
+    for p in 0..s.size {
         kills[p] = point::kill_of(tables::point_at(work, s.base + p));
-        p += 1;
     }
 }
 
-// Runs the kernel over a function. At its entry no offset of the frame is stored; no point generates an offset; a store kills its own.
-fn solve(work: &[u32], s: Span, gens: &Sets, kills: &mut Sets, sets: &mut Sets, state: &mut Bytes)
-    requires { Fits work.now s × ((p : ℕ) → item gens.now p ≡ 0) }
-    ensures { Tells work.now s sets.new state.new }
+// Runs the kernel over a function. At its entry no offset of the frame is stored; a store kills its own.
+fn solve(work: &[u32], s: Span, scratch: &mut Scratch)
+    requires { Fits work.now s }
+    ensures { Tells work.now s scratch.new.sets scratch.new.state }
 {
-    fill_kills(work, s, kills);
-    forward::forward(work, s, bits::low_bits(s.frame), gens, kills, sets, state);
-}
-
-fn refuses(v: Verdict) -> bool
-    ensures { result ≡ is_refused v }
-{
-    match v {
-        Verdict::Accepted => false,
-        Verdict::Refused(_) => true,
-    }
-}
-
-// The first of two verdicts that refuses.
-fn first_verdict(a: Verdict, b: Verdict) -> Verdict
-    ensures { result ≡ first_verdict a b }
-{
-    match a {
-        Verdict::Accepted => b,
-        Verdict::Refused(r) => Verdict::Refused(r),
-    }
+    fill_kills(work, s, &mut scratch.kills);
+    let flow = Flow::new(work, s, &scratch.gens, &scratch.kills);
+    forward::forward(
+        flow,
+        bits::low_bits(s.frame),
+        &mut scratch.sets,
+        &mut scratch.state,
+    );
 }
 
 // The functions from the first on, by the kernel, up to the first refusal 11. What is kept is refusal 12, or else the first refusal 13 so far.
-fn rows_from(
-    work: &[u32],
-    h: Header,
-    first: usize,
-    calls: Verdict,
-    gens: &Sets,
-    kills: &mut Sets,
-    sets: &mut Sets,
-    state: &mut Bytes,
-) -> Verdict
-    requires { HoldsLinked work.now h × ((p : ℕ) → item gens.now p ≡ 0) }
-    ensures { result ≡ verdict_from (task_of work.now h) first h.funcs calls }
-{
-    let mut kept = calls;
-    let mut f = first;
-    while f < h.funcs {
-        let s = tables::span_at(work, f);
-        solve(work, s, gens, kills, sets, state);
-        let reach = first_unreached(f, s, state);
-        if refuses(reach) {
-            return reach;
-        }
-        let loads = first_unstored(work, f, s, sets);
-        kept = first_verdict(kept, loads);
-        f += 1;
-    }
-    kept
-}
-
 fn solved_rows(work: &[u32], h: Header, first: usize, calls: Verdict) -> Verdict
     requires { HoldsLinked work.now h }
     ensures { result ≡ verdict_from (task_of work.now h) first h.funcs calls }
 {
-    let gens = [0u64; Limits::POINTS];
-    let mut kills = [0u64; Limits::POINTS];
-    let mut sets = [0u64; Limits::POINTS];
-    let mut state = [0u8; Limits::POINTS];
-    rows_from(
-        work, h, first, calls, &gens, &mut kills, &mut sets, &mut state,
-    )
+    let mut scratch = Scratch {
+        gens: [0; Limits::POINTS],
+        kills: [0; Limits::POINTS],
+        sets: [0; Limits::POINTS],
+        state: [0; Limits::POINTS],
+    };
+    let mut kept = calls;
+    for f in first..h.funcs {
+        let s = tables::span_at(work, f);
+        solve(work, s, &mut scratch);
+        first_unreached(f, s, &scratch.state)?;
+        kept = kept.and(first_unstored(work, f, s, &scratch.sets));
+    }
+    kept
 }
 
 // 11, 12 and 13, in this order, each by line.

@@ -3,7 +3,7 @@ use native.Mathlib.Omega.{arith}
 use Rattle.backward.proofs.set_at.Goals as goal
 
 pub returns : goal.returns
-returns c = rw (← c.next_at.ensures, ← c.from_next-after.ensures) c.transfer_of.ensures
+returns c = rw (← c.next.ensures, ← c.from_next.ensures) c.transfer.ensures
 
-pub from_next-after-requires : goal.from_next-after-requires
-from_next-after-requires c q m = omega (arith, c.requires.0.fits.inside _ q c.requires.2 (rw c.next_at.ensures at m))
+pub from_next-requires : goal.from_next-requires
+from_next-requires c q m = omega (arith, c.args.flow.given.fits.inside _ q c.requires.1 (rw c.next.ensures at m))

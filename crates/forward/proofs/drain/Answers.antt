@@ -13,22 +13,19 @@ loop-count-init c = (Visits.none, search preserved-none, c.last_of-at.ensures)
 
 pub visit-end-requires : goal.visit-end-requires
 visit-end-requires c =
-    let p = c.requires in
-    (p.0, c.loop-count.invariant.1.list, omega arith, c.loop-count.invariant.2)
+    (c.loop-count.invariant.1.list, omega arith, c.loop-count.invariant.2)
 
 pub loop-count-smaller : goal.loop-count-smaller
 loop-count-smaller c =
-    let p = c.requires in
     let v = c.visit-end.ensures.0 in
-    (preserved-visited p.0.fits.inside c.loop-count.invariant.1.list c.loop-count-test.true v).1
+    (preserved-visited c.args.flow.given.fits.inside c.loop-count.invariant.1.list c.loop-count-test.true v).1
 
 pub loop-count-preserved : goal.loop-count-preserved
 loop-count-preserved c =
-    let p = c.requires in
     let r = c.visit-end.ensures in
     let i = c.loop-count.invariant in (
       Visits.more i.0 c.loop-count-test.true r.0,
-      preserved-on i.1 (preserved-visited p.0.fits.inside i.1.list c.loop-count-test.true r.0).0,
+      preserved-on i.1 (preserved-visited c.args.flow.given.fits.inside i.1.list c.loop-count-test.true r.0).0,
       r.2,
     )
 
@@ -40,8 +37,7 @@ shape_of-state c = c.loop-count.invariant.1.state-kept.size
 
 pub shape_of-points : goal.shape_of-points
 shape_of-points c =
-    let p = c.requires in
-    c.loop-count.invariant.1.list.pending.room ∙ sym p.1.pending.room
+    c.loop-count.invariant.1.list.pending.room ∙ sym c.requires.pending.room
 
 pub returns : goal.returns
 returns c = let e : c.loop-count.count ≡ 0 = omega arith in rw e at c.loop-count.invariant.0

@@ -1,8 +1,8 @@
 -- The loop writes the kill of one point a turn.
-use Prim.Native.Nat.{ℕ, ◌+◌, ◌-◌}
+use Prim.Native.Nat.{ℕ, ◌+◌}
 use native.Mathlib.Omega.{arith}
 use mathlib.Core.Path.{refl}
-use lib.ListN.{length, length-set}
+use lib.ListN.{length-set}
 use Rattle.bits.specs.Bits.{Marks}
 use Rattle.model.specs.Walk.{stored, is}
 use Rattle.tables.specs.Tables.{point_at}

@@ -1,5 +1,5 @@
 -- The points before i have marked the functions that they call.
-use Prim.Native.Nat.{ℕ, ◌-◌, ◌≤◌, ◌<◌}
+use Prim.Native.Nat.{ℕ, ◌<◌}
 use mathlib.Core.Path.{◌≡◌}
 use Rattle.model.specs.Basic.{any, up_to}
 use Rattle.model.specs.Limits.{most_funcs}
@@ -7,8 +7,4 @@ use Rattle.reach.specs.Calls.{calls_at, mark_of}
 use Rattle.reach.proofs.calls.mark_calls.Given as goal
 
 abbrev pub invariant-loop-i : goal.invariant-loop-i
-invariant-loop-i l =
-    (l.i ≤ l.points) × ((f : ℕ) → f < most_funcs → mark_of l.marks f ≡ any (calls_at l.work f) (up_to l.i))
-
-abbrev pub decreases-loop-i : goal.decreases-loop-i
-decreases-loop-i l = l.points - l.i
+invariant-loop-i l = (f : ℕ) → f < most_funcs → mark_of l.marks f ≡ any (calls_at l.work f) (up_to l.i)

@@ -1,5 +1,4 @@
 -- The functions before f are clean, and no mark is above f.
-use Prim.Native.Nat.{◌-◌}
 use native.Mathlib.Omega.{arith}
 use borrow.Author.Count.{below_more}
 use borrow.Author.Tests.{not-false}

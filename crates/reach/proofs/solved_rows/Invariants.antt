@@ -1,0 +1,8 @@
+-- What is kept, with what the functions from f on give, is what those from the first on give.
+use mathlib.Core.Path.{◌≡◌}
+use Rattle.tables.specs.Tables.{task_of}
+use Rattle.reach.specs.Reach.{verdict_from}
+use Rattle.reach.proofs.solved_rows.Given as goal
+
+abbrev pub invariant-loop-f : goal.invariant-loop-f
+invariant-loop-f l = verdict_from (task_of l.work l.fn.h) l.f l.f-end l.kept ≡ verdict_from (task_of l.work l.fn.h) l.initial.f l.f-end l.initial.kept
