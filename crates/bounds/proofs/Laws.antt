@@ -1,32 +1,24 @@
 -- A write behind the figures keeps them; one function more; what a run keeps.
-use Prim.Native.Nat.{ℕ, ◌+◌, ◌≤◌, ◌<◌}
+use Prim.Native.Nat.{ℕ, ◌+◌, ◌-◌, ◌≤◌, ◌<◌}
 use native.Mathlib.Omega.{arith}
 use native.Mathlib.Decide.{ℕ_discrete}
 use mathlib.Core.List.{List}
 use mathlib.Core.Path.{◌≡◌, ap, sym, subst, ◌∙◌}
-use lib.ListN.{length, set}
+use lib.ListN.{length, set, length-set}
 use Rattle.model.specs.Limits.{most_funcs, most_in_all}
 use Rattle.model.specs.Sheet.{Sheet}
 use Rattle.tables.specs.declared.Header.{Header}
 use Rattle.tables.specs.declared.Span.{Span}
-use Rattle.tables.specs.Layout.{tables_length}
 use Rattle.tables.specs.Tables.{item, base_at, size_at, span_at, task_of, Stacked}
-use Rattle.tables.specs.Valid.{Kept, Fits}
+use Rattle.tables.specs.Valid.{Kept}
 use Rattle.tables.proofs.Laws.{here, elsewhere, stacked-within}
-use Rattle.tables.proofs.Valid.{settled-fits}
 use Rattle.prices.specs.declared.Price.{Price}
-use Rattle.problems.specs.Problems.{Filled}
-use Rattle.columns.specs.Values.{Put}
-use Rattle.columns.proofs.Writes.{changed-none, changed-set, changed-on, changed-wider, changed-agree, changed-span, points_kept, stacked-order, changed-past}
+use Rattle.columns.proofs.Writes.{changed-none, changed-set, changed-agree, changed-span, points_kept, funcs-kept, stacked-order, changed-past}
 use Rattle.columns.specs.Columns.{columns_end, Points, Funcs}
 use Rattle.readout.specs.Sheet.{sheet_in}
 use Rattle.readout.specs.Readable.{Readable}
 use Rattle.readout.proofs.Same.{Same, task_stays, sheet-stays, funcs-stay, points-stay, readable-same}
 use Rattle.bounds.specs.Bounds.{cost_bounds, fill_bounds, spill_bounds, bounds_end, Bounded, BoundedTo, OnlyBounds}
-
--- function f of a task that is read fits a kernel
-pub span_fits : {price : Price} {w : List ℕ} {h : Header} {f : ℕ} {s : Span} → Readable price w h → f < h.funcs → s ≡ span_at w f → Fits w s
-span_fits {w = w} {f = f} k l e = subst (λ (s : Span). Fits w s) (sym e) (settled-fits k.settled f l)
 
 -- ---- a write behind the figures
 
@@ -43,132 +35,148 @@ module _ {price : Price} {w w' : List ℕ} {h : Header} (k : Readable price w h)
   pub only-sheet : sheet_in price w' h ≡ sheet_in price w h
   only-sheet = sheet-stays price h (omega arith) same-columns
 
+-- function f is where it was
+pub only-span : {price : Price} {w w' : List ℕ} {h : Header} {f : ℕ} {s : Span} → Readable price w' h → f < h.funcs → OnlyBounds w w' → s ≡ span_at w f
+    → s ≡ span_at w' f
+only-span k l c e = e ∙ sym (changed-span (omega arith) c _ (omega (arith, k.settled.holds.few)))
+
+-- its points have their room behind the figures
+pub point-room : {price : Price} {w : List ℕ} {h : Header} {f p : ℕ} {s : Span} → Readable price w h → f < h.funcs → s ≡ span_at w f → p < s.size
+    → fill_bounds + s.base + p < length w
+point-room {s = s} k l e i =
+    let n = k.settled.holds in
+    omega (arith, k.room, ap (λ (s : Span). s.base) e, ap (λ (s : Span). s.size) e, stacked-within n.stacked _ l, n.all)
+
 -- everything past these columns is as it was
 pub only_kept : {w w' : List ℕ} → OnlyBounds w w' → Kept bounds_end w w'
 only_kept c = changed-past c
 
--- one function more in a column of the points
-points-more : {figure : ℕ → ℕ → ℕ} {a f n m : ℕ} {v w w' : List ℕ} → tables_length ≤ a → n ≤ most_funcs → Stacked w n m → f < n → Points figure a f w
-    → Put (a + base_at w f) (size_at w f) v w w' → ((p : ℕ) → p < size_at w f → item v p ≡ figure f p) → Points figure a (f + 1) w'
-points-more {figure} {a} {f} {w = w} {w'} t few s l x put new =
-    record {
-      each = λ g p m i.
-          let b = changed-agree (omega arith) put.changed most_funcs (omega arith) in
-          let z = b.size g (omega arith) in
-          ap (λ (o : ℕ). item w' (a + o + p)) (b.base g (omega arith))
-          ∙ elim (ℕ_discrete g f) [
-            | yes j ↦ rw j (put.each p (omega (arith, z, ap (size_at w) j)) ∙ new p (omega (arith, z, ap (size_at w) j)))
-            | no j ↦ put.changed.before _ (omega (arith, z, stacked-order s g f (omega arith) l)) ∙ x.each g p (omega arith) (omega (arith, z))
-          ];
-    }
-
 -- ---- one function more
 
-module _ {price : Price} {w v u : List ℕ} {h : Header} {f : ℕ} {c d : List ℕ} (r : ℕ) (x : BoundedTo price w h f) (l : f < h.funcs)
-    (first : Put (cost_bounds + base_at w f) (size_at w f) c w v) (second : Put (fill_bounds + base_at w f) (size_at w f) d v u) where
-  abbrev w' : List ℕ
-  w' = set u (spill_bounds + f) r
+-- the column at a has a figure for each point of the functions below f, and for the first n points of function f
+pub record Column (figure : ℕ → ℕ → ℕ) (a f n : ℕ) (w : List ℕ) : Type 0 where
+  pub done : Points figure a f w
+  pub begun : (p : ℕ) → p < n → item w (a + base_at w f + p) ≡ figure f p
 
-  in-column : base_at w f + size_at w f ≤ most_in_all
-  in-column = let k = x.readable.settled.holds in omega (arith, stacked-within k.stacked f l, k.all)
-
-  few : h.funcs ≤ most_funcs
-  few = x.readable.settled.holds.few
-
-  to-first : OnlyBounds w v
-  to-first = changed-wider columns_end _ (omega arith) (omega (arith, in-column)) first.changed
-
-  to-second : OnlyBounds v u
-  to-second = changed-wider columns_end _ (omega arith) (omega (arith, in-column)) second.changed
-
-  to_last : OnlyBounds u w'
-  to_last = changed-set columns_end _ u (spill_bounds + f) r (omega arith) (omega (arith, few)) (changed-none columns_end _ u)
-
-  pub only-more : OnlyBounds w w'
-  only-more = changed-on (changed-on to-first to-second) to_last
-
-  between : Readable price v h
-  between = only-readable x.readable to-first
-
-  costs-more : {figure : ℕ → ℕ → ℕ} → Points figure cost_bounds f w → ((p : ℕ) → p < size_at w f → item c p ≡ figure f p)
-      → Points figure cost_bounds (f + 1) w'
-  costs-more y new =
-      let k = x.readable.settled.holds in
-      let n = between.settled.holds in
-      points_kept (omega arith) (changed-on to-second to_last) (omega (arith, few))
-      (λ g p m i.
-      let s = stacked-within n.stacked g (omega arith) in
-      elsewhere u (spill_bounds + f) _ r (omega (arith, s, n.all)) ∙ second.changed.before _ (omega (arith, s, n.all)))
-      (points-more (omega arith) few k.stacked l y first new)
-
-  fills-more : {figure : ℕ → ℕ → ℕ} → Points figure fill_bounds f w → ((p : ℕ) → p < size_at w f → item d p ≡ figure f p)
-      → Points figure fill_bounds (f + 1) w'
-  fills-more y new =
-      let n = between.settled.holds in
-      let k = (only-readable between to-second).settled.holds in
-      let e = sym (changed-span (omega arith) to-first f (omega (arith, few))) in
-      let z = ap (λ (s : Span). s.size) e in
-      points_kept (omega arith) to_last (omega (arith, few))
-      (λ g p m i. elsewhere u (spill_bounds + f) _ r (omega (arith, stacked-within k.stacked g (omega arith), k.all)))
-      (points-more (omega arith) few n.stacked l
-      (points_kept (omega arith) to-first (omega (arith, few)) (λ g p m i. first.changed.behind _ (omega (arith, in-column))) y)
-      (subst (λ (s : Span). Put (fill_bounds + s.base) s.size d v u) e second) (λ p i. new p (omega (arith, z))))
-
-  spills-more : {figure : ℕ → ℕ} → Funcs figure spill_bounds 0 f w → spill_bounds + f < length u → r ≡ figure f → Funcs figure spill_bounds 0 (f + 1) w'
-  spills-more y room e =
+module _ {figure : ℕ → ℕ → ℕ} (a : ℕ) {f n m k : ℕ} {w w' : List ℕ} (stacked : Stacked w m k) (few : m ≤ most_funcs) (all : k ≤ most_in_all) (l : f < m)
+    (only : OnlyBounds w w') where
+  -- one point more
+  column-more : n < size_at w f → ((i : ℕ) → a ≤ i → i < a + most_in_all → (i ≡ a + base_at w f + n → ⊥) → item w' i ≡ item w i)
+      → item w' (a + base_at w f + n) ≡ figure f n → Column figure a f n w → Column figure a f (n + 1) w'
+  column-more z same new x =
+      let room = stacked-within stacked f l in
       record {
-        each = λ g m n.
-            elim (ℕ_discrete g f) [
-              | yes j ↦ rw j (here u (spill_bounds + f) r room ∙ e)
-              | no j ↦
-                  elsewhere u (spill_bounds + f) (spill_bounds + g) r (omega arith)
-                  ∙ second.changed.behind _ (omega (arith, in-column))
-                  ∙ first.changed.behind _ (omega (arith, in-column))
-                  ∙ y.each g m (omega arith)
+        done =
+            points_kept (omega arith) only (omega arith)
+            (λ g p j q. same (a + base_at w g + p) (omega arith) (omega (arith, stacked-within stacked g (omega arith))) (omega (arith, stacked-order stacked g f j l)))
+            x.done;
+        begun = λ p j.
+            ap (λ (o : ℕ). item w' (a + o + p)) ((changed-agree (omega arith) only most_funcs (omega arith)).base f (omega arith))
+            ∙ elim (ℕ_discrete p n) [
+              | yes e ↦ rw e new
+              | no e ↦ same (a + base_at w f + p) (omega arith) (omega arith) (omega arith) ∙ x.begun p (omega arith)
             ];
       }
 
-  pub bounded-more : ((p : ℕ) → p < size_at w f → item c p ≡ ((sheet_in price w h).at f p).cost)
-      → ((p : ℕ) → p < size_at w f → item d p ≡ ((sheet_in price w h).at f p).fill) → r ≡ (sheet_in price w h).spill f
-      → BoundedTo price w' h (f + 1)
-  bounded-more costs fills spill =
-      let t = sym (only-sheet x.readable only-more) in
-      let room : spill_bounds + f < length u = omega (arith, x.readable.room, first.changed.size, second.changed.size, few) in
-      record {
-        readable = only-readable x.readable only-more;
-        cost = subst (λ (t : Sheet). Points (λ f p. (t.at f p).cost) cost_bounds (f + 1) w') t (costs-more x.cost costs);
-        fill = subst (λ (t : Sheet). Points (λ f p. (t.at f p).fill) fill_bounds (f + 1) w') t (fills-more x.fill fills);
-        spill = subst (λ (t : Sheet). Funcs t.spill spill_bounds 0 (f + 1) w') t (spills-more x.spill room spill);
-      }
+  -- all its points
+  column-all : size_at w f ≤ n → ((i : ℕ) → a ≤ i → i < a + most_in_all → item w' i ≡ item w i) → Column figure a f n w → Points figure a (f + 1) w'
+  column-all z same x =
+      points_kept (omega arith) only (omega arith)
+      (λ g p j q. same (a + base_at w g + p) (omega arith) (omega (arith, stacked-within stacked g (omega arith))))
+      (record {
+        each = λ g p j q.
+            elim (ℕ_discrete g f) [
+              | yes e ↦ rw e (x.begun p (omega (arith, ap (size_at w) e)))
+              | no e ↦ x.done.each g p (omega arith) q
+            ];
+      })
 
--- and with the function as it was read
-pub bounded-func : {price : Price} {w v u c₀ c d₀ d : List ℕ} {h : Header} {f r : ℕ} {s : Span} → BoundedTo price w h f → f < h.funcs → s ≡ span_at w f
-    → Filled (λ p n. n ≡ ((sheet_in price w h).at f p).cost) s.size c₀ c
-    → Filled (λ p n. n ≡ ((sheet_in price w h).at f p).fill) s.size d₀ d
-    → r ≡ (sheet_in price w h).spill f
-    → Put (cost_bounds + s.base) s.size c w v → Put (fill_bounds + s.base) s.size d v u
-    → BoundedTo price (set u (spill_bounds + f) r) h (f + 1) × OnlyBounds w (set u (spill_bounds + f) r)
-bounded-func {w = w} {v} {u} {c = c} {d = d} {r = r} x l e costs fills spill first second =
-    let y = subst (λ (s : Span). Put (cost_bounds + s.base) s.size c w v) e first in
-    let z = subst (λ (s : Span). Put (fill_bounds + s.base) s.size d v u) e second in
-    let n = ap (λ (s : Span). s.size) e in (
-      bounded-more r x l y z (λ p i. costs.each p (omega (arith, n))) (λ p i. fills.each p (omega (arith, n))) spill,
-      only-more r x l y z,
-    )
+-- the columns of figures can be read, and those behind them have what the sheet in them allows in the functions below f, and at the first n points of f
+pub record BoundedIn (price : Price) (w : List ℕ) (h : Header) (f n : ℕ) : Type 0 where
+  pub readable : Readable price w h
+  pub cost : Column (λ f p. ((sheet_in price w h).at f p).cost) cost_bounds f n w
+  pub fill : Column (λ f p. ((sheet_in price w h).at f p).fill) fill_bounds f n w
+  pub spill : Funcs (sheet_in price w h).spill spill_bounds 0 f w
 
--- ---- every function
-
-pub bounded-none : {price : Price} {w : List ℕ} {h : Header} → Readable price w h → BoundedTo price w h 0
-bounded-none k =
+pub begun-none : {price : Price} {w : List ℕ} {h : Header} {f : ℕ} → BoundedTo price w h f → BoundedIn price w h f 0
+begun-none x =
     record {
-      readable = k;
-      cost = record { each = λ f p l i. absurd (omega arith) };
-      fill = record { each = λ f p l i. absurd (omega arith) };
-      spill = record { each = λ f l i. absurd (omega arith) };
+      readable = x.readable;
+      cost = record { done = x.cost; begun = λ p i. absurd (omega arith) };
+      fill = record { done = x.fill; begun = λ p i. absurd (omega arith) };
+      spill = x.spill;
     }
 
-pub bounded-all : {price : Price} {w' : List ℕ} {h : Header} {n : ℕ} → n ≡ h.funcs → BoundedTo price w' h n → Bounded price w' h
-bounded-all {price} {w'} {h} e x = subst (BoundedTo price w' h) e x
+-- the cost c and the fill d of point n
+pub point-more : {price : Price} {w : List ℕ} {h : Header} {f n c d : ℕ} {s : Span} → BoundedIn price w h f n → f < h.funcs → s ≡ span_at w f → n < s.size
+    → c ≡ ((sheet_in price w h).at f n).cost → d ≡ ((sheet_in price w h).at f n).fill
+    → BoundedIn price (set (set w (cost_bounds + s.base + n) c) (fill_bounds + s.base + n) d) h f (n + 1)
+    × OnlyBounds w (set (set w (cost_bounds + s.base + n) c) (fill_bounds + s.base + n) d)
+point-more {price} {w} {h} {f} {n} {c} {d} {s} x l e z cost fill =
+    let k = x.readable.settled.holds in
+    let base = ap (λ (s : Span). s.base) e in
+    let size = ap (λ (s : Span). s.size) e in
+    let within = stacked-within k.stacked f l in
+    let i = cost_bounds + s.base + n in
+    let j = fill_bounds + s.base + n in
+    let v = set w i c in
+    let w' = set v j d in
+    let low : i < length w = omega (arith, x.readable.room, k.all) in
+    let high : j < length v = omega (arith, x.readable.room, k.all, length-set w i c) in
+    let only : OnlyBounds w w' =
+    changed-set columns_end (bounds_end - columns_end) v j d (omega arith) (omega (arith, k.all))
+    (changed-set columns_end (bounds_end - columns_end) w i c (omega arith) (omega (arith, k.all)) (changed-none columns_end _ w)) in
+    let t = sym (only-sheet x.readable only) in (
+      record {
+        readable = only-readable x.readable only;
+        cost =
+            subst (λ (t : Sheet). Column (λ f p. (t.at f p).cost) cost_bounds f (n + 1) w') t
+            (column-more cost_bounds k.stacked k.few k.all l only (omega arith)
+            (λ q a b ne. elsewhere v j q d (omega (arith, k.all)) ∙ elsewhere w i q c (omega arith))
+            (elsewhere v j _ d (omega (arith, k.all)) ∙ ap (λ (o : ℕ). item v (cost_bounds + o + n)) (sym base) ∙ here w i c low ∙ cost) x.cost);
+        fill =
+            subst (λ (t : Sheet). Column (λ f p. (t.at f p).fill) fill_bounds f (n + 1) w') t
+            (column-more fill_bounds k.stacked k.few k.all l only (omega arith)
+            (λ q a b ne. elsewhere v j q d (omega arith) ∙ elsewhere w i q c (omega (arith, k.all)))
+            (ap (λ (o : ℕ). item w' (fill_bounds + o + n)) (sym base) ∙ here v j d high ∙ fill) x.fill);
+        spill =
+            subst (λ (t : Sheet). Funcs t.spill spill_bounds 0 f w') t
+            (funcs-kept (λ g a b. elsewhere v j _ d (omega (arith, k.all)) ∙ elsewhere w i _ c (omega (arith, k.all))) x.spill);
+      },
+      only,
+    )
+
+-- and the spill r of the function
+pub func-more : {price : Price} {w : List ℕ} {h : Header} {f n r : ℕ} → BoundedIn price w h f n → f < h.funcs → size_at w f ≤ n → r ≡ (sheet_in price w h).spill f
+    → BoundedTo price (set w (spill_bounds + f) r) h (f + 1) × OnlyBounds w (set w (spill_bounds + f) r)
+func-more {price} {w} {h} {f} {n} {r} x l z spill =
+    let k = x.readable.settled.holds in
+    let i = spill_bounds + f in
+    let w' = set w i r in
+    let low : i < length w = omega (arith, x.readable.room, k.few) in
+    let only : OnlyBounds w w' =
+    changed-set columns_end (bounds_end - columns_end) w i r (omega arith) (omega (arith, k.few)) (changed-none columns_end _ w) in
+    let t = sym (only-sheet x.readable only) in (
+      record {
+        readable = only-readable x.readable only;
+        cost =
+            subst (λ (t : Sheet). Points (λ f p. (t.at f p).cost) cost_bounds (f + 1) w') t
+            (column-all cost_bounds k.stacked k.few k.all l only z (λ q a b. elsewhere w i q r (omega arith)) x.cost);
+        fill =
+            subst (λ (t : Sheet). Points (λ f p. (t.at f p).fill) fill_bounds (f + 1) w') t
+            (column-all fill_bounds k.stacked k.few k.all l only z (λ q a b. elsewhere w i q r (omega arith)) x.fill);
+        spill =
+            subst (λ (t : Sheet). Funcs t.spill spill_bounds 0 (f + 1) w') t
+            (record {
+              each = λ g a b.
+                  elim (ℕ_discrete g f) [
+                    | yes e ↦ rw e (here w i r low ∙ spill)
+                    | no e ↦ elsewhere w i (spill_bounds + g) r (omega arith) ∙ x.spill.each g a (omega arith)
+                  ];
+            });
+      },
+      only,
+    )
 
 -- ---- what a run keeps
 

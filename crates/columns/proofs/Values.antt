@@ -1,70 +1,55 @@
--- The numbers that the points are given, by the branches of the code.
+-- The function that a point calls, and the numbers that the points are given, by the branches of the code.
 use Prim.Native.Nat.{ℕ, ◌+◌, ◌-◌, ◌≤◌, ◌<◌}
 use native.Mathlib.Omega.{arith}
-use mathlib.Core.Bool.{true, false}
+use native.Mathlib.Decide.{dec_lt}
 use mathlib.Core.List.{List}
+use mathlib.Core.Option.{Option, none, some}
 use mathlib.Core.Path.{◌≡◌}
-use lib.Dec.{ltb}
 use borrow.Author.Tests.{lt-ltb, le-ltb}
 use Rattle.model.specs.Limits.{most_funcs}
-use Rattle.theory.proofs.Lists.{by-test}
 use Rattle.tables.specs.declared.Header.{Header}
 use Rattle.tables.specs.declared.Span.{Span}
 use Rattle.tables.specs.Tables.{item}
-use Rattle.columns.specs.Columns.{longest_column, shortest_column, fill_column, level_column}
-use Rattle.prices.specs.declared.Price.{Price}
-use Rattle.prices.specs.Prices.{price_of}
-use Rattle.columns.specs.Values.{callee_at, ensure_at, filled_at, kept_at, cut_at, level_at, chained_at}
+use Rattle.columns.specs.Columns.{shortest_column, level_column}
+use Rattle.columns.specs.Values.{among_funcs, callee_at, at_callee, kept_at, cut_at, level_at}
 
--- by the branches
+-- a function whose number is below most_funcs is the callee, and no other
+pub among-few : {o : Option ℕ} {g : ℕ} → o ≡ some g → g < most_funcs → among_funcs o ≡ some g
+among-few {g = g} e h = rw (e, lt-ltb g most_funcs h)
+
+pub among-some : (o : Option ℕ) {g : ℕ} → among_funcs o ≡ some g → o ≡ some g
+among-some none e = e
+among-some (some n) e =
+    elim (dec_lt n most_funcs) [ yes h ↦ rw (lt-ltb n most_funcs h) at e | no h ↦ absurd (let k = rw (le-ltb n most_funcs (omega arith)) at e in cc) ]
+
+pub among-none : (o : Option ℕ) → among_funcs o ≡ none → (n : ℕ) → o ≡ some n → most_funcs ≤ n
+among-none none e n i = absurd (cc)
+among-none (some m) e n i =
+    elim (dec_lt m most_funcs) [
+      | yes h ↦ absurd (let k = rw (lt-ltb m most_funcs h) at e in cc)
+      | no h ↦ let j : m ≡ n = cc in omega arith
+    ]
+
+-- how large they are
 module _ (w : List ℕ) (h : Header) (s : Span) (p : ℕ) where
-  pub fill-other : ensure_at w s p ≡ false → 0 ≡ filled_at w h s p
-  unfolding filled_at
-  fill-other e = rw e
-
-  pub fill-call : {g a r : ℕ} → ensure_at w s p ≡ true → g ≡ callee_at w s (p - 1) → g < most_funcs → a ≡ h.stack - item w (longest_column + g)
-      → r ≡ s.frame - a → r ≡ filled_at w h s p
-  unfolding filled_at
-  fill-call {g} e i k b c = rw (e, ← i, lt-ltb g most_funcs k, ← b) c
-
-  pub fill-past : {g : ℕ} → ensure_at w s p ≡ true → g ≡ callee_at w s (p - 1) → most_funcs ≤ g → 0 ≡ filled_at w h s p
-  unfolding filled_at
-  fill-past {g} e i k = rw (e, ← i, le-ltb g most_funcs k)
-
-  pub kept_by : {a r : ℕ} → a ≡ item w (fill_column + s.base + p) → r ≡ s.frame - a → r ≡ kept_at w s p
-  unfolding kept_at
-  kept_by e c = rw (← e) c
-
-  pub cut-call : {g r : ℕ} → g ≡ callee_at w s p → g < most_funcs → r ≡ h.stack - item w (shortest_column + g) → r ≡ cut_at w h s p
-  unfolding cut_at
-  cut-call {g} i k c = rw (← i, lt-ltb g most_funcs k) c
-
   pub cut-stack : cut_at w h s p ≤ h.stack
   unfolding cut_at
-  cut-stack = by-test (λ m. m ≤ h.stack) (ltb (callee_at w s p) most_funcs) (λ t. omega arith) (λ t. omega arith)
-
-  pub cut-past : {g : ℕ} → g ≡ callee_at w s p → most_funcs ≤ g → 0 ≡ cut_at w h s p
-  unfolding cut_at
-  cut-past {g} i k = rw (← i, le-ltb g most_funcs k)
+  cut-stack = at (callee_at w s p)
+    where
+      at : (o : Option ℕ) → at_callee (λ g. h.stack - item w (shortest_column + g)) o ≤ h.stack
+      at none = omega arith
+      at (some g) = omega arith
 
 pub kept_low : (w : List ℕ) (s : Span) (p : ℕ) {r : ℕ} → r ≡ kept_at w s p → r ≤ s.frame
 unfolding kept_at
 kept_low w s p e = omega arith
 
+-- the level of a callee
 module _ (w : List ℕ) (s : Span) (p : ℕ) where
-  pub level-call : {g : ℕ} → g ≡ callee_at w s p → g < most_funcs → item w (level_column + g) ≡ level_at w s p
+  pub level-call : {g : ℕ} → callee_at w s p ≡ some g → item w (level_column + g) ≡ level_at w s p
   unfolding level_at
-  level-call {g} i k = rw (← i, lt-ltb g most_funcs k)
+  level-call i = rw i
 
-  pub level-past : {g : ℕ} → g ≡ callee_at w s p → most_funcs ≤ g → 0 ≡ level_at w s p
+  pub level-none : callee_at w s p ≡ none → 0 ≡ level_at w s p
   unfolding level_at
-  level-past {g} i k = rw (← i, le-ltb g most_funcs k)
-
-module _ (w : List ℕ) (s : Span) (own : ℕ) (price : Price) (p : ℕ) where
-  pub chained_more : {a b : ℕ} → p + 1 < s.size → a ≡ kept_at w s (p + 1) → b ≡ price_of price a → own + b ≡ chained_at w s own price p
-  unfolding chained_at
-  chained_more k e i = rw (lt-ltb (p + 1) s.size k, i, e)
-
-  pub chained-last : s.size ≤ p + 1 → 0 ≡ chained_at w s own price p
-  unfolding chained_at
-  chained-last k = rw (le-ltb (p + 1) s.size k)
+  level-none i = rw i

@@ -1,19 +1,18 @@
 -- What a write into one column leaves as it was: the tables, so the task, and every other column.
 use Prim.Native.Nat.{ℕ, ◌+◌, ◌≤◌, ◌<◌}
 use native.Mathlib.Omega.{arith}
-use native.Mathlib.Decide.{dec_lt, ℕ_discrete}
+use native.Mathlib.Decide.{dec_lt}
 use mathlib.Core.Path.{◌≡◌, refl, ap, sym, ◌∙◌}
 use mathlib.Core.List.{List}
-use lib.ListN.{length, set, drop, length-set, length-drop}
+use lib.ListN.{set, drop, length-set, length-drop}
 use lib.Seq.{ext_get_or, get_or-drop}
 use Rattle.model.specs.Limits.{most_funcs, most_in_all}
 use Rattle.tables.specs.Layout.{first_table, second_table, frame_table, base_table, size_table, tables_length}
 use Rattle.tables.specs.Tables.{item, point_of, base_at, size_at, span_at, Stacked, none, more}
 use Rattle.tables.specs.Valid.{Kept}
-use Rattle.tables.proofs.Laws.{here, elsewhere, stacked-within}
+use Rattle.tables.proofs.Laws.{elsewhere, stacked-within}
 use Rattle.tables.proofs.Writes.{Agree}
 use Rattle.columns.specs.Columns.{Points, Funcs, Changed}
-use Rattle.columns.specs.Values.{Put}
 
 -- nothing written; one number more; one change after another; a change seen as a wider one
 pub changed-none : (a n : ℕ) (w : List ℕ) → Changed a n w w
@@ -37,35 +36,6 @@ changed-on c d =
 
 pub changed-wider : {a n : ℕ} (b m : ℕ) {w w' : List ℕ} → b ≤ a → a + n ≤ b + m → Changed a n w w' → Changed b m w w'
 changed-wider b m h k c = record { size = c.size; before = λ i l. c.before i (omega arith); behind = λ i l. c.behind i (omega arith) }
-
--- a column written number by number
-pub put-none : (a : ℕ) (v w : List ℕ) → Put a 0 v w w
-put-none a v w = record { changed = changed-none a 0 w; each = λ p h. absurd (omega arith) }
-
-pub put-more : (a p : ℕ) (v : List ℕ) {w₀ : List ℕ} (w : List ℕ) → a + p < length w → Put a p v w₀ w → Put a (p + 1) v w₀ (set w (a + p) (item v p))
-put-more a p v w h k =
-    record {
-      changed = changed-set a (p + 1) w (a + p) (item v p) (omega arith) (omega arith) (changed-wider a (p + 1) (omega arith) (omega arith) k.changed);
-      each = λ q l.
-          elim (ℕ_discrete q p) [
-            | yes e ↦ rw e (here w (a + p) (item v p) h)
-            | no e ↦ elsewhere w (a + p) (a + q) (item v p) (omega arith) ∙ k.each q (omega arith)
-          ];
-    }
-
--- the numbers of the functions set to 0
-pub cleared-none : (a : ℕ) (w : List ℕ) → Funcs (λ g. 0) a 0 0 w
-cleared-none a w = record { each = λ g h k. absurd (omega arith) }
-
-pub cleared_more : (a g : ℕ) (w : List ℕ) → a + g < length w → Funcs (λ g. 0) a 0 g w → Funcs (λ g. 0) a 0 (g + 1) (set w (a + g) 0)
-cleared_more a g w h k =
-    record {
-      each = λ f l m.
-          elim (ℕ_discrete f g) [
-            | yes e ↦ rw e (here w (a + g) 0 h)
-            | no e ↦ elsewhere w (a + g) (a + f) 0 (omega arith) ∙ k.each f l (omega arith)
-          ];
-    }
 
 -- a change behind the tables leaves the functions and points as they were
 module _ {a n : ℕ} {w w' : List ℕ} (h : tables_length ≤ a) (c : Changed a n w w') where

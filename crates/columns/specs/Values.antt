@@ -1,25 +1,31 @@
 -- The numbers that a point is given, and what a write into one column does.
-use Rattle.std.specs.Prelude.{if◌then◌else◌, ℕ, zero, suc, ◌+◌, ◌-◌, ◌*◌, ◌≤◌, ◌<◌, max, Bool, List, ◌≡◌, ltb}
-use Rattle.std.proofs.Math.Option.{some}
+use Rattle.std.specs.Prelude.{if◌then◌else◌, ℕ, zero, suc, ◌+◌, ◌-◌, ◌*◌, ◌<◌, max, Bool, List, ◌≡◌, ltb}
+use Rattle.std.proofs.Math.Option.{Option, none, some}
 use Rattle.model.specs.Limits.{most_funcs}
 use Rattle.model.specs.Walk.{called, ensured, present, calls}
-use Rattle.points.specs.Points.{numbered}
 use Rattle.tables.specs.declared.Header.{Header}
 use Rattle.tables.specs.declared.Span.{Span}
 use Rattle.tables.specs.Tables.{item, point_at, func_in}
 use Rattle.prices.specs.declared.Price.{Price}
-use Rattle.prices.specs.Prices.{price_of, most_price, Small}
-use Rattle.columns.specs.declared.Value.{Value}
-use Rattle.columns.specs.declared.Value.TheVariants.{Fill, Kept, Cut, High, Level, Chained}
-use Rattle.columns.specs.Columns.{high_column, fill_column, longest_column, shortest_column, level_column, Changed}
+use Rattle.prices.specs.Prices.{price_of, most_price}
+use Rattle.columns.specs.Columns.{fill_column, longest_column, shortest_column, level_column, Changed}
 
 -- the most that a chain of calls can cost: callers have smaller numbers, so there are at most 63 of them
 abbrev pub most_chain : ℕ
 most_chain = most_price * (most_funcs - 1)
 
--- the function that point p of s calls, and most_funcs where it calls none; and whether it is an ensure
-abbrev pub callee_at : List ℕ → Span → ℕ → ℕ
-callee_at w s p = numbered (called (point_at w (s.base + p)))
+-- the function that point p of s calls, whose number is below most_funcs; and whether it is an ensure
+abbrev pub among_funcs : Option ℕ → Option ℕ
+among_funcs none = none
+among_funcs (some g) = if ltb g most_funcs then some g else none
+
+abbrev pub callee_at : List ℕ → Span → ℕ → Option ℕ
+callee_at w s p = among_funcs (called (point_at w (s.base + p)))
+
+-- a number of the callee, 0 where there is none
+abbrev pub at_callee : (ℕ → ℕ) → Option ℕ → ℕ
+at_callee number none = 0
+at_callee number (some g) = number g
 
 abbrev pub ensure_at : List ℕ → Span → ℕ → Bool
 ensure_at w s p = present (ensured (point_at w (s.base + p)))
@@ -32,38 +38,19 @@ CallFits w s p = (g : ℕ) → called (point_at w (s.base + p)) ≡ some g → g
 -- callee at p; the chain of the callee at p, where that of the caller is own and a move has this price
 unfoldable pub filled_at : List ℕ → Header → Span → ℕ → ℕ
 filled_at w h s p =
-    if ensure_at w s p
-    then (if ltb (callee_at w s (p - 1)) most_funcs then s.frame - (h.stack - item w (longest_column + callee_at w s (p - 1))) else 0)
-    else 0
+    if ensure_at w s p then at_callee (λ g. s.frame - (h.stack - item w (longest_column + g))) (callee_at w s (p - 1)) else 0
 
 unfoldable pub kept_at : List ℕ → Span → ℕ → ℕ
 kept_at w s p = s.frame - item w (fill_column + s.base + p)
 
 unfoldable pub cut_at : List ℕ → Header → Span → ℕ → ℕ
-cut_at w h s p = if ltb (callee_at w s p) most_funcs then h.stack - item w (shortest_column + callee_at w s p) else 0
+cut_at w h s p = at_callee (λ g. h.stack - item w (shortest_column + g)) (callee_at w s p)
 
 unfoldable pub level_at : List ℕ → Span → ℕ → ℕ
-level_at w s p = if ltb (callee_at w s p) most_funcs then item w (level_column + callee_at w s p) else 0
+level_at w s p = at_callee (λ g. item w (level_column + g)) (callee_at w s p)
 
 unfoldable pub chained_at : List ℕ → Span → ℕ → Price → ℕ → ℕ
 chained_at w s own price p = if ltb (p + 1) s.size then own + price_of price (kept_at w s (p + 1)) else 0
-
-abbrev pub value_at : Value → List ℕ → Header → Span → ℕ → ℕ
-value_at Fill w h s p = filled_at w h s p
-value_at Kept w h s p = kept_at w s p
-value_at Cut w h s p = cut_at w h s p
-value_at High w h s p = item w (high_column + s.base + p)
-value_at Level w h s p = level_at w s p
-value_at (Chained own price) w h s p = chained_at w s own price p
-
--- the numbers that the value carries are small enough to add to
-abbrev pub Adds : Value → Type 0
-Adds Fill = Unit {0}
-Adds Kept = Unit {0}
-Adds Cut = Unit {0}
-Adds High = Unit {0}
-Adds Level = Unit {0}
-Adds (Chained own price) = (own ≤ most_chain) × Small price
 
 -- a column written from a buffer
 pub record Put (a n : ℕ) (v w w' : List ℕ) : Type 0 where

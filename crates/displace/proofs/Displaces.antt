@@ -3,9 +3,10 @@ use Rattle.std.specs.Prelude.{if◌then◌else◌}
 use Prim.Native.Nat.{ℕ, ◌+◌, ◌-◌, ◌≤◌, ◌<◌}
 use native.Mathlib.Omega.{arith}
 use native.Mathlib.Decide.{dec_lt, ℕ_discrete}
-use mathlib.Core.Bool.{true, not, true≢false}
-use mathlib.Core.List.{List, [], ◌∷◌, Memᴰ}
-use mathlib.Core.Option.{Option, none, some}
+use mathlib.Core.List.{List, [], Memᴰ}
+use mathlib.Core.Option as maybe
+use mathlib.Core.Option.{none, some}
+use Rattle.std.specs.Prelude.{Option}
 use mathlib.Core.Path.{◌≡◌, refl, ap, sym, subst, ◌∙◌}
 use lib.Dec.{ltb}
 use lib.ListN.{length, set, length-set}
@@ -29,14 +30,14 @@ use Rattle.tables.proofs.Laws.{func-is, count-is, length-points, point-there, he
 use Rattle.tables.proofs.Valid.{settled-fits}
 use Rattle.problems.specs.Problems.{Filled, Blocks, lowest_level}
 use Rattle.columns.specs.Columns.{columns_end, high_column, longest_column, shortest_column, level_column, Funcs, OnlyColumns}
-use Rattle.points.specs.Points.{numbered}
-use Rattle.columns.specs.Values.{level_at, CallFits}
+use Rattle.columns.specs.Values.{among_funcs, level_at, CallFits}
 use Rattle.columns.specs.Displaced.{Ready, Displaced}
-use Rattle.columns.proofs.Values.{level-call, level-past}
+use Rattle.columns.proofs.Values.{among-few, level-call, level-none}
 use Rattle.columns.proofs.Writes.{changed-none, changed-set, changed-on, changed-wider, funcs-kept}
 use Rattle.columns.proofs.Within.{within-ready, within-task, callee-in}
 use Rattle.displace.specs.declared.CalleeRange.{CalleeRange}
-use Rattle.displace.specs.Range.{nonempty, RangeOf}
+use Rattle.displace.specs.Range.{most_of, RangeOf}
+use Rattle.displace.proofs.Callees.{range-most}
 use Rattle.levels.specs.Levels.{level_among, largest_within, shortest_in, level_in, Room, SmallLevels, Levelled, Inserted}
 use Rattle.displace.specs.Ordered.{Ordered}
 use Rattle.levels.proofs.Laws.{level-low, within-cong}
@@ -59,11 +60,6 @@ funcs-apart {a = a} w i x h k = record { each = λ g m q. elsewhere w i (a + g) 
 
 funcs-behind : {figure : ℕ → ℕ} {a m n : ℕ} (w : List ℕ) (i x : ℕ) → i < a → Funcs figure a m n w → Funcs figure a m n (set w i x)
 funcs-behind {a = a} w i x h k = record { each = λ g m q. elsewhere w i (a + g) x (omega arith) ∙ k.each g m q }
-
-empty-is : {l : List ℕ} → not (nonempty l) ≡ true → l ≡ []
-unfolding nonempty
-empty-is {l = []} e = refl
-empty-is {l = g ∷ l} e = absurd (true≢false (sym e))
 
 largest-none : (d : ℕ → ℕ) → largest d [] ≡ 0
 unfolding largest
@@ -132,9 +128,9 @@ module _ {w : List ℕ} {h : Header} {f : ℕ} (o : Ordered w h (f + 1)) (l : f 
         let i = calls-later ready.settled.formed f g in_count (subst (λ (x : Func). Memᴰ g (model.callees x)) (sym this-func) m) in
         (i.0, rw (count-is w h) at i.1)
 
-    pub longest-here : {b : CalleeRange} → RangeOf w s b → s.frame + b.most ≡ model.longest (task_of w h) f
-    longest-here k =
-        ap (λ (m : ℕ). s.frame + m) (k.most ∙ largest-cong (model.callees (func_in w s))
+    pub longest-here : (r : Option CalleeRange) → RangeOf w s r → s.frame + most_of r ≡ model.longest (task_of w h) f
+    longest-here r k =
+        ap (λ (m : ℕ). s.frame + m) (range-most w (model.callees (func_in w s)) r k ∙ largest-cong (model.callees (func_in w s))
         (λ g m. let i = callee-past g m in o.displacing.away.longest.each g (omega arith) i.1))
         ∙ sym (subst (λ (x : Func). model.longest (task_of w h) f ≡ x.frame + largest (model.longest (task_of w h)) (model.callees x)) this-func
         (longest-is (task_of w h) (calls-later ready.settled.formed) f in_count))
@@ -152,25 +148,24 @@ module _ {w : List ℕ} {h : Header} {f : ℕ} (o : Ordered w h (f + 1)) (l : f 
         (shortest-is (task_of w h) (calls-later ready.settled.formed) f in_count))
 
     -- d of a function that calls nothing
-    pub leaf-here : {b : CalleeRange} → RangeOf w s b → not b.some ≡ true → s.frame ≡ model.shortest (task_of w h) f
-    leaf-here k e =
-        let none = empty-is (ap not (sym k.some) ∙ e) in
+    pub leaf-here : model.callees (func_in w s) ≡ [] → s.frame ≡ model.shortest (task_of w h) f
+    leaf-here e =
         by-return d (func_in w s) closed-here some-point (λ n. s.frame ≡ n)
-        (λ _. omega (arith, minimax-within d (func_in w s) (returns (func_in w s)), ap (largest d) none, largest-none d))
-        (λ _. omega (arith, ap (smallest d) none, smallest-none d))
+        (λ _. omega (arith, minimax-within d (func_in w s) (returns (func_in w s)), ap (largest d) e, largest-none d))
+        (λ _. omega (arith, ap (smallest d) e, smallest-none d))
         ∙ shortest-by
 
     -- the levels of the callees, as the points have them
     module _ {levels₀ levels : List ℕ} (v : Filled (λ p n. n ≡ level_at w s p) s.size levels₀ levels) where
       level-at : (p g : ℕ) → p < s.size → called (point_at w (s.base + p)) ≡ some g → item levels p ≡ level_in w g
       level-at p g i c =
-          v.each p i ∙ sym (level-call w s p (sym (ap numbered c)) (omega (arith, (callee-here p g i c).1, few)))
+          v.each p i ∙ sym (level-call w s p (among-few c (omega (arith, (callee-here p g i c).1, few))))
 
       pub levels-low : Blocks s.size levels
       levels-low p i = at (called (point_at w (s.base + p))) refl
         where
-          at : (c : Option ℕ) → called (point_at w (s.base + p)) ≡ c → item levels p ≤ most_stack
-          at none c = omega (arith, v.each p i, level-past w s p (sym (ap numbered c)) (omega arith))
+          at : (c : maybe.Option ℕ) → called (point_at w (s.base + p)) ≡ c → item levels p ≤ most_stack
+          at none c = omega (arith, v.each p i, level-none w s p (ap among_funcs c))
           at (some g) c = let r = callee-here p g i c in omega (arith, level-at p g i c, level-small g r.0 r.1)
 
       at_calls : (p g : ℕ) → called (point (func_in w s) p) ≡ some g

@@ -5,11 +5,8 @@ use native.Mathlib.Omega.{arith}
 use mathlib.Core.Path.{◌≡◌, refl, ap, sym, ◌∙◌}
 use mathlib.Core.Bool.{Bool, true, false, ◌&&◌, ◌||◌}
 use lib.Dec.{eqb, eqb-suc-zero, eqb-suc-suc}
-use Rattle.model.specs.declared.Point.{Point}
-use Rattle.model.specs.Walk.{loaded, stored, called, ensured, is_return, is, present}
 use Rattle.bits.specs.Bits.{all_bits, bit, Marks, Single, union}
 use Rattle.bits.proofs.Laws.{bit_le, bit-union, marks-none, marks-all, marks-single}
-use Rattle.effects.specs.Effects.{effect_with, HasEffect}
 
 -- k blocks kept
 pub kept-none : {k : ℕ} → k ≡ 0 → Marks (λ j. eqb (suc j) k) 0
@@ -51,7 +48,6 @@ marks-union {a = a} {b = b} s r =
           ∙ (or-bits (bit a j) (bit b j) (bit_le a j) (bit_le b j) ∙ (λ i. s.same j h i || r.same j h i));
     }
 
--- the effect of a point, part by part
-pub does : {x : Point} {a b : ℕ} {c d e : Bool} → Marks (λ j. is j (loaded x)) a → Marks (λ j. is j (stored x)) b → c ≡ present (called x)
-    → d ≡ present (ensured x) → e ≡ is_return x → HasEffect x (effect_with a b c d e)
-does a b c d e = record { loads = a; stores = b; calls = c; ensures = d; returns = e }
+-- a set that is empty
+pub marks-empty : {m : ℕ} → m ≡ 0 → Marks (λ j. false) m
+marks-empty e = rw e marks-none

@@ -22,10 +22,7 @@ takes CallLevels k a x j = present (called x) && ltb j a
 takes FirstEnsure k a x j = present (ensured x)
 takes Occupied k a x j = present (called x) && not (ltb j a)
 
--- the effect with these parts; e is the effect of point x
-abbrev pub effect_with : ℕ → ℕ → Bool → Bool → Bool → Effect
-effect_with a b c d e = record { loaded = a; stored = b; called = c; ensured = d; returned = e }
-
+-- e is the effect of point x
 pub record HasEffect (x : Point) (e : Effect) : Type 0 where
   pub loads : Marks (λ j. is j (loaded x)) e.loaded
   pub stores : Marks (λ j. is j (stored x)) e.stored

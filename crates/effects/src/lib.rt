@@ -6,12 +6,13 @@ ghost use Rattle.model.specs.declared.Point.{Point as PointOf};
 ghost use Rattle.model.specs.Limits.{most_stack};
 ghost use Rattle.model.specs.Task.{offset_fits};
 ghost use Rattle.bits.specs.Bits.{Marks};
-ghost use Rattle.effects.specs.Effects.{gives, takes, effect_with, HasEffect};
+ghost use Rattle.effects.specs.Effects.{gives, takes, HasEffect};
 
 use model::Point;
 
 // A problem over sets of 64 bits. specs/Effects.antt says what a point gives and takes. The first four go backward from each point, the last
-// one forward from point 0. Three have a column, a number for each point.
+// one forward from point 0. Three have a column, a number for each point. An enum: gives and takes are defined by cases of it, and a trait would only spread
+// these ten lines over five types.
 #[derive(Clone, Copy)]
 pub enum Problem {
     // Offsets that a walk loads with no store of them before.
@@ -28,7 +29,7 @@ pub enum Problem {
 }
 
 // What a point does: the offset that it loads and the offset that it stores, as sets; whether it is a call, an ensure, a return.
-#[derive(Clone, Copy)]
+#[derive(Clone, Copy, Default)]
 pub struct Effect {
     pub loaded: u64,
     pub stored: u64,
@@ -37,30 +38,32 @@ pub struct Effect {
     pub returned: bool,
 }
 
-fn effect_with(loaded: u64, stored: u64, called: bool, ensured: bool, returned: bool) -> Effect
-    ensures { result ≡ effect_with loaded stored called ensured returned }
-{
-    Effect {
-        loaded,
-        stored,
-        called,
-        ensured,
-        returned,
-    }
-}
-
 pub fn effect_of(x: Point) -> Effect
     requires { T (offset_fits most_stack x) }
     ensures { HasEffect x result }
 {
     match x {
-        Point::Load(o) => effect_with(bits::single_bit(o), 0, false, false, false),
-        Point::Store(o) => effect_with(0, bits::single_bit(o), false, false, false),
-        Point::Call(_) => effect_with(0, 0, true, false, false),
-        Point::Ensure(_) => effect_with(0, 0, false, true, false),
-        Point::Goto(_) => effect_with(0, 0, false, false, false),
-        Point::Either(_, _) => effect_with(0, 0, false, false, false),
-        Point::Return => effect_with(0, 0, false, false, true),
+        Point::Load(o) => Effect {
+            loaded: bits::single_bit(o),
+            ..Effect::default()
+        },
+        Point::Store(o) => Effect {
+            stored: bits::single_bit(o),
+            ..Effect::default()
+        },
+        Point::Call(_) => Effect {
+            called: true,
+            ..Effect::default()
+        },
+        Point::Ensure(_) => Effect {
+            ensured: true,
+            ..Effect::default()
+        },
+        Point::Goto(_) | Point::Either(_, _) => Effect::default(),
+        Point::Return => Effect {
+            returned: true,
+            ..Effect::default()
+        },
     }
 }
 
@@ -76,10 +79,7 @@ fn kept_bit(k: u32) -> u64
     requires { k ≤ most_stack }
     ensures { Marks (λ j. eqb (suc j) k) result }
 {
-    if k == 0 {
-        return 0;
-    }
-    bits::single_bit(k - 1)
+    if k == 0 { 0 } else { bits::single_bit(k - 1) }
 }
 
 // What a point with the effect e gives, in a function with this frame, where the column has the number a.

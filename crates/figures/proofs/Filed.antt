@@ -19,8 +19,7 @@ use Rattle.columns.proofs.Limits.{frame-low}
 use Rattle.readout.specs.Sheet.{sheet_in}
 use Rattle.readout.specs.Readable.{Readable}
 use Rattle.readout.proofs.Read.{at_there, chain-there, spill-there}
-use Rattle.figures.specs.declared.Figure.{Figure}
-use Rattle.figures.specs.declared.Figure.TheVariants.{High, Dead, Need, Next, Fill}
+use Rattle.figures.specs.Steps.{Figure, High, Dead, Need, Next, Fill}
 use Rattle.figures.specs.Figured.{Figured}
 use Rattle.figures.specs.Steps.{figure_of, column_of}
 use Rattle.figures.proofs.Limits.{high-low, next_low, fill-low, chain-low, entry-low}

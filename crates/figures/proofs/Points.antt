@@ -6,7 +6,7 @@ use native.Mathlib.Numerals.{add-one}
 use mathlib.Core.List.{List}
 use mathlib.Core.Option.{Option, none, some}
 use mathlib.Core.Path.{◌≡◌, refl, ap, sym, subst, ◌∙◌}
-use lib.Dec.{T, ltb}
+use lib.Dec.{T}
 use lib.ListN.{length}
 use borrow.Author.Tests.{lt-ltb}
 use Rattle.model.specs.Limits.{most_stack, most_funcs, most_points}
@@ -19,7 +19,6 @@ use Rattle.tables.specs.declared.Header.{Header}
 use Rattle.tables.specs.declared.Span.{Span}
 use Rattle.tables.specs.Tables.{item, point_at, base_at, size_at, span_at, func_in, task_of}
 use Rattle.tables.specs.Valid.{Lies, Fits}
-use Rattle.flow.specs.Flow.{Given}
 use Rattle.tables.proofs.Laws.{func-is, size_is, frame_is, point-is, count-is, point-there, length-points}
 use Rattle.tables.proofs.Valid.{settled-fits}
 use Rattle.problems.specs.Problems.{Filled, KeptIn, CutIn}
@@ -27,21 +26,19 @@ use Rattle.problems.proofs.Laws.{filled-as}
 use Rattle.prices.specs.declared.Price.{Price}
 use Rattle.prices.specs.Prices.{price_of}
 use Rattle.columns.specs.Columns.{columns_end, longest_column, shortest_column, fill_column, entry_column, Funcs}
-use Rattle.points.specs.Points.{numbered}
-use Rattle.columns.specs.Values.{ensure_at, filled_at, kept_at, cut_at, chained_at}
+use Rattle.columns.specs.Values.{among_funcs, at_callee, ensure_at, filled_at, kept_at, cut_at, chained_at}
 use Rattle.columns.specs.Displaced.{Ready}
 use Rattle.columns.proofs.Values.{kept_low, cut-stack}
 use Rattle.columns.proofs.Within.{callee-in}
-use Rattle.figures.specs.declared.Figure.{Figure}
-use Rattle.figures.specs.declared.Figure.TheVariants.{High, Dead, Need, Next, Fill}
-use Rattle.figures.specs.Steps.{Figures, WorkingOn, Due}
+use Rattle.figures.specs.Steps.{High, Dead, Need, Next, Fill}
+use Rattle.figures.specs.Steps.{Figures, WorkingOn}
 use Rattle.figures.proofs.Limits.{entry-low}
 use Rattle.figures.proofs.Gathers.{entry_of}
 
 module _ {w : List ℕ} {h : Header} {f : ℕ} (r : Ready w h) (k : f < h.funcs) where
   left_is : (p q : ℕ) → q < size_at w f → Funcs (longest (task_of w h)) longest_column 0 h.funcs w → (o : Option ℕ)
       → called (point_at w (base_at w f + q)) ≡ o → (frame : ℕ)
-      → (if ltb (numbered o) most_funcs then frame - (h.stack - item w (longest_column + numbered o)) else 0) ≡ fill_after (task_of w h) frame o
+      → at_callee (λ g. frame - (h.stack - item w (longest_column + g))) (among_funcs o) ≡ fill_after (task_of w h) frame o
   left_is p q l d none e frame = refl
   left_is p q l d (some g) e frame =
       let c = callee-in r k q g l e in
@@ -87,15 +84,9 @@ module _ {w : List ℕ} {h : Header} {f k : ℕ} {s : Span} (x : WorkingOn w h f
   pub turn-fits : Fits w s
   turn-fits = let e = x.same in rw e (settled-fits x.begun.worked.ready.settled f x.begun.below)
 
-  pub turn-room : {n : ℕ} → most_points ≤ n → s.size ≤ n
-  turn-room h = omega (arith, turn-fits.small)
-
-  pub turn-kernel : {gens kills : List ℕ} → most_points ≤ length gens → most_points ≤ length kills → Given w s gens kills
-  turn-kernel g k = record { fits = turn-fits; gens_long = turn-room g; kills_long = turn-room k }
-
-  -- what a value that carries no number asks
-  pub turn-values : {n : ℕ} → most_points ≤ n → Lies w s × (columns_end ≤ length w) × (s.frame ≤ most_stack) × Unit {0} × (s.size ≤ n)
-  turn-values h = (turn-fits.lies, omega (arith, x.begun.worked.ready.room), turn-fits.frame, tt, turn-room h)
+  -- what a number of a point asks
+  pub turn-values : Lies w s × (columns_end ≤ length w) × (s.frame ≤ most_stack) × (s.size ≤ most_points)
+  turn-values = (turn-fits.lies, omega (arith, x.begun.worked.ready.room), turn-fits.frame, turn-fits.small)
 
   same-func : func (task_of w h) f ≡ func_in w s
   same-func = func-is w h f x.begun.below ∙ ap (func_in w) (sym x.same)
@@ -169,7 +160,3 @@ module _ {w : List ℕ} {h : Header} {f k : ℕ} {s : Span} (x : WorkingOn w h f
           filled = filled-as
               (λ p v j e. e (task_of w h) f _ (cut_in y i) ∙ ap (λ (n : ℕ). model.high_from (task_of w h) f n p) own-entry) z;
         }
-
--- in the arm of one figure
-pub due-as : {which y : Figure} {w : List ℕ} {h : Header} {f : ℕ} {s : Span} → which ≡ y → Due which w h f s → Due y w h f s
-due-as {w} {h} {f} {s} e = subst (λ (y : Figure). Due y w h f s) e

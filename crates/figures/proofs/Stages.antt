@@ -4,6 +4,7 @@ use native.Mathlib.Omega.{arith}
 use native.Mathlib.Decide.{dec_le, ℕ_discrete}
 use mathlib.Core.List.{List}
 use mathlib.Core.Path.{◌≡◌, refl, ap, sym, subst, ◌∙◌}
+use lib.ListN.{length}
 use Rattle.model.specs.Limits.{most_funcs, most_in_all}
 use Rattle.model.specs.Task.{Task}
 use Rattle.model.specs.Walk.{calls}
@@ -20,8 +21,7 @@ use Rattle.prices.specs.Prices.{price_of, Small}
 use Rattle.columns.specs.Columns.{columns_end, high_column, entry_column, chain_column, Points, Funcs, Changed, OnlyColumns}
 use Rattle.columns.specs.Values.{most_chain, chained_at, Put, raised_by, Raised}
 use Rattle.columns.proofs.Writes.{changed-on, changed-wider, changed-agree, points_kept, funcs-kept, stacked-order, changed-past}
-use Rattle.figures.specs.declared.Figure.{Figure}
-use Rattle.figures.specs.declared.Figure.TheVariants.{High, Dead, Need, Next, Fill}
+use Rattle.figures.specs.Steps.{Figure, High, Dead, Need, Next, Fill}
 use Rattle.columns.specs.Displaced.{Ready, Displaced, Displacing}
 use Rattle.figures.specs.Figured.{Figured}
 use Rattle.figures.specs.Steps.{figure_of, index_of, column_of, point_columns, Figures, Gathered, chain_figure, ChainedTo, FiguredTo, Worked, Done}
@@ -30,7 +30,7 @@ use Rattle.figures.proofs.Limits.{chain-low}
 use Rattle.figures.proofs.Filed.{filed}
 use Rattle.columns.proofs.Within.{within-ready, within-task}
 use Rattle.figures.proofs.Gathers.{gathered_none, gathered-kept, gathered-more, chain-of, entry_of}
-use Rattle.figures.proofs.Points.{chained-is}
+use Rattle.figures.proofs.Points.{turn-fits, chained-is}
 
 pub index-low : (which : Figure) → index_of which < point_columns
 index-low High = omega arith
@@ -157,12 +157,13 @@ module _ {w w' v : List ℕ} {h : Header} {f : ℕ} (which : Figure) (x : Worked
 pub turn-of : {w : List ℕ} {h : Header} {f k : ℕ} {s : Span} → Working w h f k → s ≡ span_at w f → WorkingOn w h f k s
 turn-of x e = record { begun = x; same = e }
 
-pub worked-put : (which : Figure) {w w' v v₀ : List ℕ} {h : Header} {f column : ℕ} {s : Span} → WorkingOn w h f (suc (index_of which)) s
-    → column ≡ column_of which → Figures which (task_of w h) f s.size v₀ v → Put (column + s.base) s.size v w w'
-    → Working w' h f (index_of which) × OnlyPoints w w'
-worked-put which {w} {w'} {v} {f = f} {s = s} x n y put =
-    let r = worked-more which x.begun.worked x.begun.below
-    (subst (λ (s : Span). Put (column_of which + s.base) s.size v w w') x.same (subst (λ (m : ℕ). Put (m + s.base) s.size v w w') n put))
+pub put-room : (which : Figure) {w : List ℕ} {h : Header} {f k : ℕ} {s : Span} → WorkingOn w h f k s → column_of which + s.base + s.size ≤ length w
+put-room which x = omega (arith, index-low which, (turn-fits x).lies.within, x.begun.worked.ready.room)
+
+pub worked-put : (which : Figure) {w w' v v₀ : List ℕ} {h : Header} {f : ℕ} {s : Span} → WorkingOn w h f (suc (index_of which)) s
+    → Figures which (task_of w h) f s.size v₀ v → Put (column_of which + s.base) s.size v w w' → Working w' h f (index_of which) × OnlyPoints w w'
+worked-put which {w} {w'} {v} {f = f} {s = s} x y put =
+    let r = worked-more which x.begun.worked x.begun.below (subst (λ (s : Span). Put (column_of which + s.base) s.size v w w') x.same put)
     (λ p i. y.filled.each p (omega (arith, ap (λ (s : Span). s.size) x.same))) in
     (record { worked = r.0; below = x.begun.below }, r.1)
 

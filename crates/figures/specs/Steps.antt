@@ -13,10 +13,16 @@ use Rattle.problems.specs.Problems.{Filled}
 use Rattle.columns.specs.Columns.{high_column, longest_column, entry_column, chain_column, Points, Changed}
 use Rattle.columns.specs.Displaced.{Ready, Displaced}
 use Rattle.columns.specs.Values.{raised_by}
-use Rattle.figures.specs.declared.Figure.{Figure}
-use Rattle.figures.specs.declared.Figure.TheVariants.{High, Dead, Need, Next, Fill}
 
--- a figure of the points; the index of its column among those of the points, and how many these are
+-- a figure that each point has in a column
+pub data Figure : Type 0 where
+  High : Figure
+  Dead : Figure
+  Need : Figure
+  Next : Figure
+  Fill : Figure
+
+-- what it is; the index of its column among those of the points, and how many these are
 abbrev pub figure_of : Figure → Task → ℕ → ℕ → ℕ
 figure_of High t f p = model.high t f p
 figure_of Dead t f p = model.dead (func t f) p
@@ -88,7 +94,3 @@ pub record Working (w : List ℕ) (h : Header) (f k : ℕ) : Type 0 where
 pub record WorkingOn (w : List ℕ) (h : Header) (f k : ℕ) (s : Span) : Type 0 where
   pub begun : Working w h f k
   pub same : s ≡ span_at w f
-
--- this figure is the next
-abbrev pub Due : Figure → List ℕ → Header → ℕ → Span → Type 0
-Due which w h f s = WorkingOn w h f (suc (index_of which)) s

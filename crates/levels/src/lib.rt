@@ -12,10 +12,7 @@ fn raised(level: u32, a: u32, b: u32) -> u32
     requires { level ≤ most_funcs }
     ensures { result ≡ (if ltb a b then suc level else level) }
 {
-    if a < b {
-        return level + 1;
-    }
-    level
+    if a < b { level + 1 } else { level }
 }
 
 // The level of the displacement v among the functions from m on and below n, from the last to the first.
@@ -24,9 +21,7 @@ fn level_among(work: &[u32], m: usize, n: usize, v: u32) -> u32
     ensures { result ≡ level_among (shortest_in work.now) m n v }
 {
     let mut level: u32 = 1;
-    let mut g = n;
-    while m < g {
-        g -= 1;
+    for g in (m..n).rev() {
         level = raised(level, work[Columns::SHORTEST + g], v);
     }
     level
@@ -37,12 +32,9 @@ fn lift_levels(work: &mut [u32], m: usize, n: usize, v: u32)
     requires { Room m n work.old × SmallLevels m n work.old }
     ensures { Lifted m n v work.old work.new }
 {
-    let mut g = m;
-    while g < n {
-        let level = work[Columns::LEVEL + g];
+    for g in m..n {
         let d = work[Columns::SHORTEST + g];
-        work[Columns::LEVEL + g] = raised(level, v, d);
-        g += 1;
+        work[Columns::LEVEL + g] = raised(work[Columns::LEVEL + g], v, d);
     }
 }
 
@@ -63,11 +55,9 @@ pub fn largest_within(work: &[u32], m: usize, n: usize, level: u32) -> u32
     ensures { result ≡ largest_within (level_in work.now) (shortest_in work.now) m n level }
 {
     let mut most: u32 = 0;
-    let mut g = n;
-    while m < g {
-        g -= 1;
+    for g in (m..n).rev() {
         if work[Columns::LEVEL + g] <= level {
-            most = numbers::larger(work[Columns::SHORTEST + g], most);
+            most = most.max(work[Columns::SHORTEST + g]);
         }
     }
     most

@@ -3,11 +3,12 @@ use Prim.Native.Nat.{ℕ, zero, suc, ◌+◌, ◌*◌, ◌/◌, ◌%◌, ◌^◌
 use mathlib.Core.Path.{◌≡◌, refl, sym, ap, ◌∙◌}
 use mathlib.Core.List.{List, [], ◌∷◌, ◌++◌, append_assoc}
 use native.Mathlib.Numerals.{add-one}
-use native.Mathlib.Nat.{zero-add, add-zero, pow-succ'}
+use native.Mathlib.Nat.{zero-add, pow-succ'}
 use native.Mathlib.Decide.{dec_lt}
 use native.Mathlib.Omega.{arith}
+use borrow.Rule.Slice.PartMut.{put_mid}
 use lib.ListN.{length, get_or, take, drop, set, length-append, length-set, take-append-drop}
-use lib.Seq.{length-take-le, take-length, take-suc, append_snoc, take_at, drop_at, take-set-le, drop-drop, set_split, paste}
+use lib.Seq.{length-take-le, take-suc, append_snoc, drop_at, take-set-le, drop-drop, set_split}
 use Rattle.model.specs.Basic.{joined, count_from, up_to}
 use Rattle.model.specs.Text.{bytes}
 use Rattle.model.specs.Sheet.{decimal, line_text}
@@ -15,6 +16,7 @@ use Rattle.model.specs.Services.{over}
 use Rattle.theory.proofs.Lists.{joined-append, joined_snoc, joined-next, length-joined, sum_room}
 use Rattle.theory.proofs.Decimal.{decimal-small, decimal-large, length-small, length-large}
 use Rattle.print.specs.Print.{pasted, Wrote, spaced}
+use Rattle.print.specs.Wrote.{wrote_on, wrote_nothing}
 
 -- a buffer that bytes are written into
 
@@ -23,56 +25,10 @@ pub pasted-start : (w out : List ℕ) → pasted 0 w out ≡ over w out
 unfolding pasted over
 pasted-start w out = ap (λ (n : ℕ). w ++ drop n out) (zero-add (length w))
 
--- what stands before the end of the bytes written, and after it
-length-head : (at : ℕ) (w out : List ℕ) → at ≤ length out → length (take at out ++ w) ≡ at + length w
-length-head at w out h = omega (arith, length-append (take at out) w, length-take-le at out h)
-
-take-pasted : (at : ℕ) (w out : List ℕ) → at ≤ length out → take (at + length w) (pasted at w out) ≡ take at out ++ w
+-- bytes copied over a part of the buffer
+pub copied : (at k : ℕ) (w v out : List ℕ) → v ≡ w → k ≡ length w → put_mid at k out v ≡ pasted at w out
 unfolding pasted
-take-pasted at w out h =
-    rw (← append_assoc (take at out) w (drop (at + length w) out))
-    (take_at (take at out ++ w) (drop (at + length w) out) (at + length w) (length-head at w out h))
-
-drop-pasted : (at : ℕ) (w out : List ℕ) → at ≤ length out → drop (at + length w) (pasted at w out) ≡ drop (at + length w) out
-unfolding pasted
-drop-pasted at w out h =
-    rw (← append_assoc (take at out) w (drop (at + length w) out))
-    (drop_at (take at out ++ w) (drop (at + length w) out) (at + length w) (length-head at w out h))
-
-drop-further : (at n : ℕ) (w out : List ℕ) → at ≤ length out → drop (at + length w + n) (pasted at w out) ≡ drop (at + length w + n) out
-drop-further at n w out h =
-    sym (drop-drop n (at + length w) (pasted at w out)) ∙ ap (drop n) (drop-pasted at w out h) ∙ drop-drop n (at + length w) out
-
--- bytes written after others
-pub pasted-more : (at : ℕ) (w v out : List ℕ) → at ≤ length out → pasted (at + length w) v (pasted at w out) ≡ pasted at (w ++ v) out
-unfolding pasted
-pasted-more at w v out h =
-    let end = at + length w in
-    let e : at + length (w ++ v) ≡ end + length v = omega (arith, length-append w v) in
-    ap (λ (l : List ℕ). l ++ (v ++ drop (end + length v) (pasted at w out))) (take-pasted at w out h)
-    ∙ ap (λ (l : List ℕ). take at out ++ w ++ (v ++ l)) (drop-further at (length v) w out h)
-    ∙ rw (e, append_assoc w v (drop (end + length v) out)) (append_assoc (take at out) w (v ++ drop (end + length v) out))
-
--- the same from what two writers say: w ends at e and leaves o, v leaves o'
-pasted-on : (at e : ℕ) (w v out o o' : List ℕ) → at ≤ length out → e ≡ at + length w → o ≡ pasted at w out → o' ≡ pasted e v o
-    → o' ≡ pasted at (w ++ v) out
-pasted-on at e w v out o o' h k p q = q ∙ rw (k, p) (pasted-more at w v out h)
-
-pub wrote_on : {at e r : ℕ} {w v out o o' : List ℕ} → at ≤ length out → Wrote at w out e o → Wrote e v o r o' → Wrote at (w ++ v) out r o'
-wrote_on {at} {e} {r} {w} {v} {out} {o} {o'} h a b =
-    record {
-      end = omega (arith, a.end, b.end, length-append w v);
-      buffer = pasted-on at e w v out o o' h a.end a.buffer b.buffer;
-    }
-
-pub wrote_nothing : (at : ℕ) (out : List ℕ) → Wrote at [] out at out
-unfolding pasted
-wrote_nothing at out = record { end = omega arith; buffer = rw (add-zero at) (sym (take-append-drop at out)) }
-
--- a copy of all bytes
-pub paste_all : (at : ℕ) (w out : List ℕ) (i : ℕ) → i ≡ length w → paste out at w i ≡ pasted at w out
-unfolding pasted
-paste_all at w out i e = rw (e, take-length w) (append_assoc (take at out) w (drop (at + length w) out))
+copied at k w v out e i = rw (e, i, drop-drop (length w) at out)
 
 -- one byte
 pasted-one : (at d : ℕ) (out : List ℕ) → at < length out → set out at d ≡ pasted at (d ∷ []) out
@@ -80,7 +36,7 @@ unfolding pasted
 pasted-one at d out h = rw add-one (set_split out at d h)
 
 -- what stands from a byte on that was written
-drop-set : (i d : ℕ) (out : List ℕ) → i < length out → drop i (set out i d) ≡ d ∷ drop (suc i) out
+pub drop-set : (i d : ℕ) (out : List ℕ) → i < length out → drop i (set out i d) ≡ d ∷ drop (suc i) out
 drop-set i d out h =
     ap (drop i) (set_split out i d h)
     ∙ drop_at (take i out) (d ∷ drop (suc i) out) i (length-take-le i out (omega arith))
@@ -152,7 +108,7 @@ unfolding joined
 spaced-none at out = wrote_nothing at out
 
 -- one more
-spaced-next : (l : List ℕ) (i : ℕ) → i < length l → spaced (take (i + 1) l) ≡ spaced (take i l) ++ (bytes " " ++ decimal (get_or l i 0))
+pub spaced-next : (l : List ℕ) (i : ℕ) → i < length l → spaced (take (i + 1) l) ≡ spaced (take i l) ++ (bytes " " ++ decimal (get_or l i 0))
 spaced-next l i h = rw (add-one, take-suc l i 0 h) (joined_snoc (λ m. bytes " " ++ decimal m) (take i l) (get_or l i 0))
 
 pub length-next : (l : List ℕ) (i : ℕ) → i < length l

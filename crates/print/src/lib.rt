@@ -1,21 +1,32 @@
-// Words, decimal numbers and lines of them, written into a lent buffer from a byte on.
+// Words, decimal numbers and lines of them, written into a lent buffer, or only counted.
 #![tactic(auto)]
 
-ghost use Rattle.std.specs.Prelude.{◌≡◌, ◌+◌, ◌*◌, ◌≤◌, length};
+ghost use Rattle.std.specs.Prelude.{◌≡◌, ℕ, ◌+◌, ◌*◌, ◌≤◌, List, length};
 ghost use Rattle.model.specs.Sheet.{decimal, line_text};
 ghost use Rattle.print.specs.Print.{Wrote, spaced};
+ghost use Rattle.print.specs.Sink.{SinkLaws};
+ghost use Rattle.print.specs.Sinks.{most_counted, Counted, counter_laws, Written, writer_laws};
 
-// Writes the bytes w from byte at on, and returns where they end.
-pub fn put(out: &mut [u8], at: usize, w: &[u8]) -> usize
-    requires { at + length w.now ≤ length out.old }
-    ensures { Wrote at w.now out.old result out.new }
-{
-    let mut i: usize = 0;
-    while i < w.len() {
-        out[at + i] = w[i];
-        i += 1;
-    }
-    at + i
+// Where bytes go, one piece after the other.
+pub trait Sink {
+    // How many bytes were put so far, and how many it takes.
+    ghost end: { Self → ℕ };
+
+    ghost room: { Self → ℕ };
+
+    // These bytes were put, and it is then that.
+    ghost Puts: { List ℕ → Self → Self → Type 0 };
+
+    fn put(&mut self, bytes: &[u8])
+        requires { end self.old + length bytes.now ≤ room self.old }
+        ensures { Puts bytes.now self.old self.new };
+
+    // Puts n in decimal.
+    fn put_number(&mut self, n: u32)
+        requires { end self.old + length (decimal n) ≤ room self.old }
+        ensures { Puts (decimal n) self.old self.new };
+
+    ghost laws: { SinkLaws end room Puts };
 }
 
 // How many digits n has.
@@ -37,76 +48,110 @@ pub fn number_length(n: u32) -> usize
     k
 }
 
-// Writes n in decimal from byte at on, the last digit first, and returns where it ends.
-fn put_digits(out: &mut [u8], at: usize, n: u32) -> usize
-    requires { at + length (decimal n) ≤ length out.old }
-    ensures { Wrote at (decimal n) out.old result out.new }
+// Writes n in decimal over the bytes of out, which are as many as its digits, the last digit first.
+fn put_digits(out: &mut [u8], n: u32)
+    requires { length out.old ≡ length (decimal n) }
+    ensures { out.new ≡ decimal n }
 {
-    let end = at + number_length(n);
-    let mut i = end - 1;
-    let mut m = n;
-    while 9 < m {
-        out[i] = b'0' + (m % 10) as u8;
-        m /= 10;
-        i -= 1;
+    let mut rest = n;
+    for i in (0..out.len()).rev() {
+        out[i] = b'0' + (rest % 10) as u8;
+        rest /= 10;
     }
-    out[i] = b'0' + m as u8;
-    end
 }
 
-// The same; most numbers of a report have one or two digits.
-pub fn put_number(out: &mut [u8], at: usize, n: u32) -> usize
-    requires { at + length (decimal n) ≤ length out.old }
-    ensures { Wrote at (decimal n) out.old result out.new }
-{
-    if n < 10 {
-        out[at] = b'0' + n as u8;
-        return at + 1;
-    }
-    if n < 100 {
-        out[at + 1] = b'0' + (n % 10) as u8;
-        out[at] = b'0' + (n / 10) as u8;
-        return at + 2;
-    }
-    put_digits(out, at, n)
+// A count of the bytes that are put.
+#[derive(Drop)]
+pub struct Counter {
+    pub count: usize,
 }
 
-// Writes the numbers, with a space before each, from byte at on, and returns where they end.
-fn put_numbers(out: &mut [u8], at: usize, numbers: &[u32]) -> usize
-    requires { at + length (spaced numbers.now) ≤ length out.old }
-    ensures { Wrote at (spaced numbers.now) out.old result out.new }
-{
-    let mut end = at;
-    let mut k: usize = 0;
-    while k < numbers.len() {
-        end = put(out, end, b" ");
-        end = put_number(out, end, numbers[k]);
-        k += 1;
+impl Sink for Counter {
+    ghost end = { λ s. s.count };
+
+    ghost room = { λ s. most_counted };
+
+    ghost Puts = { Counted };
+
+    ghost laws = { counter_laws };
+
+    fn put(&mut self, bytes: &[u8]) {
+        self.count += bytes.len();
     }
-    end
+
+    fn put_number(&mut self, n: u32) {
+        self.count += number_length(n);
+    }
 }
 
-// Writes a line of the report from byte at on, and returns where it ends.
-pub fn put_line(out: &mut [u8], at: usize, word: &[u8], numbers: &[u32]) -> usize
+// A lent buffer, of which the first bytes are written, up to an end.
+#[derive(Drop)]
+pub struct Writer<'a> {
+    pub out: &'a mut [u8],
+    pub end: usize,
+}
+
+impl Sink for Writer<'_> {
+    ghost end = { λ s. s.end };
+
+    ghost room = { λ s. length s.out.now };
+
+    ghost Puts = { Written };
+
+    ghost laws = { writer_laws };
+
+    fn put(&mut self, bytes: &[u8]) {
+        let end = self.end + bytes.len();
+        self.out[self.end..end].copy_from_slice(bytes);
+        self.end = end;
+    }
+
+    // Most numbers of a report have one or two digits.
+    fn put_number(&mut self, n: u32) {
+        if n < 10 {
+            self.out[self.end] = b'0' + n as u8;
+            self.end += 1;
+            return;
+        }
+        if n < 100 {
+            self.out[self.end + 1] = b'0' + (n % 10) as u8;
+            self.out[self.end] = b'0' + (n / 10) as u8;
+            self.end += 2;
+            return;
+        }
+        let end = self.end + number_length(n);
+        put_digits(&mut self.out[self.end..end], n);
+        self.end = end;
+    }
+}
+
+// Puts the numbers, with a space before each.
+fn put_numbers<S: Sink>(out: &mut S, numbers: &[u32])
+    requires { S.end out.old + length (spaced numbers.now) ≤ S.room out.old }
+    ensures { S.Puts (spaced numbers.now) out.old out.new }
+{
+    for n in numbers {
+        out.put(b" ");
+        out.put_number(*n);
+    }
+}
+
+// Puts a line of the report.
+pub fn put_line<S: Sink>(out: &mut S, word: &[u8], numbers: &[u32])
+    requires { S.end out.old + length (line_text word.now numbers.now) ≤ S.room out.old }
+    ensures { S.Puts (line_text word.now numbers.now) out.old out.new }
+{
+    out.put(word);
+    put_numbers(out, numbers);
+    out.put(b")\n");
+}
+
+// Writes such a line into a buffer from byte at on, and returns where it ends.
+pub fn write_line(out: &mut [u8], at: usize, word: &[u8], numbers: &[u32]) -> usize
     requires { at + length (line_text word.now numbers.now) ≤ length out.old }
     ensures { Wrote at (line_text word.now numbers.now) out.old result out.new }
 {
-    let first = put(out, at, word);
-    let end = put_numbers(out, first, numbers);
-    put(out, end, b")\n")
-}
-
-// How many bytes a line has: at most 11 for each number.
-pub fn line_length(word: &[u8], numbers: &[u32]) -> usize
-    requires { (length word.now ≤ 16) × (length numbers.now ≤ 16) }
-    ensures { (result ≡ length (line_text word.now numbers.now))
-        × (result ≤ length word.now + 11 * length numbers.now + 2) }
-{
-    let mut n = word.len() + 2;
-    let mut k: usize = 0;
-    while k < numbers.len() {
-        n += 1 + number_length(numbers[k]);
-        k += 1;
-    }
-    n
+    let mut line = Writer { out, end: at };
+    put_line(&mut line, word, numbers);
+    line.end
 }

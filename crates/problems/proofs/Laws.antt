@@ -1,20 +1,18 @@
 -- A bit that is not in a set, and a buffer that a loop fills.
-use Prim.Native.Nat.{ℕ, ◌+◌, ◌<◌}
+use Prim.Native.Nat.{ℕ, ◌+◌, ◌≤◌, ◌<◌}
 use native.Mathlib.Omega.{arith}
 use mathlib.Core.Path.{◌≡◌}
 use mathlib.Core.Bool.{Bool, not}
 use mathlib.Core.List.{List}
 use mathlib.Core.Logic.{◌↔◌}
 use lib.Dec.{T, T_not, not_T}
-use lib.ListN.{length, set}
+use lib.ListN.{length, set, take}
+use Rattle.std.proofs.lemmas.List.{get_or-take, length-take-le}
 use Rattle.bits.specs.Bits.{set_bits, bit, Marks}
 use Rattle.bits.proofs.Laws.{bit_le, marked}
-use Rattle.tables.specs.declared.Span.{Span}
 use Rattle.tables.specs.Tables.{item}
-use Rattle.tables.specs.Valid.{Kept}
 use Rattle.tables.proofs.Laws.{set-each}
-use Rattle.tables.proofs.Valid.{kept_same, kept-later, kept_on, kept_set}
-use Rattle.flow.specs.Flow.{Given}
+use Rattle.tables.proofs.Valid.{kept-later, kept_on, kept_set}
 use Rattle.problems.specs.Problems.{Filled}
 
 -- a bit that is not in a set
@@ -24,10 +22,7 @@ unmarked {t} {m} k j h = (
   λ e. let n : bit m j ≡ 1 → ⊥ = λ b. T_not (t j) e ((marked k j h).0 b) in omega (arith, bit_le m j),
 )
 
--- a buffer of which nothing is filled, and one more entry
-pub filled_none : {P : ℕ → ℕ → Type 0} (l : List ℕ) → Filled P 0 l l
-filled_none l = record { each = λ p h. absurd (omega arith); kept = kept_same 0 l }
-
+-- a buffer with one entry more
 pub filled_more : (P : ℕ → ℕ → Type 0) (l : List ℕ) {l₀ : List ℕ} (p v : ℕ) → p < length l → P p v → Filled P p l₀ l
     → Filled P (p + 1) l₀ (set l p v)
 filled_more P l p v h i f =
@@ -39,8 +34,10 @@ filled_more P l p v h i f =
 pub filled-as : {P Q : ℕ → ℕ → Type 0} {n : ℕ} {l l' : List ℕ} → ((p v : ℕ) → p < n → P p v → Q p v) → Filled P n l l' → Filled Q n l l'
 filled-as {l' = l'} f a = record { each = λ p h. f p (item l' p) h (a.each p h); kept = a.kept }
 
--- what a kernel is given once the gens and kills are filled
-pub given-filled : {w : List ℕ} {s : Span} {m n : ℕ} {gens gens' kills kills' : List ℕ} → Given w s gens kills
-    → Kept m gens gens' → Kept n kills kills' → Given w s gens' kills'
-given-filled a g k =
-    record { fits = a.fits; gens_long = omega (arith, a.gens_long, g.size); kills_long = omega (arith, a.kills_long, k.size) }
+-- what is read off the first n sets
+pub filled-front : (R : ℕ → ℕ → Type 0) (sets : List ℕ) {n : ℕ} {l l' : List ℕ} → n ≤ length sets
+    → Filled (λ p v. R (item (take n sets) p) v) (length (take n sets)) l l' → Filled (λ p v. R (item sets p) v) n l l'
+filled-front R sets {n} {l} {l'} h f =
+    let e : length (take n sets) ≡ n = length-take-le n sets h in
+    let k = rw e at f in
+    record { each = λ p i. rw (← get_or-take n sets p 0 i) (k.each p i); kept = k.kept }

@@ -10,7 +10,7 @@ use Rattle.model.specs.Sheet.{PointSheet, costed}
 use Rattle.tables.specs.declared.Header.{Header}
 use Rattle.tables.specs.declared.Span.{Span}
 use Rattle.tables.specs.Layout.{frame_table, base_table}
-use Rattle.tables.specs.Tables.{item, base_at, span_at, task_of}
+use Rattle.tables.specs.Tables.{item, base_at, size_at, span_at, task_of}
 use Rattle.tables.specs.Valid.{Lies}
 use Rattle.tables.proofs.Laws.{frame_is}
 use Rattle.tables.proofs.Valid.{lies_in, settled-fits}
@@ -35,8 +35,11 @@ module _ {price : Price} {w : List ℕ} {h : Header} {f : ℕ} {s : Span} (k : R
   pub lies-there : Lies w s
   lies-there = subst (λ (s : Span). Lies w s) (sym e) (lies_in k.settled.holds f l)
 
-  pub read-there : (column : ℕ) {p : ℕ} → column ≤ fill_column → p < s.size → Lies w s × (p < s.size) × (column + most_in_all ≤ length w)
-  read-there column c i = (lies-there, i, omega (arith, k.room))
+  pub within-there : {p : ℕ} → p < size_at w f → p < s.size
+  within-there i = omega (arith, ap (λ (s : Span). s.size) e)
+
+  pub read-there : (column : ℕ) {p : ℕ} → column ≤ fill_column → p < size_at w f → Lies w s × (p < s.size) × (column + most_in_all ≤ length w)
+  read-there column c i = (lies-there, within-there i, omega (arith, k.room))
 
   pub chain-there : item w (chain_column + f) ≡ (sheet_in price w h).chain f
   unfolding chain_from

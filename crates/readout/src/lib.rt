@@ -2,17 +2,23 @@
 // difference or a sum is computed here, where it is read.
 #![tactic(auto)]
 
-ghost use Rattle.std.specs.Prelude.{◌≡◌, ◌+◌, ◌-◌, ◌<◌, ◌≤◌};
-ghost use Rattle.model.specs.Limits.{most_stack};
-ghost use Rattle.tables.specs.Tables.{span_at};
-ghost use Rattle.prices.specs.Prices.{price_of, most_price, Small};
-ghost use Rattle.columns.specs.Values.{most_chain};
-ghost use Rattle.readout.specs.Sheet.{sheet_in};
+ghost use Rattle.std.specs.Prelude.{◌≡◌, ◌<◌};
+ghost use Rattle.tables.specs.Tables.{size_at};
 ghost use Rattle.readout.specs.Readable.{Readable, figured_of, func_figures};
+ghost use Rattle.readout.specs.Unique.{readable_prop};
 
 use columns::Columns;
 use prices::Price;
-use tables::{Header, Span};
+use tables::Header;
+
+// The sheet of the task that the tables in work hold, by the columns behind them and at this price.
+#[derive(Clone, Copy)]
+pub struct Sheet<'a> {
+    pub work: &'a [u32],
+    pub header: Header,
+    pub price: Price,
+    pub ghost readable: { Readable price work.now header } by { readable_prop price work.now header },
+}
 
 // All figures of a point.
 #[derive(Clone, Copy)]
@@ -38,72 +44,50 @@ pub struct FuncFigures {
     pub chain: u32,
 }
 
-// The price of a move of what a has above b.
-fn price_above(price: Price, a: u32, b: u32) -> u32
-    requires { Small price × (a - b ≤ most_stack) }
-    ensures { (result ≡ price_of price (a - b)) × (result ≤ most_price) }
-{
-    price.of_move(numbers::above(a, b))
-}
+impl Sheet<'_> {
+    ghost use Rattle.readout.specs.View.{sheet_of};
 
-fn cost_of(save: u32, reload: u32, later: u32, chain: u32) -> u32
-    requires { (save ≤ most_price) × (reload ≤ most_price) × (later ≤ most_price) × (chain ≤ most_chain) }
-    ensures { result ≡ save + reload + later + chain }
-{
-    save + reload + later + chain
-}
-
-// The figures of point p of function f, which is s.
-pub fn point_figures(
-    work: &[u32],
-    h: Header,
-    price: Price,
-    f: usize,
-    s: Span,
-    p: usize,
-) -> PointFigures
-    requires { Readable price work.now h × (f < h.funcs) × (s ≡ span_at work.now f) × (p < s.size) }
-    ensures { figured_of result ≡ (sheet_in price work.now h).at f p }
-{
-    let high = columns::figure_at(work, Columns::HIGH, s, p);
-    let dead = columns::figure_at(work, Columns::DEAD, s, p);
-    let need = columns::figure_at(work, Columns::NEED, s, p);
-    let next = columns::figure_at(work, Columns::NEXT, s, p);
-    let chain = work[Columns::CHAIN + f];
-    let save = price_above(price, high, dead);
-    let reload = price_above(price, need, dead);
-    let later = price_above(price, next, need);
-    let fill = price.of_move(columns::figure_at(work, Columns::FILL, s, p));
-    let cost = cost_of(save, reload, later, chain);
-    PointFigures {
-        high,
-        dead,
-        need,
-        save,
-        reload,
-        later,
-        chain,
-        cost,
-        fill,
+    // The figures of point p of function f.
+    pub fn point(self, f: usize, p: usize) -> PointFigures
+        requires { (f < self.header.funcs) × (p < size_at self.work.now f) }
+        ensures { figured_of result ≡ (sheet_of self.entry).at f p }
+    {
+        let s = tables::span_at(self.work, f);
+        let high = columns::figure_at(self.work, Columns::HIGH, s, p);
+        let dead = columns::figure_at(self.work, Columns::DEAD, s, p);
+        let need = columns::figure_at(self.work, Columns::NEED, s, p);
+        let next = columns::figure_at(self.work, Columns::NEXT, s, p);
+        let fill = columns::figure_at(self.work, Columns::FILL, s, p);
+        let chain = self.work[Columns::CHAIN + f];
+        let save = self.price.of_move(high.saturating_sub(dead));
+        let reload = self.price.of_move(need.saturating_sub(dead));
+        let later = self.price.of_move(next.saturating_sub(need));
+        PointFigures {
+            high,
+            dead,
+            need,
+            save,
+            reload,
+            later,
+            chain,
+            cost: save + reload + later + chain,
+            fill: self.price.of_move(fill),
+        }
     }
-}
 
-// The figures of function f.
-pub fn func_figures(work: &[u32], h: Header, price: Price, f: usize) -> FuncFigures
-    requires { Readable price work.now h × (f < h.funcs) }
-    ensures { result ≡ func_figures price work.now h f }
-{
-    let s = tables::span_at(work, f);
-    let frame = s.frame;
-    let shortest = work[Columns::SHORTEST + f];
-    let longest = work[Columns::LONGEST + f];
-    let spill = price_above(price, work[Columns::ENTRY + f] + frame, h.stack);
-    let chain = work[Columns::CHAIN + f];
-    FuncFigures {
-        frame,
-        shortest,
-        longest,
-        spill,
-        chain,
+    // The figures of function f.
+    pub fn func(self, f: usize) -> FuncFigures
+        requires { f < self.header.funcs }
+        ensures { result ≡ func_figures self.entry.price self.entry.work.now self.entry.header f }
+    {
+        let frame = tables::span_at(self.work, f).frame;
+        let caller = self.work[Columns::ENTRY + f] + frame;
+        FuncFigures {
+            frame,
+            shortest: self.work[Columns::SHORTEST + f],
+            longest: self.work[Columns::LONGEST + f],
+            spill: self.price.of_move(caller.saturating_sub(self.header.stack)),
+            chain: self.work[Columns::CHAIN + f],
+        }
     }
 }

@@ -67,7 +67,7 @@ impl Place {
 
     fn pass(&mut self, line: &str) {
         if let Some(rest) = line.strip_prefix("impl ") {
-            self.type_name = rest.split([' ', '<', '{']).next().map(str::to_string);
+            self.type_name = impl_name(rest);
         } else if line == "}" {
             self.type_name = None;
         }
@@ -128,6 +128,16 @@ impl Open {
             body,
             cycle: self.cycle,
         })
+    }
+}
+
+/// What a proof calls an `impl` block, whose line goes on so: its type, or its type and the trait.
+fn impl_name(rest: &str) -> Option<String> {
+    let word = |text: &str| text.split([' ', '<', '{']).next().map(str::to_string);
+    let first = word(rest)?;
+    match rest.split_once(" for ") {
+        Some((_, rest)) => Some(word(rest)? + &first),
+        None => Some(first),
     }
 }
 
@@ -196,6 +206,12 @@ impl Machine {
     }
 }
 
+impl Sink for Writer<'_> {
+    fn put(&mut self) {
+        self.end += 1;
+    }
+}
+
 #[unsafe(no_mangle)]
 pub extern \"C\" fn felknost_check(text: &[u8]) -> u32
 {
@@ -224,6 +240,7 @@ pub extern \"C\" fn felknost_check(text: &[u8]) -> u32
                 ("plain", "{ a }"),
                 ("wide", "{ x as u64 }"),
                 ("Machine::reserve", "{ self.st - k }"),
+                ("WriterSink::put", "{ self.end += 1; }"),
                 ("felknost_check", "{ 0 }"),
             ]
         );

@@ -1,70 +1,42 @@
--- Both columns of the points, and the spill.
+-- One point a turn; then the spill of the function.
 use native.Mathlib.Omega.{arith}
 use mathlib.Core.Path.{ap}
+use lib.ListN.{length-set}
+use Rattle.model.specs.Sheet.{PointSheet}
 use Rattle.readout.specs.declared.FuncFigures.{FuncFigures}
 use Rattle.readout.specs.Readable.{func_figures}
-use Rattle.bounds.proofs.Laws.{span_fits, bounded-func}
+use Rattle.tables.specs.declared.Span.{Span}
+use Rattle.columns.proofs.Writes.{changed-on}
+use Rattle.bounds.proofs.Laws.{only-span, point-room, point-more, func-more}
 use Rattle.bounds.proofs.bound_func.Goals as goal
 
-pub point_bounds-requires : goal.point_bounds-requires
-point_bounds-requires c =
-    let a = c.requires in
-    let e = c.span_at-s.ensures in
-    let i = (span_fits a.0.readable a.1 e).small in
-    (a.0.readable, a.1, e, omega (arith, i), omega (arith, i))
+pub bounds-work-s : goal.bounds-work-s
+bounds-work-s c =
+    let x = c.loop-p.invariant in
+    let e = only-span x.bounded.readable c.requires.1 x.only c.span_at-s.ensures in
+    omega (arith, point-room x.bounded.readable c.requires.1 e c.loop-p-test.true)
 
-pub overflow_add-base : goal.overflow_add-base
-overflow_add-base c =
-    let a = c.requires in
-    omega (arith, (span_fits a.0.readable a.1 c.span_at-s.ensures).lies.within)
+pub bounds-work-s-in-loop-p : goal.bounds-work-s-in-loop-p
+bounds-work-s-in-loop-p c =
+    let x = c.loop-p.invariant in
+    let e = only-span x.bounded.readable c.requires.1 x.only c.span_at-s.ensures in
+    simp length-set (point-room x.bounded.readable c.requires.1 e c.loop-p-test.true)
 
-pub put_column-requires : goal.put_column-requires
-put_column-requires c =
-    let a = c.requires in
-    let i = span_fits a.0.readable a.1 c.span_at-s.ensures in
-    (omega (arith, i.lies.within, a.0.readable.room), omega (arith, i.small))
-
-pub overflow_add-base-2 : goal.overflow_add-base-2
-overflow_add-base-2 c =
-    let a = c.requires in
-    omega (arith, (span_fits a.0.readable a.1 c.span_at-s.ensures).lies.within)
-
-pub put_column-requires-2 : goal.put_column-requires-2
-put_column-requires-2 c =
-    let a = c.requires in
-    let i = span_fits a.0.readable a.1 c.span_at-s.ensures in
-    (omega (arith, i.lies.within, a.0.readable.room, c.put_column.ensures.changed.size), omega (arith, i.small))
-
--- the place of the spill
-pub overflow_add-work : goal.overflow_add-work
-overflow_add-work c =
-    let a = c.requires in
-    omega (arith, a.1, a.0.readable.settled.holds.few)
-
-pub offset_bounds-work-f : goal.offset_bounds-work-f
-offset_bounds-work-f c =
-    let a = c.requires in
-    omega (arith, a.1, a.0.readable.settled.holds.few)
-
-pub bounds-work-f : goal.bounds-work-f
-bounds-work-f c =
-    let a = c.requires in
-    omega (
-      arith,
-      a.1,
-      a.0.readable.room,
-      a.0.readable.settled.holds.few,
-      c.put_column.ensures.changed.size,
-      c.put_column-2.ensures.changed.size,
-    )
+pub loop-p-preserved : goal.loop-p-preserved
+loop-p-preserved c =
+    let x = c.loop-p.invariant in
+    let e = only-span x.bounded.readable c.requires.1 x.only c.span_at-s.ensures in
+    let point = c.point-point.ensures in
+    let r =
+    point-more x.bounded c.requires.1 e c.loop-p-test.true (omega (arith, ap (λ (x : PointSheet). x.cost) point))
+    (ap (λ (x : PointSheet). x.fill) point) in
+    record { bounded = r.0; only = changed-on x.only r.1 }
 
 pub returns : goal.returns
 unfolding func_figures
 returns c =
-    let a = c.requires in
-    let k = c.point_bounds.ensures in
-    let spill = ap (λ (x : FuncFigures). x.spill) c.func_figures-r.ensures in
-    bounded-func a.0 a.1 c.span_at-s.ensures k.0 k.1 spill c.put_column.ensures c.put_column-2.ensures
-
-pub shape_of-work : goal.shape_of-work
-shape_of-work c = (returns c).1.size
+    let x = c.loop-p.invariant in
+    let e = only-span x.bounded.readable c.requires.1 x.only c.span_at-s.ensures in
+    let size = ap (λ (s : Span). s.size) e in
+    let r = func-more x.bounded c.requires.1 (omega (arith, size)) (ap (λ (x : FuncFigures). x.spill) c.func-func.ensures) in
+    (r.0, changed-on x.only r.1)

@@ -1,12 +1,12 @@
 -- By the branches of the definition.
 use native.Mathlib.Omega.{arith}
-use Rattle.columns.proofs.Values.{cut-call, cut-past}
+use Rattle.columns.specs.Values.{cut_at}
 use Rattle.columns.proofs.cut_at.Goals as goal
 
-pub returns-then-g-lt-FUNCS : goal.returns-then-g-lt-FUNCS
-returns-then-g-lt-FUNCS c =
-    cut-call _ _ _ _ c.callee_at-g.ensures (omega arith) c.above.ensures
+pub returns-in-Some : goal.returns-in-Some
+unfolding cut_at
+returns-in-Some c = rw c.in-Some.ensures.0 (omega arith)
 
-pub returns : goal.returns
-returns c =
-    cut-past _ _ _ _ c.callee_at-g.ensures (omega arith)
+pub returns-in-None : goal.returns-in-None
+unfolding cut_at
+returns-in-None c = rw c.in-None.ensures

@@ -1,12 +1,9 @@
 -- By the branches of the definition.
-use native.Mathlib.Omega.{arith}
-use Rattle.columns.proofs.Values.{level-call, level-past}
+use Rattle.columns.proofs.Values.{level-call, level-none}
 use Rattle.columns.proofs.level_at.Goals as goal
 
-pub returns-then-g-lt-FUNCS : goal.returns-then-g-lt-FUNCS
-returns-then-g-lt-FUNCS c =
-    level-call _ _ _ c.callee_at-g.ensures (omega arith)
+pub returns-in-Some : goal.returns-in-Some
+returns-in-Some c = level-call _ _ _ c.in-Some.ensures.0
 
-pub returns : goal.returns
-returns c =
-    level-past _ _ _ c.callee_at-g.ensures (omega arith)
+pub returns-in-None : goal.returns-in-None
+returns-in-None c = level-none _ _ _ c.in-None.ensures

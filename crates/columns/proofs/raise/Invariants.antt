@@ -1,11 +1,6 @@
 -- The loop raises the number of one callee a turn.
-use Prim.Native.Nat.{◌-◌, ◌≤◌}
 use Rattle.columns.proofs.Raises.{Raising}
 use Rattle.columns.proofs.raise.Given as goal
 
 abbrev pub invariant-loop-p : goal.invariant-loop-p
-invariant-loop-p l =
-    (l.p ≤ l.n) × Raising l.at l.s l.values l.p l.initial.work l.work
-
-abbrev pub decreases-loop-p : goal.decreases-loop-p
-decreases-loop-p l = l.n - l.p
+invariant-loop-p l = Raising l.at l.s l.values l.p l.initial.work l.work

@@ -1,38 +1,36 @@
--- A point does at most one thing.
+-- A point does at most one thing: the rest is that of the default.
+use mathlib.Core.Logic.{⊎_elim}
 use mathlib.Core.Path.{refl}
-use lib.Dec.{ltb→lt}
-use Rattle.bits.specs.Bits.{set_bits}
-use Rattle.bits.proofs.Laws.{marks-none, marks-single}
-use Rattle.effects.proofs.Laws.{does}
+use Rattle.bits.proofs.Laws.{marks-single}
+use Rattle.effects.proofs.Laws.{marks-empty}
 use Rattle.effects.proofs.effect_of.Goals as goal
-
-pub single_bit-requires : goal.single_bit-requires
-single_bit-requires c = ltb→lt _ set_bits (rw c.in-Load.is at c.requires)
-
-pub single_bit-requires-in-Store : goal.single_bit-requires-in-Store
-single_bit-requires-in-Store c = ltb→lt _ set_bits (rw c.in-Store.is at c.requires)
 
 pub returns-in-Load : goal.returns-in-Load
 returns-in-Load c =
-    rw (c.in-Load.is, c.effect_with.ensures)
-    (does (marks-single c.single_bit.ensures) marks-none refl refl refl)
+    let d = c.default.ensures in
+    rw c.in-Load.is (record { loads = marks-single c.single_bit.ensures; stores = marks-empty d.1.0; calls = d.1.1.0; ensures = d.1.1.1.0; returns = d.1.1.1.1 })
 
 pub returns-in-Store : goal.returns-in-Store
 returns-in-Store c =
-    rw (c.in-Store.is, c.effect_with-in-Store.ensures)
-    (does marks-none (marks-single c.single_bit-in-Store.ensures) refl refl refl)
+    let d = c.default-in-Store.ensures in
+    rw c.in-Store.is (record { loads = marks-empty d.0; stores = marks-single c.single_bit-in-Store.ensures; calls = d.1.1.0; ensures = d.1.1.1.0; returns = d.1.1.1.1 })
 
 pub returns-in-Call : goal.returns-in-Call
-returns-in-Call c = rw (c.in-Call.is, c.effect_with-in-Call.ensures) (does marks-none marks-none refl refl refl)
+returns-in-Call c =
+    let d = c.default-in-Call.ensures in
+    rw c.in-Call.is (record { loads = marks-empty d.0; stores = marks-empty d.1.0; calls = refl; ensures = d.1.1.1.0; returns = d.1.1.1.1 })
 
 pub returns-in-Ensure : goal.returns-in-Ensure
-returns-in-Ensure c = rw (c.in-Ensure.is, c.effect_with-in-Ensure.ensures) (does marks-none marks-none refl refl refl)
-
-pub returns-in-Goto : goal.returns-in-Goto
-returns-in-Goto c = rw (c.in-Goto.is, c.effect_with-in-Goto.ensures) (does marks-none marks-none refl refl refl)
-
-pub returns-in-Either : goal.returns-in-Either
-returns-in-Either c = rw (c.in-Either.is, c.effect_with-in-Either.ensures) (does marks-none marks-none refl refl refl)
+returns-in-Ensure c =
+    let d = c.default-in-Ensure.ensures in
+    rw c.in-Ensure.is (record { loads = marks-empty d.0; stores = marks-empty d.1.0; calls = d.1.1.0; ensures = refl; returns = d.1.1.1.1 })
 
 pub returns-in-Return : goal.returns-in-Return
-returns-in-Return c = rw (c.in-Return.is, c.effect_with-in-Return.ensures) (does marks-none marks-none refl refl refl)
+returns-in-Return c =
+    let d = c.default-in-Return.ensures in
+    rw c.in-Return.is (record { loads = marks-empty d.0; stores = marks-empty d.1.0; calls = d.1.1.0; ensures = d.1.1.1.0; returns = refl })
+
+pub returns-in-Goto : goal.returns-in-Goto
+returns-in-Goto c =
+    let d = c.default-in-Goto.ensures in
+    ⊎_elim (λ e. rw e.1 (record { loads = marks-empty d.0; stores = marks-empty d.1.0; calls = d.1.1.0; ensures = d.1.1.1.0; returns = d.1.1.1.1 })) (λ e. rw e.2 (record { loads = marks-empty d.0; stores = marks-empty d.1.0; calls = d.1.1.0; ensures = d.1.1.1.0; returns = d.1.1.1.1 })) c.in-Goto.is

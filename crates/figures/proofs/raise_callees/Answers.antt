@@ -1,41 +1,45 @@
 -- The callees have one caller more.
+use Rattle.std.proofs.Common.{rules}
+use Prim.Native.Nat.{◌≤◌}
 use native.Mathlib.Omega.{arith}
-use Rattle.figures.proofs.Points.{turn-fits, turn-room, turn-values}
+use lib.ListN.{length}
+use Rattle.columns.specs.Columns.{columns_end}
+use Rattle.problems.proofs.Laws.{filled-as}
+use Rattle.figures.proofs.Points.{turn-values}
 use Rattle.figures.proofs.Stages.{turn-of, own-chain, done-raised}
 use Rattle.figures.proofs.raise_callees.Goals as goal
 
-pub value_points-requires : goal.value_points-requires
-value_points-requires c =
+pub each_point-requires : goal.each_point-requires
+each_point-requires c =
     let k = c.requires in
-    let b = k.0 in
-    let a = turn-of b c.span_at-s.ensures in
-    let i = turn-fits a in
-    (i.lies, omega (arith, b.worked.ready.room), i.frame, (own-chain _ k.2 b k.1, k.2), turn-room a (omega arith))
+    let v = turn-values (turn-of k.0 c.span_at-s.ensures) in
+    let l = v.0 in
+    let r : columns_end ≤ length c.args.work.now = v.1 in
+    let small = k.2 in
+    let own = own-chain _ k.2 k.0 k.1 in
+    (λ p h. search rules, omega (arith, v.3))
 
-pub value_points-requires-2 : goal.value_points-requires-2
-value_points-requires-2 c =
-    let b = c.requires.0 in
-    turn-values (turn-of b c.span_at-s.ensures) (omega arith)
+pub each_point-requires-2 : goal.each_point-requires-2
+each_point-requires-2 c =
+    let v = turn-values (turn-of c.requires.0 c.span_at-s.ensures) in
+    let l = v.0 in
+    let r : columns_end ≤ length c.args.work.now = v.1 in
+    (λ p h. search rules, omega (arith, v.3))
 
 pub raise-requires : goal.raise-requires
 raise-requires c =
-    let b = c.requires.0 in
-    let a = turn-of b c.span_at-s.ensures in
-    ((turn-fits a).lies, omega (arith, b.worked.ready.room), omega arith, omega arith, turn-room a (omega arith))
+    let v = turn-values (turn-of c.requires.0 c.span_at-s.ensures) in
+    (v.0, v.1, omega arith, omega arith, omega (arith, v.3))
 
 pub raise-requires-2 : goal.raise-requires-2
 raise-requires-2 c =
-    let b = c.requires.0 in
-    let a = turn-of b c.span_at-s.ensures in
-    let r = b.worked.ready.room in
+    let v = turn-values (turn-of c.requires.0 c.span_at-s.ensures) in
     let z = c.raise.ensures.changed.size in
-    let i = (turn-fits a).lies.within in
-    (record { room = omega (arith, z, r); within = i }, omega (arith, z, r), omega arith, omega arith, turn-room a (omega arith))
+    (record { room = omega (arith, z, v.1); within = v.0.within }, omega (arith, z, v.1), omega arith, omega arith, omega (arith, v.3))
 
 pub returns : goal.returns
 returns c =
     let p = c.requires in
     let a = turn-of p.0 c.span_at-s.ensures in
-    let r = c.raise.ensures in
-    let k = c.value_points.ensures in
-    done-raised _ p.2 a p.1 r c.raise-2.ensures k c.value_points-2.ensures
+    done-raised _ p.2 a p.1 c.raise.ensures c.raise-2.ensures (filled-as (λ p v i e. search rules) c.each_point.ensures)
+    (filled-as (λ p v i e. search rules) c.each_point-2.ensures)

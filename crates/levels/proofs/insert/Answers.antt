@@ -3,22 +3,9 @@ use native.Mathlib.Omega.{arith}
 use Rattle.levels.proofs.Laws.{inserted}
 use Rattle.levels.proofs.insert.Goals as goal
 
-pub bounds-work-f : goal.bounds-work-f
-bounds-work-f c =
-    let r = c.requires.0 in
-    omega (arith, r.order, r.few, r.long)
-
-pub bounds-work-f-2 : goal.bounds-work-f-2
-bounds-work-f-2 c =
-    let r = c.requires.0 in
-    omega (arith, r.order, r.few, r.long, c.lift_levels.ensures.changed.size)
-
 pub returns : goal.returns
 returns c =
     let r = c.requires.0 in
     let l = c.lift_levels.ensures in
     inserted c.args.f c.args.n (omega (arith, r.order, r.few)) (omega (arith, r.order, r.few, r.long, l.changed.size))
     c.level_among-level.ensures l
-
-pub overflow_add-d : goal.overflow_add-d
-overflow_add-d c = omega (arith, c.requires.0.order, c.requires.0.few)

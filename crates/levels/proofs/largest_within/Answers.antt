@@ -9,31 +9,24 @@ use Rattle.levels.proofs.largest_within.Goals as goal
 pub loop-g-init : goal.loop-g-init
 loop-g-init c =
     let a = c.args in
-    (c.requires.order, omega arith, sym (within_none (level_in a.work.now) (shortest_in a.work.now) a.n a.level))
+    (omega arith, sym (within_none (level_in a.work.now) (shortest_in a.work.now) a.n a.level))
 
 pub loop-g-preserved-then-work-g : goal.loop-g-preserved-then-work-g
 loop-g-preserved-then-work-g c =
     let a = c.args in
     let l = c.loop-g in (
       omega arith,
-      omega (arith, l.invariant.1),
-      within_in (level_in a.work.now) (shortest_in a.work.now) a.n a.level (l.g - 1) (omega (arith, l.invariant.1)) (omega arith) (omega arith)
-          l.invariant.2 c.larger-most.ensures,
+      within_in (level_in a.work.now) (shortest_in a.work.now) a.n a.level (l.g - 1) (omega arith) (omega arith) (omega arith) l.invariant.1
+          (omega arith),
     )
 
 pub loop-g-preserved : goal.loop-g-preserved
 loop-g-preserved c =
     let a = c.args in
-    let l = c.loop-g in (
-      omega arith,
-      omega (arith, l.invariant.1),
-      within-out (level_in a.work.now) (shortest_in a.work.now) a.n a.level (l.g - 1) (omega (arith, l.invariant.1)) (omega arith) (omega arith)
-          l.invariant.2,
-    )
+    let l = c.loop-g in
+    (omega arith, within-out (level_in a.work.now) (shortest_in a.work.now) a.n a.level (l.g - 1) (omega arith) (omega arith) (omega arith) l.invariant.1)
 
 pub returns : goal.returns
 returns c =
-    let a = c.args in
-    let l = c.loop-g in
-    let e : l.g ≡ a.m = omega (arith, l.invariant.0) in
-    rw e at l.invariant.2
+    let e : c.args.m ≡ c.loop-g.g = omega arith in
+    rw e c.loop-g.invariant.1

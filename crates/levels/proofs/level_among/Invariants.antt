@@ -5,8 +5,4 @@ use Rattle.levels.specs.Levels.{level_among, shortest_in}
 use Rattle.levels.proofs.level_among.Given as goal
 
 abbrev pub invariant-loop-g : goal.invariant-loop-g
-invariant-loop-g l =
-    (l.m ≤ l.g) × (l.g ≤ l.n) × (l.level ≡ level_among (shortest_in l.work) l.g l.n l.v)
-
-abbrev pub decreases-loop-g : goal.decreases-loop-g
-decreases-loop-g l = l.g
+invariant-loop-g l = (l.m ≤ l.g) × (l.level ≡ level_among (shortest_in l.work) l.g l.n l.v)

@@ -1,17 +1,9 @@
--- `print::put_digits` meets its contract. The loop's invariant: with the digits of m, which are left and end at byte i, out has those of n.
-use Prim.Native.Nat.{◌+◌, ◌<◌}
+-- The loop's invariant: before the digits that are written belong the last ones of the rest.
 use mathlib.Core.Path.{◌≡◌}
-use lib.ListN.{length}
-use Rattle.model.specs.Sheet.{decimal}
-use Rattle.print.specs.Print.{pasted}
+use mathlib.Core.List.{◌++◌}
+use lib.ListN.{length, drop}
+use Rattle.print.proofs.LastDigits.{last_digits}
 use Rattle.print.proofs.put_digits.Given as goal
 
-abbrev pub invariant-loop-m : goal.invariant-loop-m
-invariant-loop-m l =
-    (length l.out ≡ length l.initial.out)
-    × (l.i < length l.initial.out)
-    × (l.i + 1 ≡ l.at + length (decimal l.m))
-    × (pasted l.at (decimal l.m) l.out ≡ pasted l.at (decimal l.n) l.initial.out)
-
-abbrev pub decreases-loop-m : goal.decreases-loop-m
-decreases-loop-m l = l.m
+abbrev pub invariant-loop-i : goal.invariant-loop-i
+invariant-loop-i l = last_digits l.i l.rest ++ drop l.i l.out ≡ last_digits (length l.initial.out) l.n

@@ -1,31 +1,30 @@
--- `print::put_line` meets its contract.
+-- The word, the numbers and the end of the line.
 use native.Mathlib.Omega.{arith}
-use borrow.Author.Rules.{rules}
-use Rattle.print.proofs.Laws.{length-line, line-parts, wrote_on}
+use Rattle.print.proofs.Laws.{length-line}
+use Rattle.print.proofs.Sinks.{line-put}
 use Rattle.print.proofs.put_line.Goals as goal
 
-pub put-first-requires : goal.put-first-requires
-put-first-requires c =
-    let a = c.args in
-    omega (arith, length-line a.word.now a.numbers.now)
-
-pub put_numbers-end-requires : goal.put_numbers-end-requires
-put_numbers-end-requires c =
-    let a = c.args in
-    omega (arith, length-line a.word.now a.numbers.now)
-
 pub put-requires : goal.put-requires
-put-requires c =
-    let a = c.args in
-    omega (arith, length-line a.word.now a.numbers.now)
+put-requires g c = omega (arith, c.requires, length-line c.args.word.now c.args.numbers.now)
 
-pub shape_of-out : goal.shape_of-out
-shape_of-out c = search rules
+pub put_numbers-requires : goal.put_numbers-requires
+put_numbers-requires g c =
+    let laws = g.met.S.Sink.laws in
+    omega (arith, c.requires, length-line c.args.word.now c.args.numbers.now, laws.ends _ _ _ c.put.ensures, laws.rooms _ _ _ c.put.ensures)
+
+pub put-requires-2 : goal.put-requires-2
+put-requires-2 g c =
+    let laws = g.met.S.Sink.laws in
+    omega (
+      arith,
+      c.requires,
+      length-line c.args.word.now c.args.numbers.now,
+      laws.ends _ _ _ c.put.ensures,
+      laws.rooms _ _ _ c.put.ensures,
+      laws.ends _ _ _ c.put_numbers.ensures,
+      laws.rooms _ _ _ c.put_numbers.ensures,
+    )
 
 pub returns : goal.returns
-returns c =
-    let a = c.args in
-    let w = c.put-first.ensures in
-    let n = c.put_numbers-end.ensures in
-    let e = c.put.ensures in
-    rw (line-parts a.word.now a.numbers.now) (wrote_on (omega arith) (wrote_on (omega arith) w n) e)
+returns g c =
+    line-put g.met.S.Sink.laws c.args.word.now c.args.numbers.now c.put.ensures c.put_numbers.ensures c.put-2.ensures

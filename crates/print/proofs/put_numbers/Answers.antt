@@ -1,57 +1,23 @@
--- `print::put_numbers` meets its contract. The loop's invariant: the first k numbers are written, and end at byte end.
-use mathlib.Core.Path.{◌≡◌, refl}
+-- One number a turn.
 use native.Mathlib.Omega.{arith}
-use lib.ListN.{take}
 use lib.Seq.{take_all}
-use Rattle.print.proofs.Laws.{spaced-none, length-room, spaced-on}
+use Rattle.print.proofs.Sinks.{spaced_none, space-room, spaced-more}
 use Rattle.print.proofs.put_numbers.Goals as goal
 
-pub loop-k-init : goal.loop-k-init
-loop-k-init c =
-    let a = c.args in
-    (omega arith, refl, spaced-none a.at a.out.now)
+pub loop-n-init : goal.loop-n-init
+loop-n-init g c = spaced_none g.met.S.Sink.laws _ (omega arith)
 
-pub put-end-requires : goal.put-end-requires
-put-end-requires c =
-    let k = c.loop-k.k in
-    let n = c.args.numbers.now in
-    omega (arith, length-room n k (omega arith))
+pub put-requires : goal.put-requires
+put-requires g c = omega (arith, space-room g.met.S.Sink.laws _ _ c.loop-n-test.true c.loop-n.invariant c.requires)
 
-pub offset_bounds-numbers-k : goal.offset_bounds-numbers-k
-offset_bounds-numbers-k c = omega arith
+pub put_number-requires : goal.put_number-requires
+put_number-requires g c =
+    let laws = g.met.S.Sink.laws in
+    omega (arith, space-room laws _ _ c.loop-n-test.true c.loop-n.invariant c.requires, laws.ends _ _ _ c.put.ensures, laws.rooms _ _ _ c.put.ensures)
 
-pub bounds-numbers-k : goal.bounds-numbers-k
-bounds-numbers-k c = omega arith
-
-pub put_number-end-requires : goal.put_number-end-requires
-put_number-end-requires c =
-    let k = c.loop-k.k in
-    let n = c.args.numbers.now in
-    omega (arith, length-room n k (omega arith))
-
-pub overflow_add-k : goal.overflow_add-k
-overflow_add-k c = omega arith
-
-pub loop-k-smaller : goal.loop-k-smaller
-loop-k-smaller c = omega arith
-
-pub loop-k-preserved : goal.loop-k-preserved
-loop-k-preserved c =
-    let l = c.loop-k in
-    let a = c.args in
-    let p = c.put-end.ensures in
-    let n = c.put_number-end.ensures in (
-      omega arith,
-      omega arith,
-      spaced-on l.k a.numbers.now (omega arith) (omega arith) l.invariant.2 p n,
-    )
-
-pub shape_of-out : goal.shape_of-out
-shape_of-out c = omega arith
+pub loop-n-preserved : goal.loop-n-preserved
+loop-n-preserved g c =
+    spaced-more g.met.S.Sink.laws _ _ c.loop-n-test.true c.loop-n.invariant c.put.ensures c.put_number.ensures
 
 pub returns : goal.returns
-returns c =
-    let l = c.loop-k in
-    let n = c.args.numbers.now in
-    let e : take l.k n ≡ n = take_all l.k n (omega arith) in
-    rw e at l.invariant.2
+returns g c = rw (take_all c.loop-n.n-index c.args.numbers.now (omega arith)) at c.loop-n.invariant

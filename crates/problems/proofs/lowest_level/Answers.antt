@@ -3,6 +3,4 @@ use Rattle.problems.proofs.Figures.{level-read}
 use Rattle.problems.proofs.lowest_level.Goals as goal
 
 pub returns : goal.returns
-returns c =
-    let i = c.requires in
-    (level-read _ _ i.0.fits c.solve.ensures.0 c.lowest_of.ensures, c.solve.ensures.1)
+returns c = (level-read _ _ c.requires.0 c.solve.ensures.0 c.lowest_of.ensures, c.solve.ensures.1)

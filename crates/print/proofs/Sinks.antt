@@ -1,0 +1,48 @@
+-- Bytes put into any sink, one piece after the other: their room, numbers with a space before each, and pieces for the numbers below n.
+use Prim.Native.Nat.{ℕ, ◌+◌, ◌≤◌, ◌<◌}
+use native.Mathlib.Omega.{arith}
+use mathlib.Core.List.{List, [], ◌++◌}
+use lib.ListN.{length, get_or, take}
+use Rattle.model.specs.Basic.{joined, count_from, up_to}
+use Rattle.model.specs.Text.{bytes}
+use Rattle.model.specs.Sheet.{decimal, line_text}
+use Rattle.theory.proofs.Lists.{joined-next}
+use Rattle.print.specs.Print.{spaced}
+use Rattle.print.specs.Sink.{SinkLaws}
+use Rattle.print.proofs.Laws.{length-room, spaced-next, line-parts, next-room}
+
+module _ {S : Type 0} {end room : S → ℕ} {Puts : List ℕ → S → S → Type 0} (laws : SinkLaws end room Puts) where
+  -- what is left of the room
+  pub room-after : (n : ℕ) {w : List ℕ} {s t : S} → end s + length w + n ≤ room s → Puts w s t → end t + n ≤ room t
+  room-after n h p = omega (arith, laws.ends _ _ _ p, laws.rooms _ _ _ p)
+
+  pub then : {w v : List ℕ} {s t u : S} → Puts w s t → Puts v t u → Puts (w ++ v) s u
+  then p q = laws.more _ _ _ _ _ p q
+
+  -- numbers with a space before each: none, the room of one more, and one more
+  pub spaced_none : (s : S) → end s ≤ room s → Puts (spaced []) s s
+  unfolding joined
+  spaced_none s h = laws.nothing s h
+
+  module _ (l : List ℕ) (i : ℕ) {s t : S} (k : i < length l) (p : Puts (spaced (take i l)) s t) where
+    pub space-room : end s + length (spaced l) ≤ room s → end t + 1 + length (decimal (get_or l i 0)) ≤ room t
+    space-room h = omega (arith, room-after (1 + length (decimal (get_or l i 0))) (omega (arith, length-room l i k)) p)
+
+    pub spaced-more : {u v : S} → Puts (bytes " ") t u → Puts (decimal (get_or l i 0)) u v → Puts (spaced (take (i + 1) l)) s v
+    spaced-more q r = rw (spaced-next l i k) (then p (then q r))
+
+  -- a line
+  pub line-put : (w l : List ℕ) {s t u v : S} → Puts w s t → Puts (spaced l) t u → Puts (bytes ")\n") u v → Puts (line_text w l) s v
+  line-put w l p q r = rw (line-parts w l) (then (then p q) r)
+
+  -- pieces for the numbers below n: none, the room of one more, and one more
+  module _ (g : ℕ → List ℕ) where
+    pub pieces-none : (s : S) → end s ≤ room s → Puts (joined g (up_to 0)) s s
+    unfolding joined count_from
+    pieces-none s h = laws.nothing s h
+
+    pub piece-room : (k n : ℕ) {s t : S} → k < n → end s + length (joined g (up_to n)) ≤ room s → Puts (joined g (up_to k)) s t → end t + length (g k) ≤ room t
+    piece-room k n i h p = room-after (length (g k)) (omega (arith, next-room g k n i)) p
+
+    pub piece-more : (n : ℕ) {s t u : S} → Puts (joined g (up_to n)) s t → Puts (g n) t u → Puts (joined g (up_to (n + 1))) s u
+    piece-more n p q = rw (joined-next g n) (then p q)
