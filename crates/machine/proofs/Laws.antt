@@ -1,16 +1,15 @@
 -- What the loops that move numbers do in one turn, the frame area as a part of the memory, and what the moves return.
-use Prim.Native.Nat.{ℕ, zero, suc, ◌+◌, ◌-◌, ◌%◌, ◌≤◌, ◌<◌, max}
+use Prim.Native.Nat.{ℕ, zero, suc, ◌+◌, ◌-◌, ◌%◌, ◌≤◌, ◌<◌}
 use mathlib.Core.List.{List, [], ◌++◌, append-nil}
 use mathlib.Core.Path.{◌≡◌, refl, ap, sym, ◌∙◌}
 use native.Mathlib.Nat.{mod-add-mod, mod-eq_of_lt, mod-eq-sub-mod, mod-lt, mod_self, add_assoc, add-zero}
 use native.Mathlib.Decide.{dec_lt}
 use native.Mathlib.Numerals.{add-one}
 use native.Mathlib.Omega.{arith}
-use lib.ListN.{length, get_or, set, take, drop, length-drop, take-append-drop, replicate, length-replicate}
+use lib.ListN.{length, get_or, set, take, drop, length-drop, take-append-drop, length-replicate}
 use lib.Seq.{take_all, drop-length, take-set-le, drop-set-add}
 use borrow.Rule.Slice.PartMut.{mid_of, put_mid}
 use Rattle.model.specs.declared.Eviction.{Eviction}
-use Rattle.model.specs.declared.Eviction.TheVariants.{Eager}
 use Rattle.model.specs.Core as core
 use Rattle.model.specs.Core.{Core, written, spilled, filled, reserved, resume_moves, reserve, save, with_cache, filled_with, resume}
 use Rattle.machine.specs.declared.Machine.{Machine}
@@ -148,11 +147,6 @@ does r cache memory to a b p x c d o e =
       blocks = e;
     }
 
--- a machine with 0 writes back all
-pub zero-eager : eviction_of 0 ≡ Eager
-unfolding eviction_of
-zero-eager = refl
-
 -- a fresh machine, whose entry moves nothing
 pub entered : (m : Machine) (x : Eviction) (stack frame numbers : ℕ) → frame ≤ stack → m.st ≡ numbers - frame → m.occupancy ≡ reserved stack frame 0
     → m.pointer ≡ reserved stack frame 0 → eviction_of m.lazy ≡ x → m.top ≡ m.st % stack → Entered x stack frame numbers m
@@ -186,25 +180,6 @@ entered-with m r x y stack frame numbers h a b = record {
       });
   top = b.1 ∙ a.top ∙ ap (λ (c : Core). c.st % stack) (sym (b.0 [] []));
 }
-
--- what is written back, by the number that the machine has
-pub written_all : (n m : ℕ) → (n ≡ written (eviction_of 0) n m) × (n ≤ n)
-unfolding written eviction_of
-written_all n m = (refl, omega arith)
-
-pub written_below : (z n m : ℕ) → (z ≡ 0 → ⊥) → m ≤ n → (m ≡ written (eviction_of z) n m) × (m ≤ n)
-unfolding written eviction_of
-written_below zero n m h k = absurd (h refl)
-written_below (suc z) n m h k = (refl, k)
-
--- what goes out of a preempted task: those to be written back that lie above the lowest live offset
-pub above-lowest : (e m g : ℕ) {e' m' : ℕ} → m ≡ m' → e ≡ e' → g ≡ max m e → g - e ≡ m' - e'
-above-lowest e m g h k l = omega arith
-
--- a cache filled to its end
-pub all-filled : (cache₀ cache : List ℕ) (v i : ℕ) → cache ≡ replicate i v ++ drop i cache₀ → i ≡ length cache₀
-    → cache ≡ replicate (length cache₀) v
-all-filled cache₀ cache v i e g = e ∙ rw (g, drop-length) (append-nil (replicate (length cache₀) v))
 
 -- ---- both halves of a preemption
 

@@ -9,11 +9,11 @@ ghost use Rattle.model.specs.Limits.{most_stack};
 ghost use Rattle.theory.specs.Cores.{with_eviction};
 ghost use Rattle.machine.specs.Moves.{eviction_of, core_of, most_address, OnCache, Good, Does, Preempts, Entered, spilled_area};
 
-use model::Limits;
+use model::{Eviction, Limits};
 
 // Where the stack stands: the stack top ST, its block, how many blocks from ST up are cached, and how many of them lie below LP. The block is kept so
-// that no load and no store divides. lazy: which blocks are written back, all where it is 0, else those below LP. It is a number as the others are, and no
-// enum, for speed.
+// that no load and no store divides. lazy: the eviction as a number, 0 for an eager core. As the enum, whose padding each step copies, it made runs of
+// steps take 2.3 to 3 times as long.
 #[derive(Clone, Copy)]
 pub struct Machine {
     pub st: usize,
@@ -41,6 +41,7 @@ pub struct Preempted {
 // ---- the rules on numbers: s blocks in the cache, n of them occupied, m of them to be written back
 
 // How many are written back when they leave the cache, of n that are cached and m below LP.
+#[tactic(auto, unfolding(model::specs::Core::written, crate::specs::Moves::eviction_of))]
 fn written(lazy: usize, n: usize, m: usize) -> usize
     requires { m ≤ n }
     ensures { (result ≡ core.written (eviction_of lazy) n m) × (result ≤ n) }
@@ -52,44 +53,44 @@ fn reserved(s: usize, k: usize, n: usize) -> usize
     requires { n + k ≤ most_address }
     ensures { result ≡ core.reserved s k n }
 {
-    numbers::smaller_usize(s, n + k)
+    s.min(n + k)
 }
 
 fn reserve_moves(s: usize, k: usize, n: usize) -> usize
     requires { n ≤ s }
     ensures { result ≡ core.reserve_moves s k n }
 {
-    numbers::above_usize(k, s - n)
+    k.saturating_sub(s - n)
 }
 
 fn freed(k: usize, n: usize) -> usize
     ensures { result ≡ core.freed k n }
 {
-    numbers::above_usize(n, k)
+    n.saturating_sub(k)
 }
 
 fn ensured_to(k: usize, n: usize) -> usize
     ensures { result ≡ core.ensured_to k n }
 {
-    numbers::larger_usize(n, k)
+    n.max(k)
 }
 
 fn ensure_moves(k: usize, n: usize) -> usize
     ensures { result ≡ core.ensure_moves k n }
 {
-    numbers::above_usize(k, n)
+    k.saturating_sub(n)
 }
 
 fn saved_from(dead: usize, n: usize) -> usize
     ensures { result ≡ core.saved_from dead n }
 {
-    numbers::smaller_usize(n, dead)
+    n.min(dead)
 }
 
 fn resumed(dead: usize, need: usize, n: usize) -> usize
     ensures { result ≡ core.resumed dead need n }
 {
-    numbers::smaller_usize(n, numbers::larger_usize(dead, need))
+    n.min(dead.max(need))
 }
 
 fn resume_moves(dead: usize, need: usize, n: usize) -> usize
@@ -135,6 +136,7 @@ fn block_next(s: usize, b: usize) -> usize
 }
 
 // The numbers of count offsets from `from` up go to the frame area, which begins at ST. ST has block top.
+#[tactic(auto, unfolding(crate::specs::Moves::spilled_area))]
 fn spill(area: &mut [u32], cache: &[u32], top: usize, from: usize, count: usize)
     requires { (top < length cache.now) × (from ≤ length cache.now) × (length cache.now ≤ most_stack)
         × (from + count ≤ max from (length area.old)) }
@@ -142,26 +144,23 @@ fn spill(area: &mut [u32], cache: &[u32], top: usize, from: usize, count: usize)
 {
     let s = cache.len();
     let mut block = block_after(s, top, from);
-    let mut i = 0;
-    while i < count {
+    for i in 0..count {
         area[from + i] = cache[block];
         block = block_next(s, block);
-        i += 1;
     }
 }
 
 // The numbers of count addresses from a up come to their blocks. a has block first.
+#[tactic(auto, unfolding(model::specs::Core::filled))]
 fn fill(cache: &mut [u32], memory: &[u32], first: usize, a: usize, count: usize)
     requires { (first ≡ a % length cache.old) × (first < length cache.old) × (a + count ≤ max a (length memory.now)) }
     ensures { cache.new ≡ core.filled memory.now cache.old a count }
 {
     let s = cache.len();
     let mut block = first;
-    let mut i = 0;
-    while i < count {
+    for i in 0..count {
         cache[block] = memory[a + i];
         block = block_next(s, block);
-        i += 1;
     }
 }
 
@@ -169,11 +168,7 @@ fn fill(cache: &mut [u32], memory: &[u32], first: usize, a: usize, count: usize)
 pub fn overwrite(cache: &mut [u32], v: u32)
     ensures { cache.new ≡ replicate (length cache.old) v }
 {
-    let mut i = 0;
-    while i < cache.len() {
-        cache[i] = v;
-        i += 1;
-    }
+    cache.fill(v)
 }
 
 // ---- the moves
@@ -191,7 +186,7 @@ impl Machine {
         let st = length - frame as usize;
         let cached = reserved(stack as usize, frame as usize, 0);
         Machine {
-            st: st,
+            st,
             top: block_of(stack as usize, st),
             occupancy: cached,
             pointer: cached,
@@ -200,20 +195,19 @@ impl Machine {
     }
 
     // The same, but for which blocks are written back.
-    pub fn evicting(self, lazy: usize) -> Machine
-        ensures { ((cache memory : List ℕ) → core_of result cache memory ≡ with_eviction (eviction_of lazy) (core_of self cache memory))
+    #[tactic(auto, unfolding(crate::specs::Moves::eviction_of))]
+    pub fn evicting(self, eviction: Eviction) -> Machine
+        ensures { ((cache memory : List ℕ) → core_of result cache memory ≡ with_eviction eviction (core_of self cache memory))
             × (result.top ≡ self.top) }
     {
-        Machine {
-            st: self.st,
-            top: self.top,
-            occupancy: self.occupancy,
-            pointer: self.pointer,
-            lazy: lazy,
+        match eviction {
+            Eviction::Eager => Machine { lazy: 0, ..self },
+            Eviction::Lazy => Machine { lazy: 1, ..self },
         }
     }
 
     // Enters a frame of k blocks. The highest cached addresses are spilled where the cache is too small.
+    #[tactic(auto, unfolding(model::specs::Core::reserve))]
     pub fn reserve(self, cache: &[u32], memory: &mut [u32], k: u32) -> Moved
         requires { OnCache self cache.now × Good (core_of self cache.now memory.old) × (k ≤ self.st) × (k ≤ length cache.now) }
         ensures { Does result cache.now memory.new (core.reserve k (core_of self cache.now memory.old)) }
@@ -221,25 +215,23 @@ impl Machine {
         let s = cache.len();
         let frame = k as usize;
         let st = self.st - frame;
-        let lazy = self.lazy;
-        let blocks = reserve_moves(s, frame, written(lazy, self.occupancy, self.pointer));
+        let blocks = reserve_moves(s, frame, written(self.lazy, self.occupancy, self.pointer));
         let occupancy = reserved(s, frame, self.occupancy);
         let pointer = reserved(s, frame, self.pointer);
         let top = block_before(s, self.top, frame);
         spill(&mut memory[st..], cache, top, s, blocks);
-        Moved {
-            machine: Machine {
-                st: st,
-                top: top,
-                occupancy: occupancy,
-                pointer: pointer,
-                lazy: lazy,
-            },
-            blocks: blocks,
-        }
+        let machine = Machine {
+            st,
+            top,
+            occupancy,
+            pointer,
+            ..self
+        };
+        Moved { machine, blocks }
     }
 
     // Leaves a frame of k blocks.
+    #[tactic(auto, unfolding(model::specs::Core::free))]
     pub fn free(self, cache: &[u32], k: u32) -> Machine
         requires { OnCache self cache.now × (self.st + k ≤ most_address) × (k ≤ length cache.now) }
         ensures { ((memory : List ℕ) → core_of result cache.now memory ≡ core.free k (core_of self cache.now memory))
@@ -250,11 +242,12 @@ impl Machine {
             top: block_after(cache.len(), self.top, k as usize),
             occupancy: freed(k as usize, self.occupancy),
             pointer: freed(k as usize, self.pointer),
-            lazy: self.lazy,
+            ..self
         }
     }
 
     // Fills upward from MT, until at least k blocks are cached. LP stays.
+    #[tactic(auto, unfolding(model::specs::Core::ensure))]
     pub fn ensure(self, cache: &mut [u32], memory: &[u32], k: u32) -> Moved
         requires { OnCache self cache.old × Good (core_of self cache.old memory.now) × (self.st + k ≤ length memory.now) }
         ensures { Does result cache.new memory.now (core.ensure k (core_of self cache.old memory.now)) }
@@ -263,19 +256,15 @@ impl Machine {
         let blocks = ensure_moves(frame, self.occupancy);
         let first = block_after(cache.len(), self.top, self.occupancy);
         fill(cache, memory, first, self.st + self.occupancy, blocks);
-        Moved {
-            machine: Machine {
-                st: self.st,
-                top: self.top,
-                occupancy: ensured_to(frame, self.occupancy),
-                pointer: self.pointer,
-                lazy: self.lazy,
-            },
-            blocks: blocks,
-        }
+        let machine = Machine {
+            occupancy: ensured_to(frame, self.occupancy),
+            ..self
+        };
+        Moved { machine, blocks }
     }
 
     // The number at offset o.
+    #[tactic(auto, unfolding(model::specs::Core::load))]
     pub fn load(self, cache: &[u32], o: u32) -> u32
         requires { OnCache self cache.now × (o ≤ length cache.now) }
         ensures { (memory : List ℕ) → result ≡ core.load o (core_of self cache.now memory) }
@@ -285,6 +274,7 @@ impl Machine {
     }
 
     // Sets the number at offset o, and lifts LP past it if below.
+    #[tactic(auto, unfolding(model::specs::Core::store))]
     pub fn store(self, cache: &mut [u32], o: u32, v: u32) -> Machine
         requires { OnCache self cache.old × (o ≤ length cache.old) }
         ensures { ((memory : List ℕ) → core_of result cache.new memory ≡ core.store o v (core_of self cache.old memory))
@@ -293,32 +283,29 @@ impl Machine {
         let block = block_after(cache.len(), self.top, o as usize);
         cache[block] = v;
         Machine {
-            st: self.st,
-            top: self.top,
-            occupancy: self.occupancy,
-            pointer: numbers::larger_usize(o as usize + 1, self.pointer),
-            lazy: self.lazy,
+            pointer: (o as usize + 1).max(self.pointer),
+            ..self
         }
     }
 
     // The first half of a preemption: the blocks from the lowest live offset up go out, on a lazy core those below LP.
+    #[tactic(auto, unfolding(model::specs::Core::save))]
     pub fn save(self, cache: &[u32], memory: &mut [u32], dead: u32) -> Moved
         requires { OnCache self cache.now × Good (core_of self cache.now memory.old) }
         ensures { Does result cache.now memory.new (core.save dead (core_of self cache.now memory.old)) }
     {
         let st = self.st;
         let live = saved_from(dead as usize, self.occupancy);
-        let lazy = self.lazy;
-        let blocks = numbers::larger_usize(written(lazy, self.occupancy, self.pointer), live)
-            - live;
+        let blocks = written(self.lazy, self.occupancy, self.pointer).saturating_sub(live);
         spill(&mut memory[st..], cache, self.top, live, blocks);
         Moved {
             machine: self,
-            blocks: blocks,
+            blocks,
         }
     }
 
     // Its second half: as many of them come back as the point needs, whatever the cache holds. LP is where they begin.
+    #[tactic(auto, unfolding(model::specs::Core::resume))]
     pub fn resume(self, cache: &mut [u32], memory: &[u32], dead: u32, need: u32) -> Moved
         requires { OnCache self cache.old × Good (core_of self cache.old memory.now) }
         ensures { Does result cache.new memory.now (core.resume dead need (core_of self cache.old memory.now)) }
@@ -327,16 +314,12 @@ impl Machine {
         let blocks = resume_moves(dead as usize, need as usize, self.occupancy);
         let first = block_after(cache.len(), self.top, live);
         fill(cache, memory, first, self.st + live, blocks);
-        Moved {
-            machine: Machine {
-                st: self.st,
-                top: self.top,
-                occupancy: resumed(dead as usize, need as usize, self.occupancy),
-                pointer: live,
-                lazy: self.lazy,
-            },
-            blocks: blocks,
-        }
+        let machine = Machine {
+            occupancy: resumed(dead as usize, need as usize, self.occupancy),
+            pointer: live,
+            ..self
+        };
+        Moved { machine, blocks }
     }
 
     // Both halves, with one other task between them, which leaves v in every block.
@@ -353,11 +336,9 @@ impl Machine {
     {
         let saved = self.save(cache, memory, dead);
         overwrite(cache, v);
-        let aside = saved.machine;
-        let back = aside.resume(cache, memory, dead, need);
-        let machine = back.machine;
+        let back = saved.machine.resume(cache, memory, dead, need);
         Preempted {
-            machine: machine,
+            machine: back.machine,
             out: saved.blocks,
             back: back.blocks,
         }

@@ -4,10 +4,10 @@ use mathlib.Core.List.{List, ◌∷◌}
 use mathlib.Core.Path.{◌≡◌, refl, ap, sym, ◌∙◌}
 use native.Mathlib.Omega.{arith}
 use lib.ListN.{length}
-use Rattle.model.specs.declared.Point.TheVariants.{Call, Ensure}
+use Rattle.model.specs.declared.Point.TheVariants.{Call}
 use Rattle.model.specs.Limits.{most_stack, most_funcs, most_points, most_in_all}
 use Rattle.model.specs.Task.{func}
-use Rattle.model.specs.Core.{Core, effective, reserve, ensure, preempt, filled_with, save_moves, resume_moves}
+use Rattle.model.specs.Core.{Core, effective, reserve, preempt, filled_with, save_moves, resume_moves}
 use Rattle.model.specs.Run.{onwards}
 use Rattle.tables.specs.declared.Header.{Header}
 use Rattle.tables.specs.declared.Span.{Span}
@@ -20,7 +20,7 @@ use Rattle.prices.specs.Prices.{price_of}
 use Rattle.columns.specs.Columns.{dead_column, need_column, Points}
 use Rattle.readout.specs.Sheet.{sheet_in}
 use Rattle.readout.proofs.Read.{lies-there, dead-there, need-there}
-use Rattle.bounds.specs.Bounds.{cost_bounds, fill_bounds, spill_bounds, bounds_end}
+use Rattle.bounds.specs.Bounds.{cost_bounds, spill_bounds, bounds_end}
 use Rattle.machine.specs.declared.Moved.{Moved}
 use Rattle.machine.specs.declared.Preempted.{Preempted}
 use Rattle.machine.specs.Moves as machine
@@ -84,20 +84,8 @@ enters-does price h x e w w' cache memory memory' g v i l u k n b m y z a d =
     call-does (price_of price) x _ w w' cache memory' g _ _ _ i l u a refl k refl (d.core ∙ ap (λ (z : ℕ). (reserve z c).core) n) d.on refl
     (added-as _ _ _ _ y (m ∙ ap (λ (z : ℕ). price_of price z + price_of price 0) (d.blocks ∙ ap (λ (z : ℕ). (reserve z c).blocks) n))) (added-as _ _ _ _ z b)
 
--- an ensure, and a preemption, with the figures of the point
+-- a preemption, with the figures of the point
 module _ (price : Price) (h : Header) (x : State) (w cache memory cache' : List ℕ) (v : ℕ) (some : 0 < x.depth) where
-  pub ensure-does : (e : Moved) {p bound cost moved allowed : ℕ} (k : ℕ) → p ≡ suc x.p → bound ≡ ((sheet_in price w h).at x.f x.p).fill
-      → cost ≡ price_of price 0 + price_of price e.blocks → Added x.moved cost moved → Added x.allowed bound allowed
-      → machine.Does e cache' memory (ensure k (core_of x.machine cache memory))
-      → StepsIn price w h x (Ensure k) v cache memory
-      (record {
-        state = record { depth = x.depth; f = x.f; p = p; machine = e.machine; moved = moved; allowed = allowed };
-        answer = 0;
-      }) w cache' memory
-  ensure-does e k j b m y z d =
-      moved_does (price_of price) x _ _ _ _ _ w cache' memory _ some refl refl j d.core d.on refl
-      (added-as _ _ _ _ y (m ∙ ap (λ (z : ℕ). price_of price 0 + price_of price z) d.blocks)) (added-as _ _ _ _ z b)
-
   pub preempt-does : (e : Preempted) (memory' : List ℕ) {dead need bound cost moved allowed : ℕ} → dead ≡ ((sheet_in price w h).at x.f x.p).dead
       → need ≡ ((sheet_in price w h).at x.f x.p).need → bound ≡ ((sheet_in price w h).at x.f x.p).cost
       → cost ≡ price_of price e.out + price_of price e.back → Added x.moved cost moved → Added x.allowed bound allowed
@@ -143,9 +131,6 @@ module _ {price : Price} {w : List ℕ} {h : Header} {x : State} {s : Span} (k :
 
   pub cost-inside : {n : ℕ} → n ≡ item w (cost_bounds + s.base + x.p) → n ≡ ((sheet_in price w h).at x.f x.p).cost
   cost-inside e = e ∙ column-inside k.bounded.cost
-
-  pub fill-inside : {n : ℕ} → n ≡ item w (fill_bounds + s.base + x.p) → n ≡ ((sheet_in price w h).at x.f x.p).fill
-  fill-inside e = e ∙ column-inside k.bounded.fill
 
 module _ {price : Price} {w : List ℕ} {h : Header} {x : State} {cache memory : List ℕ} {f g : ℕ} (k : Enters price w h x cache memory g) (e : f ≡ g) where
   pub callee-frame : {s : Span} → s ≡ span_at w f → s.frame ≡ (func (task_of w h) g).frame

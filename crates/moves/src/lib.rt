@@ -37,19 +37,17 @@ pub fn call_step(
     ensures { ((v : ℕ) → StepsIn price work.old h x (Call g) v cache.now memory.old
         result work.new cache.now memory.new) × Stays work.old work.new }
 {
-    let f = numbers::wide(g);
+    let f = g as usize;
     let callee = tables::span_at(work, f);
     let bound = work[Bounds::SPILL + f];
     steps::put_caller(work, x.depth - 1, x.f, x.p + 1);
-    let machine = x.machine;
-    let moved = machine.reserve(cache, memory, callee.frame);
-    let entered = moved.machine;
+    let moved = x.machine.reserve(cache, memory, callee.frame);
     let cost = prices::moves_price(price, moved.blocks, 0);
     let state = State {
         depth: x.depth + 1,
         f,
         p: 0,
-        machine: entered,
+        machine: moved.machine,
         moved: added(x.moved, cost),
         allowed: added(x.allowed, bound),
     };
@@ -72,17 +70,14 @@ pub fn ensure_step(
         result work.now cache.new memory.now }
 {
     let bound = columns::figure_at(work, Bounds::FILL, s, x.p);
-    let machine = x.machine;
-    let moved = machine.ensure(cache, memory, k);
-    let filled = moved.machine;
+    let moved = x.machine.ensure(cache, memory, k);
     let cost = prices::moves_price(price, 0, moved.blocks);
     let state = State {
-        depth: x.depth,
-        f: x.f,
         p: x.p + 1,
-        machine: filled,
+        machine: moved.machine,
         moved: added(x.moved, cost),
         allowed: added(x.allowed, bound),
+        ..x
     };
     Turned { state, answer: 0 }
 }
@@ -105,17 +100,13 @@ pub fn preempt(
     let dead = columns::figure_at(work, Columns::DEAD, s, x.p);
     let need = columns::figure_at(work, Columns::NEED, s, x.p);
     let bound = columns::figure_at(work, Bounds::COST, s, x.p);
-    let machine = x.machine;
-    let back = machine.preempt(cache, memory, dead, need, v);
-    let resumed = back.machine;
-    let cost = prices::moves_price(price, back.out, back.back);
+    let moved = x.machine.preempt(cache, memory, dead, need, v);
+    let cost = prices::moves_price(price, moved.out, moved.back);
     let state = State {
-        depth: x.depth,
-        f: x.f,
-        p: x.p,
-        machine: resumed,
+        machine: moved.machine,
         moved: added(x.moved, cost),
         allowed: added(x.allowed, bound),
+        ..x
     };
     Turned { state, answer: 0 }
 }

@@ -2,25 +2,22 @@
 use Prim.Native.Nat.{ℕ, ◌+◌, ◌*◌, ◌/◌, ◌%◌, ◌≤◌, ◌<◌}
 use mathlib.Core.List.{List}
 use mathlib.Core.Option.{Option, none, some}
+use Rattle.std.proofs.Common.{Ok, Err}
 use mathlib.Core.Path.{◌≡◌, refl, ap, sym, subst, ◌∙◌}
 use native.Mathlib.Omega.{arith}
 use lib.ListN.{length, drop, get_or, set}
 use Rattle.model.specs.declared.Eviction.{Eviction}
 use Rattle.model.specs.declared.Refusal.{Refusal}
-use Rattle.model.specs.declared.Verdict.{Verdict}
-use Rattle.model.specs.declared.Verdict.TheVariants as verdict
 use Rattle.model.specs.declared.Ending.{Ending}
 use Rattle.model.specs.declared.Ending.TheVariants.{AllDone, Refused}
 use Rattle.model.specs.declared.RunResult.{RunResult}
 use Rattle.model.specs.Limits.{most_event_numbers}
-use Rattle.model.specs.Rows.{row_verdict}
 use Rattle.model.specs.Task.{Task, count}
 use Rattle.model.specs.Core.{Core, reserve, idle}
 use Rattle.model.specs.Refusal.{event_rows}
 use Rattle.model.specs.Plain.{events_of, running, after_event}
 use Rattle.model.specs.Run as run
 use Rattle.model.specs.Run.{running_place, turn, event_bound}
-use Rattle.theory.proofs.Search.{verdict-none, verdict-some}
 use Rattle.theory.proofs.Frames.{running-same}
 use Rattle.theory.proofs.Fair.{ran-main, allowed-main}
 use Rattle.tables.specs.declared.Header.{Header}
@@ -35,7 +32,8 @@ use Rattle.steps.specs.declared.State.{State}
 use Rattle.steps.specs.declared.Turned.{Turned}
 use Rattle.steps.specs.Frames.{frames_end, frames_of, eviction_at, state_of, turn_of}
 use Rattle.steps.specs.Steps.{most_part, Counts}
-use Rattle.turns.specs.Turns.{Runs, model_turn, Turns, act_of, Started}
+use Rattle.turns.specs.Turns.{Runs, model_turn, Turns, act_of, act_in, Decodes, Started}
+use Rattle.turns.specs.declared.Event.{Event}
 use Rattle.turns.proofs.Kept.{goes_on_lem, begins, accepted-runs}
 use Rattle.run.specs.Events.{Fitting, ran_on, allowed_on, ended_with, ServesIn}
 use Rattle.run.proofs.Going.{next-event, no-event, Ended, Going, going_start, going_end, going-off, going_on}
@@ -112,60 +110,65 @@ module _ {y : Eviction} {price : Price} {h : Header} {events buffer cache₀ mem
 
     -- no event is left
     pub loops-end : {q : RunResult} → length events % 2 ≡ 0 → length events / 2 ≤ length buffer → i ≡ length events / 2
-        → q ≡ ended_with AllDone i x.moved x.allowed
+        → q ≡ ended_with AllDone (length events / 2) x.moved x.allowed
         → ServesIn y price h events buffer cache₀ memory₀ w₀ q answers cache memory w
     loops-end p b e k =
-        served k
+        served (k ∙ ap (λ (n : ℕ). ended_with AllDone n x.moved x.allowed) (sym e))
         (going_end (task_of w₀ h) (sheet_in price w₀ h) _ _ _ _ _ _ _ _ _ (omega arith) (rw (no-event events i p (omega arith)) at l.going))
 
-    -- a row refuses the next event
-    pub loops-off : {q : RunResult} {v : Verdict} (r : Refusal) → i < length events / 2 → length events / 2 ≤ length buffer
-        → v ≡ verdict.Refused r
-        → v ≡ row_verdict (event_rows i (get_or events (2 * i) 0) (get_or events (2 * i + 1) 0) (running_place (task_of w h) (frames_of w x)))
-        → q ≡ ended_with (Refused r) i x.moved x.allowed
-        → ServesIn y price h events buffer cache₀ memory₀ w₀ q answers cache memory w
-    loops-off r b k n e j =
-        served j
-        (going-off (task_of w₀ h) (sheet_in price w₀ h) _ _ _ _ _ _ _ _ _ _ _ place_same (omega arith) r
-        (row-lent (get_or events (2 * i) 0) (get_or events (2 * i + 1) 0) (some r) (verdict-some _ (sym e ∙ n)))
-        (rw (next-event events i b) at l.going))
+    abbrev kind : ℕ
+    kind = get_or events (2 * i) 0
 
-    -- the next event can be done
-    pub loops-more : (kind value : ℕ) {v : Verdict} → i ≤ most_event_numbers → v ≡ verdict.Accepted → v ≡ row_verdict (event_rows i kind value (running_place (task_of w h) (frames_of w x)))
-        → Runs price w h x cache memory × (0 < x.depth) × Counts x
-    loops-more kind value k n e = (
-      l.runs,
-      accepted-runs (task_of w h) w x.depth x.f x.p i kind value (verdict-none _ (sym e ∙ n)),
-      record { moved = omega (arith, l.small); allowed = omega (arith, l.little) },
-    )
+    abbrev value : ℕ
+    value = get_or events (2 * i + 1) 0
 
-    -- the next event is done
-    pub loops-on : {v : Verdict} {r : Turned} {w' cache' memory' : List ℕ} → i < length events / 2 → length events / 2 ≤ length buffer
-        → v ≡ verdict.Accepted
-        → v ≡ row_verdict (event_rows i (get_or events (2 * i) 0) (get_or events (2 * i + 1) 0) (running_place (task_of w h) (frames_of w x)))
-        → Turns price w h x cache memory (act_of (get_or events (2 * i) 0) (get_or events (2 * i + 1) 0)) r w' cache' memory'
-        → Loops y price h events buffer cache₀ memory₀ w₀ (i + 1) r.state (set answers i r.answer) cache' memory' w'
-    loops-on {r = r} {w' = w'} {cache' = cache'} {memory' = memory'} b k o e u =
-        let t = task_of w₀ h in
-        let d = act_of (get_or events (2 * i) 0) (get_or events (2 * i + 1) 0) in
-        let n = row-lent (get_or events (2 * i) 0) (get_or events (2 * i + 1) 0) none (verdict-none _ (sym e ∙ o)) in
-        let j = goes_on_lem l.runs u in
-        let fs : j.runs.frames ≡ after_event t l.runs.frames d = j.frames ∙ ap (λ (z : Task). after_event z l.runs.frames d) l.task in
-        let sheet = sheet_in price w₀ h in
-        let v = turn t sheet (state_of w x cache memory) d in
-        let same : model_turn price w h x cache memory d ≡ v = λ z. turn (l.task z) (l.sheet z) (state_of w x cache memory) d in
-        let p = subst (λ (z : run.Turn). turn_of w' r z.out z.back cache' memory' ≡ z) same u.turn in
-        let c = u.moved.0 ∙ ap (λ (z : run.Turn). x.moved + (price_of price z.out + price_of price z.back)) same in
-        let q = j.bound.0 ∙ (λ z. x.allowed + event_bound (l.task z) (l.sheet z) l.runs.frames d) in
-        let g = rw (next-event events i b) at l.going in
-        record {
-          runs = j.runs;
-          task = j.task ∙ l.task;
-          sheet = j.sheet ∙ l.sheet;
-          kept = kept_on l.kept u.stays.kept;
-          going = rw fs
-              (going_on t sheet _ _ _ _ _ _ _ _ _ _ _ place_same n (omega arith) g (turn_of w' r v.out v.back cache' memory')
-              r.state.moved r.state.allowed p c q);
-          small = omega (arith, l.small, u.moved.1);
-          little = omega (arith, l.little, j.bound.1);
-        }
+    -- what the next event was decoded to
+    module _ (b : i < length events / 2) (k : length events / 2 ≤ length buffer) where
+      -- a row refuses it
+      pub loops-off : {q : RunResult} (r : Refusal)
+          → Decodes i kind value (running_place (task_of w h) (frames_of w x)) (Err r)
+          → q ≡ ended_with (Refused r) i x.moved x.allowed → ServesIn y price h events buffer cache₀ memory₀ w₀ q answers cache memory w
+      loops-off r e j =
+          served j
+          (going-off (task_of w₀ h) (sheet_in price w₀ h) _ _ _ _ _ _ _ _ _ _ _ place_same (omega arith) r
+          (row-lent kind value (some r) e)
+          (rw (next-event events i b) at l.going))
+
+      module _ (e : Event)
+          (d : Decodes i kind value (running_place (task_of w h) (frames_of w x)) (Ok e)) where
+        -- it can be done
+        pub loops-more : i ≤ most_event_numbers → Runs price w h x cache memory × (0 < x.depth) × Counts x
+        loops-more m = (
+          l.runs,
+          accepted-runs (task_of w h) w x.depth x.f x.p i _ _ d.0,
+          record { moved = omega (arith, l.small); allowed = omega (arith, l.little) },
+        )
+
+        -- it is done
+        pub loops-on : {r : Turned} {w' cache' memory' : List ℕ} → Turns price w h x cache memory (act_in e) r w' cache' memory'
+            → Loops y price h events buffer cache₀ memory₀ w₀ (i + 1) r.state (set answers i r.answer) cache' memory' w'
+        loops-on {r = r} {w' = w'} {cache' = cache'} {memory' = memory'} u₀ =
+            let t = task_of w₀ h in
+            let d' = act_of kind value in
+            let u = rw d.1 at u₀ in
+            let n = row-lent kind value none d.0 in
+            let j = goes_on_lem l.runs u in
+            let fs : j.runs.frames ≡ after_event t l.runs.frames d' = j.frames ∙ ap (λ (z : Task). after_event z l.runs.frames d') l.task in
+            let sheet = sheet_in price w₀ h in
+            let v = turn t sheet (state_of w x cache memory) d' in
+            let same : model_turn price w h x cache memory d' ≡ v = λ z. turn (l.task z) (l.sheet z) (state_of w x cache memory) d' in
+            let p = subst (λ (z : run.Turn). turn_of w' r z.out z.back cache' memory' ≡ z) same u.turn in
+            let c = u.moved.0 ∙ ap (λ (z : run.Turn). x.moved + (price_of price z.out + price_of price z.back)) same in
+            let q = j.bound.0 ∙ (λ z. x.allowed + event_bound (l.task z) (l.sheet z) l.runs.frames d') in
+            let g = rw (next-event events i b) at l.going in
+            record {
+              runs = j.runs;
+              task = j.task ∙ l.task;
+              sheet = j.sheet ∙ l.sheet;
+              kept = kept_on l.kept u.stays.kept;
+              going = rw fs
+                  (going_on t sheet _ _ _ _ _ _ _ _ _ _ _ place_same n (omega arith) g (turn_of w' r v.out v.back cache' memory')
+                  r.state.moved r.state.allowed p c q);
+              small = omega (arith, l.small, u.moved.1);
+              little = omega (arith, l.little, j.bound.1);
+            }

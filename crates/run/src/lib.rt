@@ -5,7 +5,7 @@
 ghost use Rattle.std.specs.Prelude.{◌≡◌};
 ghost use Rattle.run.specs.Events.{Fitting, ended_with, ServesIn};
 
-use model::{Ending, Eviction, RunResult, Verdict};
+use model::{Ending, Eviction, RunResult};
 use prices::Price;
 use tables::Header;
 
@@ -37,19 +37,15 @@ pub fn run_events(
 {
     let mut x = turns::start(work, h, eviction, memory.len());
     let count = events.len() / 2;
-    let mut i: usize = 0;
-    while i < count {
+    for i in 0..count {
         let done = i as u32;
-        let kind = events[2 * i];
-        let value = events[2 * i + 1];
-        if let Verdict::Refused(r) = turns::event_row(work, h, x, done, kind, value) {
-            return ended(Ending::Refused(r), done, x.moved, x.allowed);
-        }
-        let turned = turns::turn(work, h, price, x, cache, memory, kind, value);
+        let event = match turns::decode(work, h, x, done, events[2 * i], events[2 * i + 1]) {
+            Ok(event) => event,
+            Err(r) => return ended(Ending::Refused(r), done, x.moved, x.allowed),
+        };
+        let turned = turns::turn(work, h, price, x, cache, memory, event);
         answers[i] = turned.answer;
-        let next = turned.state;
-        x = next;
-        i += 1;
+        x = turned.state;
     }
-    ended(Ending::AllDone, i as u32, x.moved, x.allowed)
+    ended(Ending::AllDone, count as u32, x.moved, x.allowed)
 }

@@ -11,12 +11,11 @@ use borrow.Author.Tests.{eq-eqb, ne_eqb, lt-leb, le-leb}
 use Rattle.model.specs.declared.Eviction.{Eviction}
 use Rattle.model.specs.declared.Row.TheVariants.{EventList, AnswersTooSmall, CacheSize, MemoryTooSmall, AfterFinish}
 use Rattle.model.specs.declared.Refusal.{Refusal}
-use Rattle.model.specs.declared.Verdict.{Verdict}
-use Rattle.model.specs.declared.Verdict.TheVariants.{Accepted, Refused}
+use Rattle.std.proofs.Common.{Result, Ok, Err}
 use Rattle.model.specs.declared.RunResult.{RunResult}
 use Rattle.model.specs.Limits.{work_length, most_event_numbers}
 use Rattle.model.specs.Basic.{unless, ◌or_else◌}
-use Rattle.model.specs.Rows.{refuse, row_verdict}
+use Rattle.model.specs.Rows.{Verdict, refuse, row_verdict}
 use Rattle.model.specs.Task.{Task, count, Judged, refused, task}
 use Rattle.model.specs.Core.{idle}
 use Rattle.model.specs.Figures.{longest}
@@ -48,36 +47,12 @@ use Rattle.figures.specs.Figured.{Figured}
 use Rattle.bounds.specs.Bounds.{Bounded, OnlyBounds}
 use Rattle.bounds.proofs.Laws.{only-task, only-sheet}
 use Rattle.run.specs.Events.{Fitting, Serves, ServesIn}
-use Rattle.judge.specs.declared.Judgement.{Judgement}
 use Rattle.judge.specs.Judgement.{judged_in}
 use Rattle.serving.specs.Served.{Lent}
 use Rattle.running.specs.Performs.{buffer_rows, none_done, finished_before, Performs}
 use Rattle.serving.proofs.Laws.{own-rows}
 
--- ---- 16, 17 and 18 by their tests
-
-module _ (e a c n s : ℕ) {v : Verdict} where
-  pub odd-list : (e % 2 ≡ 0 → ⊥) → v ≡ Refused (refuse EventList 0) → v ≡ row_verdict (buffer_rows e a c n s)
-  odd-list p i = rw (ne_eqb (e % 2) 0 p) i
-
-  module _ (p : e % 2 ≡ 0) where
-    pub long-list : most_event_numbers < e → v ≡ Refused (refuse EventList 0) → v ≡ row_verdict (buffer_rows e a c n s)
-    long-list h i = rw (eq-eqb (e % 2) 0 p, lt-leb e most_event_numbers h) i
-
-    module _ (h : e ≤ most_event_numbers) where
-      pub few-answers : a < e / 2 → v ≡ Refused (refuse AnswersTooSmall (e / 2)) → v ≡ row_verdict (buffer_rows e a c n s)
-      few-answers k i = rw (eq-eqb (e % 2) 0 p, le-leb e most_event_numbers h, lt-leb (e / 2) a k) i
-
-      module _ (k : e / 2 ≤ a) where
-        pub any-cache : n ≡ 0 → v ≡ Accepted → v ≡ row_verdict (buffer_rows e a c n s)
-        any-cache z i = rw (eq-eqb (e % 2) 0 p, le-leb e most_event_numbers h, le-leb (e / 2) a k, eq-eqb n 0 z) i
-
-        module _ (z : n ≡ 0 → ⊥) where
-          pub other-cache : (c ≡ s → ⊥) → v ≡ Refused (refuse CacheSize s) → v ≡ row_verdict (buffer_rows e a c n s)
-          other-cache j i = rw (eq-eqb (e % 2) 0 p, le-leb e most_event_numbers h, le-leb (e / 2) a k, ne_eqb n 0 z, ne_eqb c s j) i
-
-          pub buffers-pass : c ≡ s → v ≡ Accepted → v ≡ row_verdict (buffer_rows e a c n s)
-          buffers-pass j i = rw (eq-eqb (e % 2) 0 p, le-leb e most_event_numbers h, le-leb (e / 2) a k, ne_eqb n 0 z, eq-eqb c s j) i
+-- ---- 16, 17 and 18
 
 -- buffers that they do not refuse
 record Pass (e a c n s : ℕ) : Type 0 where
@@ -100,12 +75,6 @@ passes e a c n s o =
     }
 
 -- ---- a run that has finished before the first event
-
-pub none-to-do : (e : ℕ) {r : RunResult} → e ≡ 0 → r ≡ nothing_done none → r ≡ finished_before e
-none-to-do e z i = rw (eq-eqb e 0 z) i
-
-pub first-refused : (e : ℕ) {r : RunResult} → (e ≡ 0 → ⊥) → r ≡ none_done (refuse AfterFinish 0) → r ≡ finished_before e
-first-refused e z i = rw (ne_eqb e 0 z) i
 
 -- as the model has it
 finished-after : (events work answers cache memory : List ℕ) → length events % 2 ≡ 0
@@ -143,25 +112,25 @@ pub first-room : (price : Price) (w : List ℕ) (h : Header) {t : Task} {k : Fun
 unfolding func_figures
 first-room price w h g same = ap (λ (z : FuncFigures). z.longest) g ∙ ap (λ (z : Task). longest z 0) same
 
--- the run of an accepted task of n functions, where v is the verdict of 16, 17 and 18
+-- the run of an accepted task of n functions
 module _ (x : Eviction) (rows : Task → Option Refusal) (sheet : Task → Sheet) (t : Task) (passed : rows t ≡ none) {n : ℕ} (c : count t ≡ n)
-    (events answers cache memory : List ℕ) {v : Verdict}
-    (e : v ≡ row_verdict (buffer_rows (length events) (length answers) (length cache) n t.stack)) where
-  pub unfit : {q : Refusal} {r : RunResult} (w : List ℕ) → v ≡ Refused q → r ≡ none_done q
-      → Performs x rows sheet (task t) w events answers cache memory r w answers cache memory
-  unfit {q = q} w o i =
+    (events answers cache memory : List ℕ) where
+  -- one of 16, 17 and 18 refuses it
+  pub unfit : {q : Refusal} (w : List ℕ) → Err q ≡ row_verdict (buffer_rows (length events) (length answers) (length cache) n t.stack)
+      → Performs x rows sheet (task t) w events answers cache memory (none_done q) w answers cache memory
+  unfit {q = q} w e =
+      let m = verdict-some (buffer_rows (length events) (length answers) (length cache) n t.stack) (sym e) in
       record {
-        left = λ work.
-            rw (passed, rows-found (length events) (length answers) (length cache) (length memory) n t c (some q) (verdict-some _ (sym e ∙ o)))
-            (ap (λ (z : RunResult). after_run z work answers cache memory) i);
+        left = λ work. rw (passed, rows-found (length events) (length answers) (length cache) (length memory) n t c (some q) m) refl;
         after = refl;
       }
 
   -- there is no function 0
-  pub all_finished : {r : RunResult} (w : List ℕ) → v ≡ Accepted → n ≡ 0 → r ≡ finished_before (length events)
+  pub all_finished : {r : RunResult} (w : List ℕ) → Ok tt ≡ row_verdict (buffer_rows (length events) (length answers) (length cache) n t.stack) → n ≡ 0
+      → r ≡ finished_before (length events)
       → Performs x rows sheet (task t) w events answers cache memory r w answers cache memory
-  all_finished w o z i =
-      let m : buffer_rows (length events) (length answers) (length cache) n t.stack ≡ none = verdict-none _ (sym e ∙ o) in
+  all_finished w e z i =
+      let m = verdict-none (buffer_rows (length events) (length answers) (length cache) n t.stack) (sym e) in
       let p = passes (length events) (length answers) (length cache) n t.stack m in
       record {
         left = λ work.
@@ -173,24 +142,24 @@ module _ (x : Eviction) (rows : Task → Option Refusal) (sheet : Task → Sheet
       }
 
   -- room: D of function 0, as it was read
-  module _ (o : v ≡ Accepted) {room : ℕ} (room-is : room ≡ longest t 0) where
+  module _ (e : Ok tt ≡ row_verdict (buffer_rows (length events) (length answers) (length cache) n t.stack)) {room : ℕ} (room-is : room ≡ longest t 0) where
     rows_are : run_rows (length events) (length answers) (length cache) (length memory) t
         ≡ unless (leb (longest t 0) (length memory)) (refuse MemoryTooSmall (longest t 0))
-    rows_are = rows-found (length events) (length answers) (length cache) (length memory) n t c none (verdict-none _ (sym e ∙ o))
+    rows_are = rows-found (length events) (length answers) (length cache) (length memory) n t c none (verdict-none (buffer_rows (length events) (length answers) (length cache) n t.stack) (sym e))
 
-    module _ {w w' : List ℕ} {r : RunResult} (after : cleared work_length w' ≡ cleared work_length w) where
-      pub too-little : length memory < room → r ≡ none_done (refuse MemoryTooSmall room)
-          → Performs x rows sheet (task t) w events answers cache memory r w' answers cache memory
-      too-little h i =
+    module _ {w w' : List ℕ} (after : cleared work_length w' ≡ cleared work_length w) where
+      pub too-little : length memory < room
+          → Performs x rows sheet (task t) w events answers cache memory (none_done (refuse MemoryTooSmall room)) w' answers cache memory
+      too-little h =
           let l : length memory < longest t 0 = omega (arith, room-is) in
           record {
             left = λ work. rw (passed, rows_are, lt-leb (longest t 0) (length memory) l)
-                (ap (λ (z : RunResult). after_run z work answers cache memory) (i ∙ ap (λ (z : ℕ). none_done (refuse MemoryTooSmall z)) room-is));
+                (ap (λ (z : ℕ). after_run (none_done (refuse MemoryTooSmall z)) work answers cache memory) room-is);
             after = after;
           }
 
       -- t'': the task as its events are run
-      pub all-run : {t'' : Task} {w'' answers' cache' memory' : List ℕ} → t'' ≡ t → room ≤ length memory
+      pub all-run : {r : RunResult} {t'' : Task} {w'' answers' cache' memory' : List ℕ} → t'' ≡ t → room ≤ length memory
           → Serves x t'' (sheet t'') events answers cache memory w' r answers' cache' memory' w''
           → cleared work_length w'' ≡ cleared work_length w' → Performs x rows sheet (task t) w events answers cache memory r w'' answers' cache' memory'
       all-run i h s d =
@@ -230,13 +199,13 @@ module _ {price : Price} (w : List ℕ) {w' : List ℕ} {h : Header} (f : Figure
       (subst (λ (s : Sheet). Agree (task_of w h) s (priced_sheet (price_of price) (task_of w h))) (sym (only-sheet f.readable o)) f.agree)
 
   -- what the run of the events asks for
-  pub fits : 0 < h.funcs → (events answers cache memory : List ℕ) {v : Verdict} {k : FuncFigures}
-      → v ≡ row_verdict (buffer_rows (length events) (length answers) (length cache) h.funcs h.stack) → v ≡ Accepted
+  pub fits : 0 < h.funcs → (events answers cache memory : List ℕ) {k : FuncFigures}
+      → Ok tt ≡ row_verdict (buffer_rows (length events) (length answers) (length cache) h.funcs h.stack)
       → k ≡ func_figures price w h 0
       → k.longest ≤ length memory → Fitting price w' h events answers cache memory
   unfolding func_figures
-  fits some-func events answers cache memory e n g l =
-      let p = passes (length events) (length answers) (length cache) h.funcs h.stack (verdict-none _ (sym e ∙ n)) in
+  fits some-func events answers cache memory e g l =
+      let p = passes (length events) (length answers) (length cache) h.funcs h.stack (verdict-none (buffer_rows (length events) (length answers) (length cache) h.funcs h.stack) (sym e)) in
       let m = b.readable.settled.formed in
       record {
         bounded = b;
@@ -263,7 +232,7 @@ none-run x rows sheet q w events answers cache memory = record { left = λ work.
 
 -- the service, whose working space is l in the end
 module _ {x : Eviction} {first : Option Refusal} {rows : Task → Option Refusal} {sheet : Task → Sheet}
-    {text w w' w'' events answers cache memory answers' cache' memory' l : List ℕ} {j : Judgement} {r : RunResult} (a : Lent work_length first text w j w')
+    {text w w' w'' events answers cache memory answers' cache' memory' l : List ℕ} {j : Result Header Refusal} {r : RunResult} (a : Lent work_length first text w j w')
     (b : Performs x rows sheet (judged_in w' j) w' events answers cache memory r w'' answers' cache' memory') (c : l ≡ cleared work_length w'') where
   pub run-left : after_run r l answers' cache' memory' ≡ run_with x sheet first rows text w events answers cache memory
   unfolding run_with run_judged

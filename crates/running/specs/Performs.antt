@@ -1,5 +1,5 @@
 -- 16, 17 and 18; what run returns where it does no event; and what it returns and leaves of a text that is judged.
-use Rattle.std.specs.Prelude.{ℕ, ◌/◌, ◌%◌, ◌&&◌, ◌||◌, ◌≡◌, List, eqb, leb, length}
+use Rattle.std.specs.Prelude.{ℕ, ◌/◌, ◌%◌, ◌&&◌, ◌||◌, ◌≡◌, List, eqb, leb, length, Result, Ok, Err}
 use Rattle.std.proofs.Math.Option.{Option, some}
 use Rattle.model.specs.declared.Eviction.{Eviction}
 use Rattle.model.specs.declared.Refusal.{Refusal}
@@ -25,6 +25,11 @@ buffer_rows events answers cache funcs stack =
 -- a refusal before the first event
 abbrev pub none_done : Refusal → RunResult
 none_done r = nothing_done (some r)
+
+-- what run returns, where a row may refuse before the first event
+abbrev pub or_none : Result RunResult Refusal → RunResult
+or_none (Ok r) = r
+or_none (Err q) = none_done q
 
 -- a task that has finished before the first event, over an event list of so many numbers
 abbrev pub finished_before : ℕ → RunResult

@@ -4,44 +4,33 @@
 ghost use Rattle.std.specs.Prelude.{◌≡◌, ◌≤◌, length};
 ghost use Rattle.model.specs.Limits.{work_length};
 ghost use Rattle.model.specs.Rows.{row_verdict};
-ghost use Rattle.model.specs.Task.{task};
 ghost use Rattle.model.specs.Sheet.{priced_sheet};
 ghost use Rattle.model.specs.Refusal.{no_rows};
-ghost use Rattle.tables.specs.Tables.{task_of};
-ghost use Rattle.tables.specs.Valid.{Settled};
-ghost use Rattle.prices.specs.Prices.{price_of, Small};
+ghost use Rattle.prices.specs.Prices.{price_of};
 ghost use Rattle.judge.specs.Judgement.{judged_in};
 ghost use Rattle.serving.specs.Served.{ReadyAt};
-ghost use Rattle.running.specs.Performs.{buffer_rows, none_done, finished_before, Performs};
+ghost use Rattle.running.specs.Performs.{buffer_rows, none_done, finished_before, or_none, Performs};
 
-use judge::Judgement;
 use model::{Ending, Eviction, Limits, Refusal, Row, RunResult, Verdict};
 use prices::Price;
+use readout::Sheet;
 use tables::Header;
 
 // 16, 17 and 18, for buffers of these lengths. A task without a stack takes any cache.
 fn buffer_row(events: usize, answers: usize, cache: usize, h: Header) -> Verdict
     ensures { result ≡ row_verdict (buffer_rows events answers cache h.funcs h.stack) }
 {
-    if events % 2 != 0 {
-        return serving::refusal(Row::EventList, 0);
-    }
-    if Limits::EVENT_NUMBERS < events {
+    if events % 2 != 0 || Limits::EVENT_NUMBERS < events {
         return serving::refusal(Row::EventList, 0);
     }
     let count = events / 2;
-    let place = count as u32;
-    let blocks = h.stack as usize;
     if answers < count {
-        return serving::refusal(Row::AnswersTooSmall, place);
+        return serving::refusal(Row::AnswersTooSmall, count as u32);
     }
-    if h.funcs == 0 {
-        return Verdict::Accepted;
-    }
-    if cache != blocks {
+    if h.funcs != 0 && cache != h.stack as usize {
         return serving::refusal(Row::CacheSize, h.stack);
     }
-    Verdict::Accepted
+    Ok(())
 }
 
 // A refusal before the first event.
@@ -74,8 +63,9 @@ fn finished(events: usize) -> RunResult
     })
 }
 
-// 16 to 19, or the run of the task that the tables hold, on the core that evicts so.
+// The refusal of what was judged, one of 16 to 19, or the run of the task that the tables hold, on the core that evicts so.
 fn run_task(
+    judged: Result<Header, Refusal>,
     eviction: Eviction,
     price: Price,
     events: &[u32],
@@ -83,34 +73,38 @@ fn run_task(
     cache: &mut [u32],
     memory: &mut [u32],
     work: &mut [u32],
-    h: Header,
-) -> RunResult
-    requires { Settled work.old h × (work_length ≤ length work.old) × Small price }
-    ensures { Performs eviction no_rows (priced_sheet (price_of price)) (task (task_of work.old h)) work.old events.now
-        answers.old cache.old memory.old result work.new answers.new cache.new memory.new }
+) -> Result<RunResult, Refusal>
+    requires { ReadyAt work_length price work.old judged }
+    ensures { Performs eviction no_rows (priced_sheet (price_of price)) (judged_in work.old judged) work.old events.now
+        answers.old cache.old memory.old (or_none result) work.new answers.new cache.new memory.new }
 {
-    if let Verdict::Refused(r) = buffer_row(events.len(), answers.len(), cache.len(), h) {
-        return refused(r);
-    }
+    let h = judged?;
+    buffer_row(events.len(), answers.len(), cache.len(), h)?;
     if h.funcs == 0 {
-        return finished(events.len());
+        return Ok(finished(events.len()));
     }
     figures::figure_task(work, h, price);
-    let first = readout::func_figures(work, h, price, 0);
-    let room = first.longest;
+    let sheet = Sheet {
+        work,
+        header: h,
+        price,
+    };
+    let room = sheet.func(0).longest;
     if memory.len() < room as usize {
-        return refused(Refusal {
+        return Err(Refusal {
             row: Row::MemoryTooSmall,
             place: room,
         });
     }
     bounds::bound_task(work, h, price);
-    run::run_events(events, answers, cache, memory, work, h, price, eviction)
+    Ok(run::run_events(
+        events, answers, cache, memory, work, h, price, eviction,
+    ))
 }
 
 // What was judged is refused, or its events are run on the core that evicts so.
 pub fn run_judged(
-    judgement: Judgement,
+    judged: Result<Header, Refusal>,
     eviction: Eviction,
     price: Price,
     events: &[u32],
@@ -119,12 +113,14 @@ pub fn run_judged(
     memory: &mut [u32],
     work: &mut [u32],
 ) -> RunResult
-    requires { ReadyAt work_length price work.old judgement }
-    ensures { Performs eviction no_rows (priced_sheet (price_of price)) (judged_in work.old judgement) work.old events.now
+    requires { ReadyAt work_length price work.old judged }
+    ensures { Performs eviction no_rows (priced_sheet (price_of price)) (judged_in work.old judged) work.old events.now
         answers.old cache.old memory.old result work.new answers.new cache.new memory.new }
 {
-    match judgement {
-        Judgement::Refused(r) => refused(r),
-        Judgement::Task(h) => run_task(eviction, price, events, answers, cache, memory, work, h),
+    match run_task(
+        judged, eviction, price, events, answers, cache, memory, work,
+    ) {
+        Ok(result) => result,
+        Err(r) => refused(r),
     }
 }

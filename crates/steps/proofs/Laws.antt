@@ -1,6 +1,6 @@
 -- The frames of a state after a step, and the turn of the model that a step is.
 use Prim.Native.Nat.{ℕ, zero, suc, ◌+◌, ◌-◌, ◌*◌, ◌≤◌, ◌<◌}
-use mathlib.Core.List.{List, [], ◌∷◌}
+use mathlib.Core.List.{List, ◌∷◌}
 use mathlib.Core.Path.{◌≡◌, refl, ap, sym, ◌∙◌}
 use native.Mathlib.Omega.{arith}
 use lib.ListN.{length, set, length-set}
@@ -11,10 +11,9 @@ use Rattle.model.specs.Run as run
 use Rattle.model.specs.Run.{Place, onwards}
 use Rattle.tables.specs.Tables.{item}
 use Rattle.tables.proofs.Laws.{here, elsewhere}
-use Rattle.machine.specs.Moves.{core_of, OnCache}
-use Rattle.steps.specs.declared.State.{State}
+use Rattle.machine.specs.Moves.{core_of}
 use Rattle.steps.specs.declared.Turned.{Turned}
-use Rattle.steps.specs.Frames.{frames_at, frames_end, put_caller, places_in, frames_from, frames_of, turn_of, plain_turn}
+use Rattle.steps.specs.Frames.{frames_at, frames_end, caller_at, put_caller, places_in, frames_from, turn_of}
 use Rattle.steps.specs.Steps.{Stays, IsTurn, IsPlain}
 
 -- the running frame and its callers, where there is one
@@ -52,14 +51,6 @@ plain-turn price n {r = r} {w} {cache} {memory} {u} d =
       moved = omega (arith, n, d.moved, ap price o, ap price b);
       bound = omega (arith, d.allowed);
     }
-
--- a step that moves nothing
-pub plain-does : (x : State) (r : Turned) (p a p' a' : ℕ) (w cache memory : List ℕ) (c : Core) → 0 < x.depth → OnCache x.machine cache
-    → r ≡ plain_turn x p a → p ≡ p' → a ≡ a'
-    → core_of x.machine cache memory ≡ c → IsPlain x.moved x.allowed r w cache memory (onwards x.f p' (places_in w (x.depth - 1)) c a' 0 0)
-plain-does x r p a p' a' w cache memory c h o e i j k =
-    rw e
-    (record { turn = turn_on (plain_turn x p a) w cache memory _ _ _ _ _ _ _ h refl i refl k j; on = o; moved = refl; allowed = refl })
 
 -- ---- the callers
 
@@ -101,29 +92,13 @@ module _ (w : List ℕ) (n f p : ℕ) where
       })
 
 -- the last of n callers runs
-pub callers-none : (w : List ℕ) (n : ℕ) → n ≡ 0 → [] ≡ places_in w n
+pub callers-none : (w : List ℕ) (n f p : ℕ) → n ≡ 0 → frames_from w n f p ≡ places_in w n
 unfolding places_in
-callers-none w n e = rw e refl
+callers-none w n f p e = rw e refl
 
-pub caller_runs : (w : List ℕ) (n f p : ℕ) → (n ≡ 0 → ⊥) → f ≡ item w (frames_at + 2 * (n - 1)) → p ≡ item w (frames_at + 2 * (n - 1) + 1)
-    → frames_from w n f p ≡ places_in w n
+pub caller_runs : (w : List ℕ) (n : ℕ) → (n ≡ 0 → ⊥)
+    → frames_from w n (item w (frames_at + 2 * (n - 1))) (item w (frames_at + 2 * (n - 1) + 1)) ≡ places_in w n
 unfolding places_in
-caller_runs w zero f p h a b = absurd (h refl)
-caller_runs w (suc n) f p h a b =
-    let e : suc n - 1 ≡ n = omega arith in
-    let g = a ∙ ap (λ (m : ℕ). item w (frames_at + 2 * m)) e in
-    let i = b ∙ ap (λ (m : ℕ). item w (frames_at + 2 * m + 1)) e in
-    λ j. record { fn = g j; at = i j } ∷ places_in w n
-
--- a step that leaves the running frame
-pub leave-does : (x y : State) (w cache memory : List ℕ) (n : ℕ) (c : Core) → frames_of w y ≡ places_in w n
-    → core_of y.machine cache memory ≡ c → OnCache y.machine cache → y.moved ≡ x.moved → y.allowed ≡ x.allowed
-    → IsPlain x.moved x.allowed (record { state = y; answer = 0 }) w cache memory
-    (record { state = record { frames = places_in w n; core = c }; answer = 0; out = 0; back = 0 })
-leave-does x y w cache memory n c e k o m a =
-    record {
-      turn = λ i. record { state = record { frames = e i; core = k i }; answer = 0; out = 0; back = 0 };
-      on = o;
-      moved = m;
-      allowed = a;
-    }
+caller_runs w zero h = absurd (h refl)
+caller_runs w (suc n) h =
+    let e : suc n - 1 ≡ n = omega arith in ap (λ (m : ℕ). caller_at w m ∷ places_in w n) e

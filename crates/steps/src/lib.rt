@@ -2,7 +2,7 @@
 // are in the working space, behind the bounds, so that only a call and a return touch them.
 #![tactic(auto)]
 
-ghost use Rattle.std.specs.Prelude.{◌≡◌, List, ℕ, ◌<◌, ◌≤◌, length};
+ghost use Rattle.std.specs.Prelude.{◌≡◌, List, ℕ, ◌-◌, ◌<◌, ◌≤◌, length};
 ghost use Rattle.model.specs.declared.Point.TheVariants.{Load, Store, Goto, Either, Return};
 ghost use Rattle.model.specs.Limits.{most_funcs, most_points};
 ghost use Rattle.model.specs.Task.{Task, func};
@@ -11,7 +11,6 @@ ghost use Rattle.steps.specs.Frames.{frames_end, places_in, put_caller, frames_o
 ghost use Rattle.steps.specs.Steps.{PlainStep, Reaches, Leaves};
 
 use machine::Machine;
-use numbers::wide;
 use tables::Frames;
 
 // How many frames there are, function and point of the running one, where the stack stands, and what was moved and what the sheet allows so far: both
@@ -45,32 +44,27 @@ pub fn put_caller(work: &mut [u32], n: usize, f: usize, p: usize)
     work[at + 1] = p as u32;
 }
 
-// The last of n callers runs, and a task with none has finished.
-fn caller_runs(work: &[u32], n: usize, machine: Machine, moved: u64, allowed: u64) -> State
-    requires { (frames_end ≤ length work.now) × (n ≤ most_funcs) }
-    ensures { (frames_of work.now result ≡ places_in work.now n) × (result.machine ≡ machine) × (result.moved ≡ moved)
-        × (result.allowed ≡ allowed) }
+// The last caller of the running frame runs, and a task with none has finished.
+fn caller_runs(work: &[u32], x: State) -> State
+    requires { (frames_end ≤ length work.now) × (0 < x.depth) × (x.depth ≤ most_funcs) }
+    ensures { (frames_of work.now result ≡ places_in work.now (x.depth - 1)) × (result.machine ≡ x.machine) × (result.moved ≡ x.moved)
+        × (result.allowed ≡ x.allowed) }
 {
-    if n == 0 {
+    let depth = x.depth - 1;
+    if depth == 0 {
         return State {
-            depth: 0,
+            depth,
             f: 0,
             p: 0,
-            machine,
-            moved,
-            allowed,
+            ..x
         };
     }
-    let at = Frames::AT + 2 * (n - 1);
-    let f = wide(work[at]);
-    let p = wide(work[at + 1]);
+    let at = Frames::AT + 2 * (depth - 1);
     State {
-        depth: n,
-        f,
-        p,
-        machine,
-        moved,
-        allowed,
+        depth,
+        f: work[at] as usize,
+        p: work[at + 1] as usize,
+        ..x
     }
 }
 
@@ -80,16 +74,10 @@ fn caller_runs(work: &[u32], n: usize, machine: Machine, moved: u64, allowed: u6
 fn onwards(x: State, p: usize, answer: u32) -> Turned
     ensures { result ≡ plain_turn x p answer }
 {
-    let machine = x.machine;
-    let state = State {
-        depth: x.depth,
-        f: x.f,
-        p,
-        machine,
-        moved: x.moved,
-        allowed: x.allowed,
-    };
-    Turned { state, answer }
+    Turned {
+        state: State { p, ..x },
+        answer,
+    }
 }
 
 pub fn load_step(x: State, cache: &[u32], o: u32) -> Turned
@@ -97,9 +85,7 @@ pub fn load_step(x: State, cache: &[u32], o: u32) -> Turned
     ensures { (t : Task) (v : ℕ) (w memory : List ℕ) → PlainStep t x (Load o) v w cache.now memory result w
         cache.now memory }
 {
-    let machine = x.machine;
-    let answer = machine.load(cache, o);
-    onwards(x, x.p + 1, answer)
+    onwards(x, x.p + 1, x.machine.load(cache, o))
 }
 
 pub fn store_step(x: State, cache: &mut [u32], o: u32, v: u32) -> Turned
@@ -107,17 +93,8 @@ pub fn store_step(x: State, cache: &mut [u32], o: u32, v: u32) -> Turned
     ensures { (t : Task) (w memory : List ℕ) → PlainStep t x (Store o) v w cache.old memory result w
         cache.new memory }
 {
-    let machine = x.machine;
-    let stored = machine.store(cache, o, v);
-    let state = State {
-        depth: x.depth,
-        f: x.f,
-        p: x.p,
-        machine: stored,
-        moved: x.moved,
-        allowed: x.allowed,
-    };
-    onwards(state, x.p + 1, 0)
+    let machine = x.machine.store(cache, o, v);
+    onwards(State { machine, ..x }, x.p + 1, 0)
 }
 
 pub fn goto_step(x: State, q: u32) -> Turned
@@ -125,7 +102,7 @@ pub fn goto_step(x: State, q: u32) -> Turned
     ensures { (t : Task) (v : ℕ) (w cache memory : List ℕ) → OnCache x.machine cache →
         PlainStep t x (Goto q) v w cache memory result w cache memory }
 {
-    onwards(x, wide(q), 0)
+    onwards(x, q as usize, 0)
 }
 
 pub fn either_step(x: State, q: u32, r: u32, v: u32) -> Turned
@@ -133,10 +110,8 @@ pub fn either_step(x: State, q: u32, r: u32, v: u32) -> Turned
     ensures { (t : Task) (w cache memory : List ℕ) → OnCache x.machine cache →
         PlainStep t x (Either q r) v w cache memory result w cache memory }
 {
-    if v == 0 {
-        return onwards(x, wide(q), 0);
-    }
-    onwards(x, wide(r), 0)
+    let target = if v == 0 { q } else { r };
+    onwards(x, target as usize, 0)
 }
 
 // The frame of the running function is left, and its caller runs.
@@ -145,8 +120,7 @@ pub fn return_step(work: &[u32], x: State, cache: &[u32], frame: u32) -> Turned
     ensures { (t : Task) (v : ℕ) (memory : List ℕ) → (func t x.f).frame ≡ frame →
         PlainStep t x Return v work.now cache.now memory result work.now cache.now memory }
 {
-    let machine = x.machine;
-    let freed = machine.free(cache, frame);
-    let state = caller_runs(work, x.depth - 1, freed, x.moved, x.allowed);
+    let machine = x.machine.free(cache, frame);
+    let state = caller_runs(work, State { machine, ..x });
     Turned { state, answer: 0 }
 }

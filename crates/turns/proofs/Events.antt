@@ -1,17 +1,17 @@
 -- From a step and a preemption to an event, and the rows of an event by its tests.
 use Prim.Native.Nat.{ℕ, zero, suc, ◌+◌, ◌-◌, ◌≤◌, ◌<◌}
-use mathlib.Core.Bool.{Bool, true, false, not, ◌||◌}
+use mathlib.Core.Bool.{or-true, Bool, true, false, not, ◌||◌}
 use mathlib.Core.List.{List, ◌∷◌}
-use mathlib.Core.Option.{some}
+use mathlib.Core.Option as option
+use Rattle.std.proofs.Common.{Result, Ok, Err}
 use mathlib.Core.Path.{◌≡◌, refl, ap, sym, subst, ◌∙◌}
 use native.Mathlib.Omega.{arith}
 use lib.Dec.{eqb, leb}
 use borrow.Author.Tests.{eq-eqb, ne_eqb, le-leb, lt-leb}
 use Rattle.model.specs.declared.Point.{Point}
-use Rattle.model.specs.declared.Verdict.{Verdict}
-use Rattle.model.specs.declared.Verdict.TheVariants as verdict
+use Rattle.model.specs.declared.Refusal.{Refusal}
 use Rattle.model.specs.declared.Row.TheVariants.{AfterFinish, Kind, Choice}
-use Rattle.model.specs.Rows.{refuse, row_verdict}
+use Rattle.model.specs.Rows.{refuse}
 use Rattle.model.specs.Task.{Task, func, point}
 use Rattle.model.specs.Sheet.{Sheet}
 use Rattle.model.specs.Refusal.{is_either, event_rows}
@@ -29,19 +29,11 @@ use Rattle.steps.specs.Frames.{places_in, frames_from, frames_of, state_of, turn
 use Rattle.steps.specs.Steps.{Stays, Added, IsTurn}
 use Rattle.steps.proofs.Laws.{frames-some}
 use Rattle.moves.specs.Moves.{StepsIn, IsPreemption}
-use Rattle.turns.specs.Turns.{Turns, act_of}
+use Rattle.turns.specs.declared.Event.{Event}
+use Rattle.turns.specs.declared.Event.TheVariants.{Step, Preempt}
+use Rattle.turns.specs.Turns.{Turns, act_of, Decodes}
 use Rattle.turns.proofs.Laws.{stays_same}
 use Rattle.turns.proofs.Given.{top_of}
-
--- ---- an event is a step or a preemption, by its kind
-
-act-step : (k v : ℕ) → k ≡ 0 → act_of k v ≡ takes v
-unfolding act
-act-step k v e = rw (eq-eqb k 0 e) refl
-
-act-preempt : (k v : ℕ) → (k ≡ 0 → ⊥) → act_of k v ≡ preempted v
-unfolding act
-act-preempt k v n = rw (ne_eqb k 0 n) refl
 
 -- a turn of the model under another name
 turn-as : {price : ℕ → ℕ} {m a : ℕ} {r : Turned} {w cache memory : List ℕ} {u u' : run.Turn} {n : ℕ} → u ≡ u' → IsTurn price m a r w cache memory u n
@@ -65,16 +57,15 @@ module _ (price : Price) (w : List ℕ) (h : Header) (x : State) (cache memory :
   turn-of a =
       ap (λ (fs : List Place). turn_at t sheet fs (core_of x.machine cache memory) a) (frames-some w x.depth x.f x.p some)
 
-  pub step-turns : {r : Turned} {w' cache' memory' : List ℕ} (y : Point) (k v : ℕ) → point (func t x.f) x.p ≡ y → k ≡ 0
+  pub step-turns : {r : Turned} {w' cache' memory' : List ℕ} (y : Point) (v : ℕ) → point (func t x.f) x.p ≡ y
       → StepsIn price w h x y v cache memory r w' cache' memory'
       → Stays w w'
-      → Turns price w h x cache memory (act_of k v) r w' cache' memory'
+      → Turns price w h x cache memory (takes v) r w' cache' memory'
   unfolding event_bound
-  step-turns {r = r} y k v i e d b =
+  step-turns {r = r} y v i d b =
       let same =
       ap (λ (z : Point). step_turn t x.f x.p (places_in w (x.depth - 1)) (core_of x.machine cache memory) z v) (sym i) ∙ sym (turn-of (takes v)) in
-      rw (act-step k v e)
-      (record {
+      record {
         turn = (turn-as same d).0;
         on = d.on;
         moved = (turn-as same d).1;
@@ -84,15 +75,13 @@ module _ (price : Price) (w : List ℕ) (h : Header) (x : State) (cache memory :
             ∙ ap (λ (gs : List Frame). event_bound t sheet gs (takes v)) (sym (top_of w x.depth x.f x.p fs some j).whole) in
             subst (λ (n : ℕ). Added x.allowed n r.state.allowed) e d.bound;
         stays = b;
-      })
+      }
 
-  pub preempt-turns : {r : Turned} {cache' memory' : List ℕ} (k v : ℕ) → (k ≡ 0 → ⊥)
-      → IsPreemption price w h x v cache memory r cache' memory'
-      → Turns price w h x cache memory (act_of k v) r w cache' memory'
+  pub preempt-turns : {r : Turned} {cache' memory' : List ℕ} (v : ℕ) → IsPreemption price w h x v cache memory r cache' memory'
+      → Turns price w h x cache memory (preempted v) r w cache' memory'
   unfolding event_bound
-  preempt-turns {r = r} k v n d =
-      rw (act-preempt k v n)
-      (record {
+  preempt-turns {r = r} v d =
+      record {
         turn = (turn-as (sym (turn-of (preempted v))) d).0;
         on = d.on;
         moved = (turn-as (sym (turn-of (preempted v))) d).1;
@@ -100,52 +89,45 @@ module _ (price : Price) (w : List ℕ) (h : Header) (x : State) (cache memory :
             let e = ap (λ (gs : List Frame). event_bound t sheet gs (preempted v)) (sym (top_of w x.depth x.f x.p fs some j).whole) in
             subst (λ (n : ℕ). Added x.allowed n r.state.allowed) e d.bound;
         stays = stays_same w;
-      })
+      }
 
 -- ---- rows
 
--- 22: no frame is left
-pub row-finished : (t : Task) (w : List ℕ) (d f p i k v : ℕ) → d ≡ 0
-    → verdict.Refused (refuse AfterFinish i) ≡ row_verdict (event_rows i k v (running_place t (frames_from w d f p)))
-unfolding event_rows
-row-finished t w zero f p i k v e = refl
-row-finished t w (suc d) f p i k v e = absurd (omega arith)
+module _ (t : Task) (w : List ℕ) (x : State) (i k v : ℕ) where
+  abbrev Decoded : Result Event Refusal → Type 0
+  Decoded r = Decodes i k v (running_place t (frames_of w x)) r
 
--- else the rows by the point at which the running frame stands
-pub row_at : (t : Task) (w : List ℕ) (x : State) (i k v : ℕ) (r : Verdict) → 0 < x.depth
-    → r ≡ row_verdict (event_rows i k v (some (point (func t x.f) x.p)))
-    → r ≡ row_verdict (event_rows i k v (running_place t (frames_of w x)))
-row_at t w x i k v r h e =
-    e ∙ ap (λ (fs : List Place). row_verdict (event_rows i k v (running_place t fs))) (sym (frames-some w x.depth x.f x.p h))
+  -- 22: no frame is left
+  pub row-finished : x.depth ≡ 0 → Decoded (Err (refuse AfterFinish i))
+  unfolding event_rows
+  row-finished e = rw e refl
 
--- 20: neither a step nor a preemption
-pub row-kind : (y : Point) (i k v : ℕ) → 1 < k → verdict.Refused (refuse Kind i) ≡ row_verdict (event_rows i k v (some y))
-unfolding event_rows
-row-kind y i k v h = rw (lt-leb k 1 h) refl
+  module _ (some : 0 < x.depth) where
+    abbrev here : Point
+    here = point (func t x.f) x.p
 
-or-last : (a b : Bool) → (a || b || true) ≡ true
-or-last true b = refl
-or-last false true = refl
-or-last false false = refl
+    -- else the rows by the point at which the running frame stands
+    row_at : (r : Result Event Refusal) → Decodes i k v (option.some here) r → Decoded r
+    row_at r d = rw (frames-some w x.depth x.f x.p some) d
 
-or-middle : (a c : Bool) → (a || true || c) ≡ true
-or-middle true c = refl
-or-middle false c = refl
+    -- 20: neither a step nor a preemption
+    pub row-kind : 1 < k → Decoded (Err (refuse Kind i))
+    unfolding event_rows
+    row-kind h = row_at (Err (refuse Kind i)) (rw (lt-leb k 1 h) refl)
 
-pub row-preempts : (y : Point) (i k v : ℕ) → k ≡ 1 → verdict.Accepted ≡ row_verdict (event_rows i k v (some y))
-unfolding event_rows
-row-preempts y i k v e = rw e refl
+    pub row-preempts : k ≡ 1 → Decoded (Ok (Preempt v))
+    unfolding event_rows act
+    row-preempts e = row_at (Ok (Preempt v)) (rw e (refl, refl))
 
--- 21: a value that chooses no target, at an either
-pub row-value : (y : Point) (i k v : ℕ) → k ≤ 1 → v ≤ 1 → verdict.Accepted ≡ row_verdict (event_rows i k v (some y))
-unfolding event_rows
-row-value y i k v h l = rw (le-leb k 1 h, le-leb v 1 l, or-last (eqb k 1) (not (is_either y))) refl
+    -- 21: a value that chooses no target, at an either
+    pub row-value : k ≡ 0 → v ≤ 1 → Decoded (Ok (Step v))
+    unfolding event_rows act
+    row-value e l = row_at (Ok (Step v)) (rw (e, le-leb v 1 l, or-true) (refl, refl))
 
-pub row-choice : (y : Point) (i k v : ℕ) → k ≤ 1 → (k ≡ 1 → ⊥) → 1 < v → is_either y ≡ true
-    → verdict.Refused (refuse Choice i) ≡ row_verdict (event_rows i k v (some y))
-unfolding event_rows
-row-choice y i k v h n l e = rw (le-leb k 1 h, ne_eqb k 1 n, lt-leb v 1 l, e) refl
+    pub row-choice : k ≡ 0 → 1 < v → is_either here ≡ true → Decoded (Err (refuse Choice i))
+    unfolding event_rows
+    row-choice e l h = row_at (Err (refuse Choice i)) (rw (e, lt-leb v 1 l, h) refl)
 
-pub row_other : (y : Point) (i k v : ℕ) → k ≤ 1 → is_either y ≡ false → verdict.Accepted ≡ row_verdict (event_rows i k v (some y))
-unfolding event_rows
-row_other y i k v h e = rw (le-leb k 1 h, e, or-middle (eqb k 1) (leb v 1)) refl
+    pub row_other : k ≡ 0 → is_either here ≡ false → Decoded (Ok (Step v))
+    unfolding event_rows act
+    row_other e h = row_at (Ok (Step v)) (rw (e, h) (refl, refl))

@@ -131,13 +131,6 @@ module _ {price : Price} {w : List ℕ} {h : Header} {x : State} {cache memory :
   pub frame-fits : (g : ℕ) → g < h.funcs → (func t g).frame ≤ length cache
   frame-fits g l = omega (arith, runs-top.window.blocks, formed.shaped.frames g (omega (arith, l, count-is w h)))
 
-  -- ---- at a point
-
-  touch-reaches : (o : ℕ) → T (touches (func t x.f) o x.p) → x.p < most_points → Reaches x cache o
-  touch-reaches o j l =
-      let c = touched-cached t (sheet_in price w h) formed k.sound frame top.rest _ o top_in j runs-top.window in
-      record { some = some; small = l; on = k.on; offset = omega (arith, c.1, runs-good.fits) }
-
 -- what a run gives at any time
 pub runs-placed : {price : Price} {w : List ℕ} {h : Header} {x : State} {cache memory : List ℕ} → Runs price w h x cache memory → Placed w h x
 runs-placed k = record { settled = k.bounded.readable.settled; fn_in = λ i. fn-within k i; at_in = λ i. at-within k i }
@@ -161,15 +154,6 @@ module _ {w : List ℕ} {h : Header} {x : State} (k : Placed w h x) (some : 0 < 
 -- ---- each kind of point
 
 module _ {price : Price} {w : List ℕ} {h : Header} {x : State} {cache memory : List ℕ} {s : Span} {y : Point} (k : StandsAt price w h x cache memory s y) where
-  pub load_given : {o : ℕ} → y ≡ Load o → Reaches x cache o
-  load_given {o} e =
-      let i = k.here ∙ e in
-      touch-reaches k.runs k.inside.some o (rw i ((or-holds (eqb o o) false).1 (inl (eqb_refl o)))) (inside-small k.inside)
-
-  pub store_given : {o : ℕ} → y ≡ Store o → Reaches x cache o
-  store_given {o} e =
-      let i = k.here ∙ e in touch-reaches k.runs k.inside.some o (rw i (eqb_refl o)) (inside-small k.inside)
-
   pub call-given : {g : ℕ} → y ≡ Call g → Enters price w h x cache memory g
   call-given {g} e =
       let r = k.runs in

@@ -4,7 +4,7 @@ use mathlib.Core.List.{List, [], ◌∷◌}
 use mathlib.Core.Path.{◌≡◌, refl, ap, sym, ◌∙◌}
 use native.Mathlib.Omega.{arith}
 use Rattle.model.specs.declared.Eviction.{Eviction}
-use Rattle.model.specs.declared.Eviction.TheVariants.{Eager, Lazy}
+use Rattle.model.specs.declared.Eviction.TheVariants.{Eager}
 use Rattle.model.specs.declared.Point.{Point}
 use Rattle.model.specs.Task.{count, func}
 use Rattle.model.specs.Core.{reserve, idle}
@@ -22,12 +22,12 @@ use Rattle.prices.specs.declared.Price.{Price}
 use Rattle.prices.specs.Prices.{price_of}
 use Rattle.machine.specs.declared.Machine.{Machine}
 use Rattle.theory.specs.Cores.{with_eviction}
-use Rattle.machine.specs.Moves.{eviction_of, core_of, Entered}
+use Rattle.machine.specs.Moves.{core_of, Entered}
 use Rattle.machine.proofs.Laws.{entered-with}
 use Rattle.steps.specs.declared.State.{State}
 use Rattle.steps.specs.declared.Turned.{Turned}
 use Rattle.steps.specs.Frames.{frames_end, places_in}
-use Rattle.steps.specs.Steps.{Stays, IsTurn, IsPlain}
+use Rattle.steps.specs.Steps.{Stays, IsTurn, IsPlain, PlainStep}
 use Rattle.steps.proofs.Laws.{plain-turn}
 use Rattle.moves.specs.Moves.{StepsIn}
 use Rattle.turns.specs.Turns.{Started}
@@ -60,30 +60,18 @@ module _ {w : List ℕ} {h : Header} (k : Settled w h) (some : 0 < h.funcs) wher
       let f = first_frame s e in
       (omega (arith, t.shaped.stack_low some-func), omega (arith, f, t.shaped.frames 0 some-func), omega (arith, f, frame-room (task_of w h) t 0 some-func))
 
-  -- v: the eviction; l, the number that the machine has for it
-  pub start_is : (v : Eviction) (s : Span) (l : ℕ) (m r : Machine) (n : ℕ) → s ≡ span_at w 0 → eviction_of l ≡ v → Entered Eager h.stack s.frame n m
-      → ((cache memory : List ℕ) → core_of r cache memory ≡ with_eviction (eviction_of l) (core_of m cache memory)) × (r.top ≡ m.top)
+  pub start_is : (v : Eviction) (s : Span) (m r : Machine) (n : ℕ) → s ≡ span_at w 0 → Entered Eager h.stack s.frame n m
+      → ((cache memory : List ℕ) → core_of r cache memory ≡ with_eviction v (core_of m cache memory)) × (r.top ≡ m.top)
       → Started v w h n (record { depth = 1; f = 0; p = 0; machine = r; moved = 0; allowed = 0 })
   unfolding places_in
-  start_is v s l m r n e y a b =
+  start_is v s m r n e a b =
       let f = k.formed.shaped.frames 0 some-func in
-      let a' = entered-with m r (eviction_of l) Eager h.stack s.frame n (omega (arith, f, first_frame s e)) a b in
+      let a' = entered-with m r v Eager h.stack s.frame n (omega (arith, f, first_frame s e)) a b in
       record {
         state = λ cache memory i j.
-            let core = a'.core cache memory i j ∙ (λ z. (reserve (first_frame s e z) (idle (y z) cache memory)).core) in
+            let core = a'.core cache memory i j ∙ (λ z. (reserve (first_frame s e z) (idle v cache memory)).core) in
             λ z. record { frames = record { fn = 0; at = 0 } ∷ []; core = core z };
         top = a'.top;
         moved = refl;
         allowed = refl;
       }
-
--- the number of an eviction
-pub number-eager : (x : Eviction) → x ≡ Eager → eviction_of 0 ≡ x
-unfolding eviction_of
-number-eager x e = rw e refl
-
-pub number-lazy : (x : Eviction) → x ≡ Lazy → eviction_of 1 ≡ x
-unfolding eviction_of
-number-lazy x e = rw e refl
-
--- ---- rows

@@ -1,10 +1,15 @@
 -- What an event is given and does: the running frame at its point, the working space, the cache and the memory.
-use Rattle.std.specs.Prelude.{ℕ, ◌+◌, ◌%◌, ◌<◌, List, ◌≡◌, length}
+use Rattle.std.specs.Prelude.{ℕ, ◌+◌, ◌%◌, ◌<◌, List, ◌≡◌, length, Result, Ok, Err}
+use Rattle.std.proofs.Math.Option.{Option, none, some}
 use Rattle.model.specs.declared.Eviction.{Eviction}
 use Rattle.model.specs.declared.Point.{Point}
+use Rattle.model.specs.declared.Refusal.{Refusal}
 use Rattle.model.specs.Task.{func, point}
 use Rattle.model.specs.Core.{idle}
-use Rattle.model.specs.Plain.{Frame, Act, act}
+use Rattle.model.specs.Refusal.{event_rows}
+use Rattle.model.specs.Plain.{Frame, Act, takes, preempted, act}
+use Rattle.turns.specs.declared.Event.{Event}
+use Rattle.turns.specs.declared.Event.TheVariants.{Step, Preempt}
 use Rattle.model.specs.Run as run
 use Rattle.model.specs.Run.{event_bound, main_state}
 use Rattle.theory.specs.Sound.{Sound}
@@ -44,6 +49,15 @@ pub record Placed (w : List ℕ) (h : Header) (x : State) : Type 0 where
 -- what an event of this kind and value asks for
 abbrev pub act_of : ℕ → ℕ → Act
 act_of kind value = act (record { kind = kind; value = value })
+
+abbrev pub act_in : Event → Act
+act_in (Step value) = takes value
+act_in (Preempt value) = preempted value
+
+-- r is the event of this kind and value, or the row that refuses it as event i, where the running frame stands at p
+abbrev pub Decodes : (i kind value : ℕ) → Option Point → Result Event Refusal → Type 0
+Decodes i kind value p (Ok e) = (event_rows i kind value p ≡ none) × (act_in e ≡ act_of kind value)
+Decodes i kind value p (Err r) = event_rows i kind value p ≡ some r
 
 -- what the model's run does at an event
 abbrev pub model_turn : Price → List ℕ → Header → State → List ℕ → List ℕ → Act → run.Turn

@@ -2,23 +2,29 @@
 #![tactic(auto)]
 
 ghost use Rattle.std.specs.Prelude.{◌≡◌, ◌<◌, ◌≤◌};
-ghost use Rattle.model.specs.Rows.{row_verdict};
 ghost use Rattle.model.specs.Figures.{longest};
-ghost use Rattle.model.specs.Refusal.{event_rows};
+ghost use Rattle.model.specs.Refusal.{is_either};
+ghost use Rattle.model.specs.Task.{func, point};
 ghost use Rattle.model.specs.Run.{running_place};
 ghost use Rattle.tables.specs.Tables.{task_of};
 ghost use Rattle.tables.specs.Valid.{Settled};
-ghost use Rattle.machine.specs.Moves.{eviction_of};
 ghost use Rattle.steps.specs.Frames.{frames_of};
 ghost use Rattle.steps.specs.Steps.{Stays, Counts};
 ghost use Rattle.moves.specs.Moves.{StepsIn};
-ghost use Rattle.turns.specs.Turns.{Runs, Placed, Turns, act_of, Started, StandsAt};
+ghost use Rattle.turns.specs.Turns.{Runs, Placed, Turns, act_in, Decodes, Started, StandsAt};
 
 use machine::Machine;
-use model::{Eviction, Point, Refusal, Row, Verdict};
+use model::{Eviction, Point, Refusal, Row};
 use prices::Price;
 use steps::{State, Turned};
 use tables::{Header, Span};
+
+// An event of a list: a step with a value, or a preemption by a task that leaves a value in every block.
+#[derive(Clone, Copy)]
+pub enum Event {
+    Step(u32),
+    Preempt(u32),
+}
 
 // A step with value v at point y of s.
 fn step(
@@ -47,25 +53,13 @@ fn step(
     }
 }
 
-// The eviction as the number that a machine has.
-fn lazy_of(eviction: Eviction) -> usize
-    ensures { eviction_of result ≡ eviction }
-{
-    match eviction {
-        Eviction::Eager => 0,
-        Eviction::Lazy => 1,
-    }
-}
-
 // Function 0 has been entered on a memory of this length, on the core that evicts so. Nothing was moved, and nothing is allowed.
 pub fn start(work: &[u32], h: Header, eviction: Eviction, length: usize) -> State
     requires { Settled work.now h × (0 < h.funcs) × (longest (task_of work.now h) 0 ≤ length) }
     ensures { Started eviction work.now h length result }
 {
     let s = tables::span_at(work, 0);
-    let lazy = lazy_of(eviction);
-    let fresh = Machine::fresh(h.stack, s.frame, length);
-    let machine = fresh.evicting(lazy);
+    let machine = Machine::fresh(h.stack, s.frame, length).evicting(eviction);
     State {
         depth: 1,
         f: 0,
@@ -76,42 +70,48 @@ pub fn start(work: &[u32], h: Header, eviction: Eviction, length: usize) -> Stat
     }
 }
 
-// 22, 20, 21 at event i. The point is looked at only where the value is no choice.
-pub fn event_row(work: &[u32], h: Header, x: State, i: u32, kind: u32, value: u32) -> Verdict
-    requires { Placed work.now h x }
-    ensures { result ≡ row_verdict (event_rows i kind value (running_place (task_of work.now h) (frames_of work.now x))) }
+// Whether the running frame stands at an either.
+fn at_either(work: &[u32], h: Header, x: State) -> bool
+    requires { Placed work.now h x × (0 < x.depth) }
+    ensures { result ≡ is_either (point (func (task_of work.now h) x.f) x.p) }
 {
-    let depth = x.depth;
-    if depth == 0 {
-        return Verdict::Refused(Refusal {
+    let s = tables::span_at(work, x.f);
+    points::is_either(tables::point_at(work, s.base + x.p))
+}
+
+// The event of this kind and value, or 22, 20, 21 at event i. The point is looked at only where the value is no choice.
+pub fn decode(
+    work: &[u32],
+    h: Header,
+    x: State,
+    i: u32,
+    kind: u32,
+    value: u32,
+) -> Result<Event, Refusal>
+    requires { Placed work.now h x }
+    ensures { Decodes i kind value (running_place (task_of work.now h) (frames_of work.now x)) result }
+{
+    if x.depth == 0 {
+        return Err(Refusal {
             row: Row::AfterFinish,
             place: i,
         });
     }
-    if 1 < kind {
-        return Verdict::Refused(Refusal {
-            row: Row::Kind,
-            place: i,
-        });
-    }
-    if kind == 1 {
-        return Verdict::Accepted;
-    }
-    if value <= 1 {
-        return Verdict::Accepted;
-    }
-    let s = tables::span_at(work, x.f);
-    let base = s.base;
-    if points::is_either(tables::point_at(work, base + x.p)) {
-        return Verdict::Refused(Refusal {
+    match kind {
+        0 if 1 < value && at_either(work, h, x) => Err(Refusal {
             row: Row::Choice,
             place: i,
-        });
+        }),
+        0 => Ok(Event::Step(value)),
+        1 => Ok(Event::Preempt(value)),
+        _ => Err(Refusal {
+            row: Row::Kind,
+            place: i,
+        }),
     }
-    Verdict::Accepted
 }
 
-// An event of this kind and value, which no row refuses.
+// An event that no row refuses.
 pub fn turn(
     work: &mut [u32],
     h: Header,
@@ -119,18 +119,18 @@ pub fn turn(
     x: State,
     cache: &mut [u32],
     memory: &mut [u32],
-    kind: u32,
-    value: u32,
+    event: Event,
 ) -> Turned
     requires { Runs price work.old h x cache.old memory.old × (0 < x.depth) × Counts x }
-    ensures { Turns price work.old h x cache.old memory.old (act_of kind value)
+    ensures { Turns price work.old h x cache.old memory.old (act_in event)
         result work.new cache.new memory.new }
 {
     let s = tables::span_at(work, x.f);
-    if kind == 0 {
-        let base = s.base;
-        let y = tables::point_at(work, base + x.p);
-        return step(work, h, price, x, s, y, cache, memory, value);
+    match event {
+        Event::Step(v) => {
+            let y = tables::point_at(work, s.base + x.p);
+            step(work, h, price, x, s, y, cache, memory, v)
+        }
+        Event::Preempt(v) => moves::preempt(work, h, price, x, s, cache, memory, v),
     }
-    moves::preempt(work, h, price, x, s, cache, memory, value)
 }

@@ -1,5 +1,6 @@
 -- The running frame is put aside, and the callee is entered.
 use Prim.Native.Nat.{◌-◌}
+use mathlib.Core.Path.{refl}
 use native.Mathlib.Omega.{arith}
 use Rattle.steps.proofs.Laws.{caller-stays}
 use Rattle.moves.proofs.Laws.{enters-does, callee-frame, callee-spill, callee-few}
@@ -7,11 +8,10 @@ use Rattle.moves.proofs.call_step.Goals as goal
 
 pub returns : goal.returns
 returns c =
-    let n = c.wide-f.ensures in
     let p = c.requires in (
       λ v.
-          enters-does _ c.args.h c.args.x _ _ _ _ _ _ _ v p.some p.few (omega (arith, p.bounded.readable.room)) n (callee-frame p n c.span_at-callee.ensures)
-          (callee-spill p n) c.moves_price-cost.ensures c.added.ensures c.added-2.ensures c.put_caller.ensures
+          enters-does _ c.args.h c.args.x _ _ _ _ _ _ _ v p.some p.few (omega (arith, p.bounded.readable.room)) refl (callee-frame p refl c.span_at-callee.ensures)
+          (callee-spill p refl) c.moves_price-cost.ensures c.added.ensures c.added-2.ensures c.put_caller.ensures
           c.reserve-moved.ensures,
       caller-stays _ (c.args.x.depth - 1) _ _ (omega (arith, p.some, p.few)) _ c.put_caller.ensures,
     )
@@ -19,31 +19,13 @@ returns c =
 pub reserve-moved-requires : goal.reserve-moved-requires
 reserve-moved-requires c =
     let p = c.requires in
-    let e = callee-frame p c.wide-f.ensures c.span_at-callee.ensures in
+    let e = callee-frame p refl c.span_at-callee.ensures in
     (p.on, p.good, omega (arith, e, p.room), omega (arith, e, p.fits))
 
 pub moves_price-cost-requires : goal.moves_price-cost-requires
 moves_price-cost-requires c =
     let p = c.requires in (
       p.bounded.readable.small,
-      callee-few p c.wide-f.ensures c.span_at-callee.ensures c.reserve-moved.ensures.blocks,
+      callee-few p refl c.span_at-callee.ensures c.reserve-moved.ensures.blocks,
       omega arith,
     )
-
--- the depth after the call, and the totals
-pub overflow_add-state : goal.overflow_add-state
-overflow_add-state c =
-    let h = c.requires.few in omega arith
-
-pub added-requires : goal.added-requires
-added-requires c =
-    c.requires.counts.moved
-
-pub added-requires-2 : goal.added-requires-2
-added-requires-2 c =
-    c.requires.counts.allowed
-
-pub put_caller-requires : goal.put_caller-requires
-put_caller-requires c =
-    let p = c.requires in
-    omega (arith, p.bounded.readable.room, p.some, p.few, p.fn_in, p.small)

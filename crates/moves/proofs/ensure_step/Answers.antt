@@ -3,7 +3,7 @@ use native.Mathlib.Omega.{arith}
 use Rattle.machine.specs.Moves.{core_of}
 use Rattle.machine.proofs.Kept.{ensure-blocks}
 use Rattle.bounds.specs.Bounds.{fill_bounds}
-use Rattle.moves.proofs.Laws.{ensure-does, inside-small, read-inside, fill-inside}
+use Rattle.moves.proofs.Laws.{read-inside}
 use Rattle.moves.proofs.ensure_step.Goals as goal
 
 pub moves_price-cost-requires : goal.moves_price-cost-requires
@@ -11,13 +11,5 @@ moves_price-cost-requires c =
     let o = core_of c.args.x.machine c.args.cache.now c.args.memory.now in
     (c.requires.0.bounded.readable.small, omega arith, omega (arith, c.ensure-moved.ensures.blocks, ensure-blocks o c.args.k, c.requires.4))
 
-pub returns : goal.returns
-returns c =
-    λ v. ensure-does _ c.args.h c.args.x _ _ _ _ v c.requires.0.some _ _ (omega arith) (fill-inside c.requires.0 c.figure_at-bound.ensures)
-    c.moves_price-cost.ensures c.added.ensures c.added-2.ensures c.ensure-moved.ensures
-
 pub figure_at-bound-requires : goal.figure_at-bound-requires
 figure_at-bound-requires c = read-inside c.requires.0 fill_bounds (omega arith)
-
-pub overflow_add-state : goal.overflow_add-state
-overflow_add-state c = omega (arith, inside-small c.requires.0)

@@ -9,22 +9,14 @@ use Rattle.moves.proofs.preempt.Goals as goal
 pub moves_price-cost-requires : goal.moves_price-cost-requires
 moves_price-cost-requires c =
     let p = c.requires in
-    let d = c.preempt-back.ensures in
+    let d = c.preempt-moved.ensures in
     (p.0.bounded.readable.small, omega (arith, d.out, written-few _ p.2, p.2.fits, p.1.few), omega (arith, d.back, p.2.fits, p.1.few))
 
 pub returns : goal.returns
 returns c =
     let k = c.requires.0 in
     preempt-does _ c.args.h c.args.x _ _ _ _ _ k.some _ _ (dead-inside k c.figure_at-dead.ensures) (need-inside k c.figure_at-need.ensures)
-    (cost-inside k c.figure_at-bound.ensures) c.moves_price-cost.ensures c.added.ensures c.added-2.ensures c.preempt-back.ensures
-
-pub added-requires : goal.added-requires
-added-requires c =
-    c.requires.0.counts.moved
-
-pub added-requires-2 : goal.added-requires-2
-added-requires-2 c =
-    c.requires.0.counts.allowed
+    (cost-inside k c.figure_at-bound.ensures) c.moves_price-cost.ensures c.added.ensures c.added-2.ensures c.preempt-moved.ensures
 
 pub figure_at-dead-requires : goal.figure_at-dead-requires
 figure_at-dead-requires c = read-inside c.requires.0 dead_column (omega arith)

@@ -4,8 +4,7 @@ use Rattle.turns.proofs.start.Goals as goal
 
 pub returns : goal.returns
 returns c =
-    start_is c.requires.0 c.requires.1 _ _ _ c.fresh-fresh.result _ _ c.span_at-s.ensures c.lazy_of-lazy.ensures c.fresh-fresh.ensures
-    c.evicting-machine.ensures
+    start_is c.requires.0 c.requires.1 _ _ c.fresh.result _ _ c.span_at-s.ensures c.fresh.ensures c.evicting-machine.ensures
 
-pub fresh-fresh-requires : goal.fresh-fresh-requires
-fresh-fresh-requires c = start-room c.requires.0 c.requires.1 _ _ c.span_at-s.ensures c.requires.2
+pub fresh-requires : goal.fresh-requires
+fresh-requires c = start-room c.requires.0 c.requires.1 _ _ c.span_at-s.ensures c.requires.2

@@ -1,17 +1,16 @@
--- A step or a preemption, by the kind.
+-- A step or a preemption, by the event.
 use native.Mathlib.Omega.{arith}
 use Rattle.turns.proofs.Given.{runs-placed, runs-good, runs-inside, placed-few, placed-point, placed-is}
 use Rattle.turns.proofs.Events.{step-turns, preempt-turns}
 use Rattle.turns.proofs.turn.Goals as goal
 
-pub returns-then-kind-eq0 : goal.returns-then-kind-eq0
-returns-then-kind-eq0 c =
+pub returns-in-Step : goal.returns-in-Step
+returns-in-Step c =
     let e = placed-is (runs-placed c.requires.0) c.requires.1 _ _ c.span_at-s.ensures c.point_at-y.ensures in
-    step-turns _ _ _ c.args.x _ _ c.requires.1 _ _ _ e c.if-kind-eq0.true c.step.ensures.0 c.step.ensures.1
+    rw c.in-Step.is (step-turns _ _ _ c.args.x _ _ c.requires.1 _ _ e c.step.ensures.0 c.step.ensures.1)
 
-pub returns : goal.returns
-returns c =
-    preempt-turns _ _ _ c.args.x _ _ c.requires.1 _ _ c.if-kind-eq0.false c.preempt.ensures
+pub returns-in-Preempt : goal.returns-in-Preempt
+returns-in-Preempt c = rw c.in-Preempt.is (preempt-turns _ _ _ c.args.x _ _ c.requires.1 _ c.preempt.ensures)
 
 pub step-requires : goal.step-requires
 step-requires c =
@@ -31,8 +30,8 @@ point_at-y-requires c =
     let k = runs-placed c.requires.0 in
     (placed-point k c.requires.1 _ c.span_at-s.ensures, (placed-few k c.requires.1).1)
 
-pub overflow_add-base : goal.overflow_add-base
-overflow_add-base c =
+pub overflow_add-s : goal.overflow_add-s
+overflow_add-s c =
     let l = placed-point (runs-placed c.requires.0) c.requires.1 _ c.span_at-s.ensures in omega arith
 
 pub span_at-s-requires : goal.span_at-s-requires

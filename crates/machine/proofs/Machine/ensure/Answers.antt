@@ -2,7 +2,7 @@
 use mathlib.Core.Path.{refl}
 use native.Mathlib.Omega.{arith}
 use Rattle.model.specs.Core.{ensure}
-use Rattle.machine.proofs.Laws.{top_in, top-after, on-as, fill-back, does}
+use Rattle.machine.proofs.Laws.{top-after, on-as, fill-back, does}
 use Rattle.machine.proofs.Machine.ensure.Goals as goal
 
 pub fill-requires : goal.fill-requires
@@ -17,6 +17,3 @@ returns c =
     refl
     (on-as c.requires.0 refl refl c.cache-1.given)
     c.ensure_moves-blocks.ensures
-
-pub block_after-first-requires : goal.block_after-first-requires
-block_after-first-requires c = let p = c.requires in (top_in p.0, p.1.fits, p.0.few)

@@ -1,9 +1,8 @@
 -- ST rises with its block, and the occupancy and LP are what the rule leaves.
 use Prim.Native.Nat.{◌+◌}
-use native.Mathlib.Omega.{arith}
 use Rattle.model.specs.Core.{free}
 use Rattle.machine.specs.Moves.{eviction_of}
-use Rattle.machine.proofs.Laws.{top_in, top-after}
+use Rattle.machine.proofs.Laws.{top-after}
 use Rattle.machine.proofs.Machine.free.Goals as goal
 
 pub returns : goal.returns
@@ -21,6 +20,3 @@ returns c =
       },
       record { some = o.some; few = o.few; top = top-after _ _ _ _ _ o.top c.block_after.ensures.0 },
     )
-
-pub block_after-requires : goal.block_after-requires
-block_after-requires c = let p = c.requires in (top_in p.0, omega (arith, p.2), p.0.few)

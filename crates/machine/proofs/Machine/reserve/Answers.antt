@@ -3,7 +3,7 @@ use Prim.Native.Nat.{ℕ}
 use mathlib.Core.Path.{refl, ap, ◌∙◌}
 use lib.ListN.{length}
 use Rattle.model.specs.Core.{reserve, reserve_moves}
-use Rattle.machine.proofs.Laws.{top_in, top_below, area-back, does}
+use Rattle.machine.proofs.Laws.{top_below, area-back, does}
 use Rattle.machine.proofs.Machine.reserve.Goals as goal
 
 pub returns : goal.returns
@@ -17,6 +17,3 @@ returns c =
     (area-back a.cache.now a.memory.now _ _ _ top _ _ _ _ refl moved c.spill.ensures)
     (record { some = o.some; few = o.few; top = top })
     moved
-
-pub block_before-top-requires : goal.block_before-top-requires
-block_before-top-requires c = let p = c.requires in (top_in p.0, p.3)

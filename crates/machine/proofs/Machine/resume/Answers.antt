@@ -2,12 +2,8 @@
 use mathlib.Core.Path.{refl}
 use native.Mathlib.Omega.{arith}
 use Rattle.model.specs.Core.{resume}
-use Rattle.machine.proofs.Laws.{top_in, top-after, on-as, fill-back, does}
+use Rattle.machine.proofs.Laws.{top-after, on-as, fill-back, does}
 use Rattle.machine.proofs.Machine.resume.Goals as goal
-
-pub block_after-first-requires : goal.block_after-first-requires
-block_after-first-requires c =
-    let p = c.requires in (top_in p.0, omega (arith, c.saved_from-live.ensures, p.1.fits), p.0.few)
 
 pub fill-requires : goal.fill-requires
 fill-requires c =

@@ -5,7 +5,7 @@ use lib.ListN.{set, length-set}
 use native.Mathlib.Omega.{arith}
 use Rattle.model.specs.Core.{store}
 use Rattle.machine.specs.Moves.{eviction_of}
-use Rattle.machine.proofs.Laws.{top_in, top-after, on-as}
+use Rattle.machine.proofs.Laws.{top-after, on-as}
 use Rattle.machine.proofs.Machine.store.Goals as goal
 
 pub returns : goal.returns
@@ -14,7 +14,7 @@ returns c =
     let a = c.args in
     let o = c.requires.0 in
     let b = top-after _ _ _ _ _ o.top c.block_after-block.ensures.0 in
-    let p : c.larger_usize.result ≡ max (suc a.o) a.self.pointer = omega arith in (
+    let p : c.max.result ≡ max (suc a.o) a.self.pointer = omega arith in (
       λ memory i. record {
         st = a.self.st;
         occupancy = a.self.occupancy;
@@ -25,6 +25,3 @@ returns c =
       },
       on-as o refl refl (length-set a.cache.now _ a.v),
     )
-
-pub block_after-block-requires : goal.block_after-block-requires
-block_after-block-requires c = (top_in c.requires.0, omega (arith, c.requires.1), c.requires.0.few)
