@@ -9,6 +9,7 @@ use Rattle.model.specs.Figures as figure
 use Rattle.bits.specs.Bits.{set_bits, bit, Marks}
 use Rattle.tables.specs.declared.Span.{Span}
 use Rattle.tables.specs.Tables.{item, point_at, func_in}
+use Rattle.worklist.specs.Worklist.{codes}
 use Rattle.tables.specs.Valid.{Kept}
 use Rattle.effects.specs.declared.Problem.{Problem}
 use Rattle.effects.specs.Effects.{gives, takes}
@@ -52,7 +53,7 @@ pub record Used (n : ℕ) (x x' : Scratch) : Type 0 where
   pub of_gens : Kept n x.gens x'.gens
   pub of_kills : Kept n x.kills x'.kills
   pub of_sets : Kept n x.sets x'.sets
-  pub of_state : Kept n x.state x'.state
+  pub of_state : Kept n (codes x.state) (codes x'.state)
 
 -- function g of the task t is the function s of the tables w, and the column has what is kept at each of its ensures
 pub record KeptIn (w : List ℕ) (s : Span) (column : List ℕ) (t : Task) (g : ℕ) : Type 0 where

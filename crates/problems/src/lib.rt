@@ -13,6 +13,7 @@ use effects::Problem;
 use flow::Flow;
 use model::Limits;
 use tables::Span;
+use worklist::Visit;
 
 // A number for each point of a function.
 pub type Numbers = [u32; Limits::POINTS];
@@ -23,7 +24,7 @@ pub struct Scratch {
     pub gens: [u64; Limits::POINTS],
     pub kills: [u64; Limits::POINTS],
     pub sets: [u64; Limits::POINTS],
-    pub state: [u8; Limits::POINTS],
+    pub state: [Visit; Limits::POINTS],
 }
 
 impl Scratch {
@@ -32,7 +33,7 @@ impl Scratch {
             gens: [0; Limits::POINTS],
             kills: [0; Limits::POINTS],
             sets: [0; Limits::POINTS],
-            state: [0; Limits::POINTS],
+            state: [Visit::Unseen; Limits::POINTS],
         }
     }
 }
