@@ -22,9 +22,9 @@ module _ {text w w' l : List ℕ} {r : Result Header Refusal} (a : Lent work_len
   unfolding check_of verdict_of
   accepts e = rw (a.same, e) (λ i. after_check (Ok tt) ((c ∙ a.after) i))
 
-  pub refuses : {q : Refusal} → r ≡ Err q → after_check (Err q) l ≡ check_of text w
+  pub refuses : {q : Refusal} {v : Verdict} → r ≡ Err q → v ≡ Err q → after_check v l ≡ check_of text w
   unfolding check_of verdict_of
-  refuses {q} e = rw (a.same, e) (λ i. after_check (Err q) ((c ∙ a.after) i))
+  refuses {q} e d = rw (d, a.same, e) (λ i. after_check (Err q) ((c ∙ a.after) i))
 
 -- code and place are those of what was judged
 pub check-numbers : (text w : List ℕ) {l : List ℕ} {v : Verdict} → after_check v l ≡ check_of text w → verdict_numbers v [] ≡ judged_numbers (check_judged_of text w)
