@@ -14,9 +14,3 @@ returns c =
     let r = c.raise_callees.ensures in
     let w = c.write_figures.ensures in
     (r.0, changed-on (points-columns w.1) r.1)
-
-pub write_figures-requires : goal.write_figures-requires
-write_figures-requires c = let k = c.requires in record { worked = k.0.worked; below = k.1 }
-
-pub shape_of-work : goal.shape_of-work
-shape_of-work c = (returns c).1.size
