@@ -15,7 +15,7 @@ ghost use Rattle.writing.specs.Printing.{wrote_of};
 
 use model::{Eviction, Limits, RunResult, Verdict, Written};
 use prices::Price;
-use writing::Print;
+use writing::{Dearest, Print, Report};
 
 // Check: the verdict on a text, and the working space cleared.
 //
@@ -32,8 +32,7 @@ pub fn check(text: &[u8], work: &mut [u32]) -> Verdict
 }
 
 // A service that writes bytes, and the working space cleared.
-fn write(
-    which: Print,
+fn write<P: Print>(
     text: &[u8],
     start: u32,
     each: u32,
@@ -41,12 +40,12 @@ fn write(
     work: &mut [u32],
 ) -> Written
     ensures { after_write result work.new output.new
-        ≡ wrote_of which text.now start each work.old output.old }
+        ≡ wrote_of P.lines text.now start each work.old output.old }
 {
     let price = Price { start, each };
     let first = serving::priced_row(Limits::WORK, work.len(), price);
     let judged = serving::judge_lent(first, text, work);
-    let result = writing::write_judged(which, judged, price, output, work);
+    let result = writing::write_judged::<P>(judged, price, output, work);
     serving::clear(Limits::WORK, work);
     result
 }
@@ -67,7 +66,7 @@ pub fn report(
     ensures numbers { verdict_numbers (written_verdict result) []
         ≡ judged_numbers (report_judged_of text.now start each work.old output.old) }
 {
-    write(Print::Report, text, start, each, output, work)
+    write::<Report>(text, start, each, output, work)
 }
 
 // The dearest points: the first ten of the sheet's points by falling cost, then by falling save, by function and by point, or all if there are fewer, a
@@ -86,7 +85,7 @@ pub fn dearest_points(
     ensures numbers { verdict_numbers (written_verdict result) []
         ≡ judged_numbers (dearest_judged_of text.now start each work.old output.old) }
 {
-    write(Print::Dearest, text, start, each, output, work)
+    write::<Dearest>(text, start, each, output, work)
 }
 
 // A run on the core that evicts so, and the working space cleared.

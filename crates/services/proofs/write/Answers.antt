@@ -4,14 +4,14 @@ use Rattle.serving.proofs.Before.{priced-room}
 use Rattle.serving.proofs.Laws.{first_passes, ready_at, write-left}
 use Rattle.services.proofs.write.Goals as goal
 
-pub judge_lent-judgement-requires : goal.judge_lent-judgement-requires
-judge_lent-judgement-requires c = first_passes _ _ _ _ c.priced_row-first.ensures (priced-room _ _ _ _)
+pub judge_lent-judged-requires : goal.judge_lent-judged-requires
+judge_lent-judged-requires g c = first_passes _ _ _ _ c.priced_row-first.ensures (priced-room _ _ _ _)
 
 pub write_judged-result-requires : goal.write_judged-result-requires
-write_judged-result-requires c =
-    ready_at _ _ _ _ _ _ (c.judge_lent-judgement.ensures _ _ (omega arith) c.priced_row-first.ensures (priced-room _ _ _ _))
+write_judged-result-requires g c =
+    ready_at _ _ _ _ _ _ (c.judge_lent-judged.ensures _ _ (omega arith) c.priced_row-first.ensures (priced-room _ _ _ _))
 
 pub returns : goal.returns
-returns c =
-    write-left (c.judge_lent-judgement.ensures _ _ (omega arith) c.priced_row-first.ensures (priced-room _ _ _ _))
+returns g c =
+    write-left (c.judge_lent-judged.ensures _ _ (omega arith) c.priced_row-first.ensures (priced-room _ _ _ _))
     c.write_judged-result.ensures c.clear.ensures
