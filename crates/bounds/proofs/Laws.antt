@@ -98,15 +98,6 @@ pub record BoundedIn (price : Price) (w : List ℕ) (h : Header) (f n : ℕ) : T
   pub fill : Column (λ f p. ((sheet_in price w h).at f p).fill) fill_bounds f n w
   pub spill : Funcs (sheet_in price w h).spill spill_bounds 0 f w
 
-pub begun-none : {price : Price} {w : List ℕ} {h : Header} {f : ℕ} → BoundedTo price w h f → BoundedIn price w h f 0
-begun-none x =
-    record {
-      readable = x.readable;
-      cost = record { done = x.cost; begun = λ p i. absurd (omega arith) };
-      fill = record { done = x.fill; begun = λ p i. absurd (omega arith) };
-      spill = x.spill;
-    }
-
 -- the cost c and the fill d of point n
 pub point-more : {price : Price} {w : List ℕ} {h : Header} {f n c d : ℕ} {s : Span} → BoundedIn price w h f n → f < h.funcs → s ≡ span_at w f → n < s.size
     → c ≡ ((sheet_in price w h).at f n).cost → d ≡ ((sheet_in price w h).at f n).fill

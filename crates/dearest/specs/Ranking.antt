@@ -80,10 +80,6 @@ pub record Listing (t : Task) (s : Sheet) (ranks : List ℕ) : Type 0 where
   pub printable : Printable ranks
   pub text : list_text ranks ≡ dearest_with t s
 
--- that of the task and the sheet in the working space w
-abbrev pub list_in : Price → List ℕ → Header → List ℕ
-list_in price w h = dearest_with (task_of w h) (sheet_in price w h)
-
 -- how many points are listed of a task with this header
 abbrev pub listed : Header → ℕ
 listed h = min most_dearest h.points

@@ -10,14 +10,6 @@ use Rattle.prices.specs.declared.Price.{Price}
 use Rattle.prices.specs.Prices.{price_of, start_of, Small, most_price}
 
 module _ (x : Price) (n : ℕ) where
-  pub start_none : n ≡ 0 → 0 ≡ start_of x n
-  unfolding start_of
-  start_none e = rw (eq-eqb n 0 e)
-
-  pub start-some : (n ≡ 0 → ⊥) → x.start ≡ start_of x n
-  unfolding start_of
-  start-some e = rw (ne_eqb n 0 e)
-
   -- a start and each block, in one sum
   pub price-sum : start_of x n + x.each * n ≡ price_of x n
   unfolding start_of

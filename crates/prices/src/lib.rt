@@ -13,6 +13,7 @@ pub struct Price {
 
 impl Price {
     // What a move of so many blocks costs before its first block. It is one expression, so that the compiler can choose without a branch.
+    #[tactic(auto, unfolding(crate::specs::Prices::start_of))]
     fn start_of(self, blocks: u32) -> u32
         ensures { result ≡ start_of self blocks }
     {

@@ -15,6 +15,7 @@ use Rattle.model.specs.Sheet.{decimal, line_text}
 use Rattle.model.specs.Services.{over}
 use Rattle.theory.proofs.Lists.{joined-append, joined_snoc, length-joined, sum_room}
 use Rattle.theory.proofs.Decimal.{decimal-small, decimal-large, length-small, length-large}
+use Rattle.print.specs.Wrote.{wrote-length}
 use Rattle.print.specs.Print.{pasted, Wrote, spaced}
 
 -- a buffer that bytes are written into
@@ -36,6 +37,9 @@ pasted-one at d out h = rw add-one (set_split out at d h)
 
 pub wrote-over : (w out : List ℕ) {o : List ℕ} {r : ℕ} → Wrote 0 w out r o → (r ≡ length w) × (o ≡ over w out)
 wrote-over w out x = (omega (arith, x.end), x.buffer ∙ pasted-start w out)
+
+pub wrote-within : (w out : List ℕ) {o : List ℕ} {r : ℕ} → 0 + length w ≤ length out → Wrote 0 w out r o → r ≤ length o
+wrote-within w out h x = omega (arith, x.end, wrote-length h x)
 
 -- what stands from a byte on that was written
 pub drop-set : (i d : ℕ) (out : List ℕ) → i < length out → drop i (set out i d) ≡ d ∷ drop (suc i) out

@@ -36,14 +36,7 @@ module _ {S : Type 0} {end room : S → ℕ} {Puts : List ℕ → S → S → Ty
   pub line-put : (w l : List ℕ) {s t u v : S} → Puts w s t → Puts (spaced l) t u → Puts (bytes ")\n") u v → Puts (line_text w l) s v
   line-put w l p q r = rw (line-parts w l) (then (then p q) r)
 
-  -- pieces for the numbers below n: none, the room of one more, and one more
+  -- pieces for the numbers below n: the room of one more
   module _ (g : ℕ → List ℕ) where
-    pub pieces-none : (s : S) → end s ≤ room s → Puts (joined g (up_to 0)) s s
-    unfolding joined count_from
-    pieces-none s h = laws.nothing s h
-
     pub piece-room : (k n : ℕ) {s t : S} → k < n → end s + length (joined g (up_to n)) ≤ room s → Puts (joined g (up_to k)) s t → end t + length (g k) ≤ room t
     piece-room k n i h p = room-after (length (g k)) (omega (arith, next-room g k n i)) p
-
-    pub piece-more : (n : ℕ) {s t u : S} → Puts (joined g (up_to n)) s t → Puts (g n) t u → Puts (joined g (up_to (n + 1))) s u
-    piece-more n p q = rw (joined-next g n) (then p q)

@@ -145,13 +145,3 @@ pub fn put_line<S: Sink>(out: &mut S, word: &[u8], numbers: &[u32])
     put_numbers(out, numbers);
     out.put(b")\n");
 }
-
-// Writes such a line into a buffer from byte at on, and returns where it ends.
-pub fn write_line(out: &mut [u8], at: usize, word: &[u8], numbers: &[u32]) -> usize
-    requires { at + length (line_text word.now numbers.now) ≤ length out.old }
-    ensures { Wrote at (line_text word.now numbers.now) out.old result out.new }
-{
-    let mut line = Writer { out, end: at };
-    put_line(&mut line, word, numbers);
-    line.end
-}

@@ -33,12 +33,6 @@ pub record Readable (price : Price) (w : List ℕ) (h : Header) : Type 0 where
   pub next : PointsLow most_stack next_column h.funcs w
   pub fill : PointsLow most_stack fill_column h.funcs w
 
--- function f of such a task, which is s
-pub record InFunc (price : Price) (w : List ℕ) (h : Header) (f : ℕ) (s : Span) : Type 0 where
-  pub readable : Readable price w h
-  pub low : f < h.funcs
-  pub span : s ≡ span_at w f
-
 -- the figures of a point as the definitions have them
 abbrev pub figured_of : PointFigures → sheet.PointSheet
 figured_of r =

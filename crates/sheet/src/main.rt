@@ -7,6 +7,7 @@ ghost use Rattle.print.specs.Print.{Wrote};
 ghost use Rattle.sheet.specs.Answer.{refusal_line, Answers, most_line, IsPrefixLen};
 
 use model::{Limits, Refusal};
+use print::Writer;
 use std::fmt::InlineText;
 use std::io;
 use std::io::Read;
@@ -55,7 +56,12 @@ fn put_refusal(output: &mut [u8], r: Refusal) -> usize
     ensures fits { result ≤ length output.new }
 {
     let row = r.row;
-    print::put_line(output, 0, b"(refused", &[codes::code_of(row), r.place])
+    let mut line = Writer {
+        out: output,
+        end: 0,
+    };
+    print::put_line(&mut line, b"(refused", &[codes::code_of(row), r.place]);
+    line.end
 }
 
 // Puts the report of the text, or the line of its refusal, at the front of the output, and returns its length.

@@ -17,8 +17,5 @@ pub returns : goal.returns
 returns c =
     sum c.args.self c.args.blocks c.requires.0 c.requires.1 c.start_of.ensures
 
-pub overflow_mul-result : goal.overflow_mul-result
-overflow_mul-result c = omega (arith, sum c.args.self c.args.blocks c.requires.0 c.requires.1 c.start_of.ensures)
-
 pub overflow_add-result : goal.overflow_add-result
 overflow_add-result c = omega (arith, sum c.args.self c.args.blocks c.requires.0 c.requires.1 c.start_of.ensures)
