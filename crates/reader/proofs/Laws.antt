@@ -210,20 +210,6 @@ pub record Body (text w₀ : List ℕ) (p₀ : Part) (from : Position) (w : List
   pub room : p.before.points + p.size ≤ most_in_all
   pub onward : from.byte ≤ a
 
-pub body-first : (text w : List ℕ) (h : Header) (k : ℕ) (from : Position) → Begins text from → Holds w h → h.funcs < most_funcs
-    → Body text w (opened h k) from w from.byte (opened h k)
-body-first text w h k from b holds few =
-    let e : from.line + 0 ≡ from.line = omega arith in
-    record {
-      answer = rw e;
-      kept = kept_same tables_length w;
-      holds = holds;
-      few = few;
-      begins = omega arith;
-      room = omega arith;
-      onward = omega arith;
-    }
-
 module _ {text w₀ : List ℕ} {p₀ : Part} {from : Position} {w : List ℕ} {a : ℕ} {p : Part} (g : Body text w₀ p₀ from w a p) where
   pub body-line : (x : Point) (c : ℕ) → InsideAs (Some (inside.Point x c)) (take (length text - a) (drop a text)) → Next text a (At x) c
   body-line x c i = next-line text a (At x) c g.begins.within i
@@ -304,12 +290,6 @@ funcs-first text w s a i = record {
 }
 
 module _ {j : Judged} {text w₀ w : List ℕ} {at : Position} {h : Header} (g : FuncsRead j text w₀ w at h) where
-  pub funcs-on : {w' : List ℕ} (at' : Position) (h' : Header) → FuncReadAs (Ok (at', h')) text at (between_of w h) w w' → FuncsRead j text w₀ w' at' h'
-  funcs-on at' h' k = record { answer = g.answer ∙ k.0; kept = kept_on g.kept k.1; holds = k.2; begins = k.3 }
-
-  pub funcs-off : {w' : List ℕ} (q : Refusal) → FuncReadAs (Err q) text at (between_of w h) w w' → ReadAs (Err q) j w₀ w'
-  funcs-off q k = (g.answer ∙ k.0, kept_on g.kept k.1)
-
   module _ (end : length text ≤ at.byte) where
     pub funcs-none : h.funcs ≡ 0 → ReadAs (Err (refuse Form at.line)) j w₀ w
     funcs-none e = (g.answer ∙ (text-end text at.byte at.line (between_of w h) end ∙ no-func w h at.line e), g.kept)

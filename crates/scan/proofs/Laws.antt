@@ -2,7 +2,6 @@
 use Rattle.std.specs.Prelude.{if◌then◌else◌, Some, None, slice_get}
 use Rattle.std.proofs.Common.{◌≡◌, ℕ, zero, suc, ◌+◌, ◌-◌, ◌*◌, ◌%◌, ◌^◌, ◌<◌, ◌≤◌, min, Bool, true, false, not, ◌&&◌, ◌||◌, eqb, leb, List, [], ◌∷◌, ◌++◌, length, get_or, take, drop, sym, refl, ap, ◌∙◌, add-one, arith, length-drop, drop-cons, take-suc, eq-eqb, ne_eqb, le-leb}
 use mathlib.Core.Bool.{and_assoc, and-true, and-false, or-false}
-use lib.Seq.{take-length}
 use Rattle.std.proofs.lemmas.Option.{slice_get_within, get_or_from_slice_get}
 use native.Mathlib.Nat.{pow-succ', pow-le-pow_right}
 use native.Mathlib.Decide.{dec_le, ℕ_discrete}
@@ -67,9 +66,6 @@ pub starts-more :
     (w s : List ℕ) (i : ℕ) {all : Bool} → i < length w → i < length s → all ≡ starts (take i w) s
     → all && eqb (get_or w i 0) (get_or s i 0) ≡ starts (take (i + 1) w) s
 starts-more w s i h k e = rw (e, add-one i) (sym (more w s i h k))
-
-pub starts-whole : (w s : List ℕ) (i : ℕ) → i ≡ length w → starts (take i w) s ≡ starts w s
-starts-whole w s i e = rw (e, take-length w)
 
 -- digits
 
