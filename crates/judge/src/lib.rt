@@ -11,7 +11,7 @@ ghost use Rattle.tables.specs.Valid.{Holds};
 ghost use Rattle.judge.specs.Judgement.{Judges};
 
 use model::{Limits, Refusal, Row, Verdict};
-use tables::Header;
+use tables::{Header, HeldTask};
 
 // 7 to 13 of the task that was read.
 #[tactic(auto, using(crate::proofs::Laws::link_first, crate::proofs::Laws::link_fine, crate::proofs::Laws::linked))]
@@ -19,7 +19,7 @@ fn task_rows(work: &[u32], h: Header) -> Verdict
     requires { Holds work.now h × Shaped (task_of work.now h) }
     ensures { result ≡ row_verdict (task_rows (task_of work.now h)) }
 {
-    links::link_rows(work, h)?;
+    links::link_rows(HeldTask { work, header: h })?;
     reach::walk_rows(work, h)
 }
 

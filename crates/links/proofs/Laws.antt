@@ -1,6 +1,6 @@
 -- Laws of the rows 7 to 10: the points of a function in the tables, the row of a point, and the searches at their start.
 use Rattle.std.specs.Prelude.{Result, Ok}
-use Prim.Native.Nat.{ℕ, suc, ◌+◌, ◌-◌, ◌≤◌, ◌<◌}
+use Prim.Native.Nat.{ℕ, suc, ◌+◌, ◌-◌, ◌<◌}
 use native.Mathlib.Nat.{sub-zero}
 use native.Mathlib.Omega.{arith}
 use native.Mathlib.Decide.{dec_lt}
@@ -8,7 +8,6 @@ use native.Mathlib.Numerals.{add-one}
 use mathlib.Core.Path.{◌≡◌, refl, ap, sym, ◌∙◌}
 use mathlib.Core.Bool.{Bool, true, false, not, ◌&&◌, ◌||◌, or-false, or-true, and-true}
 use mathlib.Core.List.{List}
-use lib.ListN.{get_or, get_or-eq_default}
 use lib.Dec.{ltb}
 use borrow.Author.Tests.{lt-ltb, le-ltb}
 use Rattle.model.specs.declared.Point.{Point}
@@ -22,15 +21,11 @@ use Rattle.model.specs.Walk.{called, ensured, present, is_ensure}
 use Rattle.model.specs.Refusal.{callee_fits, ensure_fits, paired, targets_fit, may_end, end_fits, link_row, first_point, link_rows}
 use Rattle.tables.specs.declared.Header.{Header}
 use Rattle.tables.specs.declared.Span.{Span}
-use Rattle.tables.specs.Tables.{is_access, point_at, span_at, points_of, func_in, task_of, line_in}
+use Rattle.tables.specs.Tables.{is_access, point_at, span_at, func_in, task_of, line_in}
 use Rattle.tables.specs.Valid.{Holds}
 use Rattle.tables.proofs.Laws.{length-points, func-is, point-there, count-is, line-is}
 use Rattle.theory.proofs.Search.{Rest}
 use Rattle.links.specs.Links.{refuse_unless, kind_row, on_line, func_row}
-
--- past the end of a function
-pub point-past : (w : List ℕ) (b n p : ℕ) → n ≤ p → Return ≡ get_or (points_of w b n) p Return
-point-past w b n p h = sym (get_or-eq_default (points_of w b n) Return (rw (length-points w b n) h))
 
 -- the four tests, one after the other
 abbrev four : Bool → Bool → Bool → Bool → Result Unit Row

@@ -6,4 +6,4 @@ use Rattle.links.specs.Links.{func_row}
 use Rattle.links.proofs.func_rows.Given as goal
 
 abbrev pub invariant-loop-p : goal.invariant-loop-p
-invariant-loop-p l = Rest (func_row (task_of l.work l.h) l.f) (link_row (task_of l.work l.h) l.f) l.p l.span.size
+invariant-loop-p l = Rest (func_row (task_of l.task.work.now l.task.header) l.f) (link_row (task_of l.task.work.now l.task.header) l.f) l.p l.func.span.size

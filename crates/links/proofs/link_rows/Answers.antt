@@ -7,7 +7,7 @@ use Rattle.links.proofs.Laws.{links-start}
 use Rattle.links.proofs.link_rows.Goals as goal
 
 pub loop-f-init : goal.loop-f-init
-loop-f-init c = links-start c.requires
+loop-f-init c = links-start c.args.task.holds
 
 pub returns-in_err-func_rows : goal.returns-in_err-func_rows
 returns-in_err-func_rows c =

@@ -6,4 +6,4 @@ use Rattle.links.specs.Links.{func_row}
 use Rattle.links.proofs.link_rows.Given as goal
 
 abbrev pub invariant-loop-f : goal.invariant-loop-f
-invariant-loop-f l = Rest (link_rows (task_of l.work l.h)) (func_row (task_of l.work l.h)) l.f l.h.funcs
+invariant-loop-f l = Rest (link_rows (task_of l.task.work.now l.task.header)) (func_row (task_of l.task.work.now l.task.header)) l.f l.task.header.funcs
