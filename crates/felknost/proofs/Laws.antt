@@ -3,9 +3,9 @@ use Prim.Native.Nat.{ℕ, suc, ◌+◌, ◌≤◌, ◌<◌}
 use mathlib.Core.Path.{◌≡◌, refl, ap, ◌∙◌}
 use mathlib.Core.List.{List, [], ◌∷◌}
 use native.Mathlib.Omega.{arith}
-use native.Mathlib.Numerals.{add-one}
-use lib.ListN.{length, get_or, set}
-use lib.Seq.{take-length, paste, paste-zero, paste-suc}
+use lib.ListN.{length, set}
+use borrow.Rule.Slice.PartMut.{put_mid}
+use Rattle.std.specs.Result.{result_unwrap_or}
 use borrow.Author.Tests.{lt-ltb, le-ltb}
 use Rattle.std.proofs.Common.{Result, Ok, Err}
 use Rattle.model.specs.declared.Refusal.{Refusal}
@@ -13,7 +13,7 @@ use Rattle.model.specs.Rows.{packed}
 use Rattle.model.specs.Task.{refused}
 use Rattle.model.specs.Refusal.{judged}
 use Rattle.model.specs.declared.Eviction.{Eviction}
-use Rattle.model.specs.Services.{over, judged_number, check_number, Called, called, exported, RunBuffers, run_numbers}
+use Rattle.model.specs.Services.{Written, bytes_written, over, judged_number, check_number, Called, called, exported, RunBuffers, run_numbers}
 use Rattle.theory.specs.Exported.{RunAnswered}
 use Rattle.theory.proofs.Faithful.{numbers-hold}
 use Rattle.theory.proofs.Places.{judged-place}
@@ -37,8 +37,17 @@ module _ (text : List ℕ) {r : Result Header Refusal} {w w' : List ℕ} (a : Ju
     numbered i = rw (number_is, e) i
 
 -- code and place, and behind them the numbers that are added
-pub put_all : (a b : ℕ) (added l : List ℕ) → 2 + length added ≤ length l → paste (set (set l 0 a) 1 b) 2 added ≡ over (a ∷ b ∷ added) l
-put_all a b added l h = ?
+pub put_all : (a b k : ℕ) (added l : List ℕ) {v : List ℕ} → v ≡ added → k ≡ length added → 2 ≤ length l
+    → put_mid 2 k (set (set l 0 a) 1 b) v ≡ over (a ∷ b ∷ added) l
+unfolding over
+put_all a b k added [] e i h = absurd (omega arith)
+put_all a b k added (x ∷ []) e i h = absurd (omega arith)
+put_all a b k added (x ∷ y ∷ l) e i h = rw (e, i)
+
+-- the bytes written, as a number of the result
+pub bytes-are : (r : Written) {n : ℕ} → n ≡ result_unwrap_or r 0 → n ≡ bytes_written r
+bytes-are (Ok n) e = e
+bytes-are (Err q) e = e
 
 -- a service as C calls it, where the buffer of the result has too few numbers and where it has not
 module _ {A : Type 0} (numbers : List ℕ) (left lent : A) (result : List ℕ) where
