@@ -47,6 +47,7 @@ pub struct FitFunc<'a> {
 }
 
 // The gens and kills of the points of a function. A problem without a column is lent an empty one.
+#[inline(always)]
 fn fill(problem: Problem, func: FitFunc, column: &[u32], gens: &mut [u64], kills: &mut [u64])
     requires { (func.span.size ≤ length gens.old) × (func.span.size ≤ length kills.old) × Blocks func.span.size column.now }
     ensures { Filled (Gives problem func.entry.work.now func.entry.span column.now) func.entry.span.size gens.old gens.new
@@ -71,6 +72,7 @@ fn each_set<F: Fn(u64) -> u32>(sets: &[u64], out: &mut [u32], number: F)
 }
 
 // The sets of the points of a function, for a problem that goes backward.
+#[inline(always)]
 fn solve(problem: Problem, func: FitFunc, column: &[u32], scratch: &mut Scratch)
     requires { Blocks func.span.size column.now }
     ensures { Answered problem (func_in func.entry.work.now func.entry.span) column.now scratch.new.sets
