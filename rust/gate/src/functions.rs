@@ -66,7 +66,11 @@ impl Place {
     }
 
     fn pass(&mut self, line: &str) {
-        if let Some(rest) = line.strip_prefix("impl ") {
+        if let Some(rest) = line
+            .strip_prefix("impl")
+            .filter(|rest| rest.starts_with([' ', '<']))
+        {
+            let rest = after_parameters(rest).trim_start();
             self.type_name = rest.split([' ', '<', '{']).next().map(str::to_string);
         } else if line == "}" {
             self.type_name = None;
@@ -82,6 +86,22 @@ impl Place {
         let parts: Vec<&str> = parts.into_iter().flatten().collect();
         parts.join("::")
     }
+}
+
+/// What stands behind the parameters of a generic `impl` block.
+fn after_parameters(rest: &str) -> &str {
+    let mut depth = 0;
+    for (at, c) in rest.char_indices() {
+        match c {
+            '<' => depth += 1,
+            '>' if !rest[..at].ends_with('-') => depth -= 1,
+            _ => {}
+        }
+        if depth == 0 {
+            return if at == 0 { rest } else { &rest[at + 1..] };
+        }
+    }
+    rest
 }
 
 /// A function whose end has not been met.
@@ -196,6 +216,12 @@ impl Machine {
     }
 }
 
+impl<'a, const N: usize> Rows<'a, N> {
+    fn room(&self) -> usize {
+        N
+    }
+}
+
 #[unsafe(no_mangle)]
 pub extern \"C\" fn felknost_check(text: &[u8]) -> u32
 {
@@ -224,6 +250,7 @@ pub extern \"C\" fn felknost_check(text: &[u8]) -> u32
                 ("plain", "{ a }"),
                 ("wide", "{ x as u64 }"),
                 ("Machine::reserve", "{ self.st - k }"),
+                ("Rows::room", "{ N }"),
                 ("felknost_check", "{ 0 }"),
             ]
         );
