@@ -3,8 +3,7 @@
 
 ghost use Rattle.std.specs.Prelude.{◌≡◌, ◌≤◌, length};
 ghost use Rattle.model.specs.Rows.{row_verdict};
-ghost use Rattle.model.specs.Refusal.{with_rows, judged, task_rows};
-ghost use Rattle.model.specs.Task.{task};
+ghost use Rattle.model.specs.Refusal.{judged, task_rows};
 ghost use Rattle.model.specs.WellFormed.{Shaped};
 ghost use Rattle.tables.specs.Layout.{tables_length};
 ghost use Rattle.tables.specs.Tables.{task_of};
@@ -12,52 +11,30 @@ ghost use Rattle.tables.specs.Valid.{Holds};
 ghost use Rattle.judge.specs.Judgement.{Judges};
 
 use model::{Limits, Refusal, Row, Verdict};
-use reader::Read;
-use tables::Header;
-
-// A task, which the tables hold, or a refusal.
-#[derive(Clone, Copy)]
-pub enum Judgement {
-    Task(Header),
-    Refused(Refusal),
-}
+use tables::{Header, HeldTask};
 
 // 7 to 13 of the task that was read.
+#[tactic(auto, using(crate::proofs::Laws::link_first, crate::proofs::Laws::link_fine, crate::proofs::Laws::linked))]
 fn task_rows(work: &[u32], h: Header) -> Verdict
     requires { Holds work.now h × Shaped (task_of work.now h) }
     ensures { result ≡ row_verdict (task_rows (task_of work.now h)) }
 {
-    let links = links::link_rows(work, h);
-    match links {
-        Verdict::Refused(r) => Verdict::Refused(r),
-        Verdict::Accepted => reach::walk_rows(work, h),
-    }
+    links::link_rows(HeldTask { work, header: h })?;
+    reach::walk_rows(work, h)
 }
 
-// The task that was read, unless one of those rows refuses it.
-fn with_rows(work: &[u32], h: Header) -> Judgement
-    requires { Holds work.now h × Shaped (task_of work.now h) }
-    ensures { Judges (with_rows task_rows (task (task_of work.now h))) work.now result work.now }
-{
-    match task_rows(work, h) {
-        Verdict::Refused(r) => Judgement::Refused(r),
-        Verdict::Accepted => Judgement::Task(h),
-    }
-}
-
-// The judgement of a text. Everything past the tables is as it was.
-pub fn judge_text(text: &[u8], work: &mut [u32]) -> Judgement
+// A task, which the tables hold, or a refusal. Everything past the tables is as it was.
+pub fn judge_text(text: &[u8], work: &mut [u32]) -> Result<Header, Refusal>
     requires { tables_length ≤ length work.old }
     ensures { Judges (judged text.now) work.old result work.new }
 {
     if Limits::BYTES < text.len() {
-        return Judgement::Refused(Refusal {
+        return Err(Refusal {
             row: Row::TextTooLong,
             place: 0,
         });
     }
-    match reader::read_text(text, work) {
-        Read::Refused(r) => Judgement::Refused(r),
-        Read::Task(h) => with_rows(work, h),
-    }
+    let h = reader::read_text(text, work)?;
+    task_rows(work, h)?;
+    Ok(h)
 }

@@ -1,5 +1,5 @@
 -- A text is cut at its first line feed: what it begins with, read by words that end in a line feed, is what the line before that line feed is.
-use Rattle.std.specs.Prelude.{if◌then◌else◌}
+use Rattle.std.specs.Prelude.{if◌then◌else◌, Some, None}
 use Prim.Native.Nat.compare
 use Prim.Native.Nat.{ℕ, zero, suc, ◌+◌, ◌≤◌}
 use mathlib.Core.Path.{◌≡◌, refl, sym, ap, ◌∙◌}
@@ -16,11 +16,7 @@ use Rattle.model.specs.Text.{starts, same, is_digit, digits, is_number, number_o
 use Rattle.model.specs.Text.{number_then, one_number, with_first, numbers_then, two_numbers}
 use Rattle.model.specs.declared.Line.{Line}
 use Rattle.model.specs.declared.Line.TheVariants.{Malformed}
-use Rattle.scan.specs.declared.Num.{Num}
-use Rattle.scan.specs.declared.Num.TheVariants as num
-use Rattle.scan.specs.declared.Pair.{Pair}
-use Rattle.scan.specs.declared.Pair.TheVariants as pair
-use Rattle.scan.specs.Answers.{scan_number, later, scan_one, second, scan_second, scan_two}
+use Rattle.scan.specs.Answers.{Num, Pair, scan_number, later, scan_one, second, scan_second, scan_two}
 use Rattle.scan.proofs.Laws.{if-same, if-by, both, starts-fits, digits-fit, ends, one-fits}
 use Rattle.line.specs.Lines.{First, first_is}
 use Rattle.line.specs.Patterns.{◌↵◌}
@@ -133,15 +129,15 @@ after-feed l t = rw (digits-feed l t) (drop-append-le (digits l) l (10 ∷ t) (d
 
 -- the number of a line, with the bytes that the line takes
 abbrev pub with_bytes : ℕ → Option ℕ → Num
-with_bytes k none = num.Absent
-with_bytes k (some n) = num.Value n k
+with_bytes k none = None
+with_bytes k (some n) = Some (n, k)
 
 number-line : (e l t : List ℕ) → no_feed e ≡ true → no_feed l ≡ true → scan_number (e ↵ []) (l ↵ t) ≡ with_bytes (length l + 1) (number_then e l)
 unfolding scan_number number_then
 number-line e l t p q =
     let e' = starts-line e (after_number l) t p (no_drop (digits l) l q) in
     rw (number-feed l t, value-feed l t, after-feed l t, digits-feed l t, e', length-append e (10 ∷ []))
-    (if-by (with_bytes (length l + 1)) (is_number l && same e (after_number l)) (λ h. ap (num.Value (number_of l)) (omega (arith, fits h))) refl)
+    (if-by (with_bytes (length l + 1)) (is_number l && same e (after_number l)) (λ h. ap (λ k. Some (number_of l, k)) (omega (arith, fits h))) refl)
   where
     fits : is_number l && same e (after_number l) ≡ true → digits l + length e ≡ length l
     fits h = omega (arith, digits-fit l, length-drop (digits l) l, same_length e (after_number l) (both (is_number l) (same e (after_number l)) h).1)
@@ -150,7 +146,7 @@ number-feeds : (m l t : List ℕ) → no_feed m ≡ true → scan_number m (l �
 unfolding scan_number
 number-feeds m l t p = rw (number-feed l t, value-feed l t, after-feed l t, digits-feed l t, starts-feed m (after_number l) t p)
 
-number-none : (e s : List ℕ) → no_feed s ≡ true → scan_number (e ↵ []) s ≡ num.Absent
+number-none : (e s : List ℕ) → no_feed s ≡ true → scan_number (e ↵ []) s ≡ None
 unfolding scan_number
 number-none e s p = rw (starts_none e (after_number s) (no_drop (digits s) s p), and-false (is_number s))
 
@@ -159,9 +155,9 @@ later-bytes none a b c h = refl
 later-bytes (some n) a b c h = rw h
 
 module _ (w e : List ℕ) where
-  pub one_none : (s : List ℕ) → no_feed s ≡ true → scan_one w (e ↵ []) s ≡ num.Absent
+  pub one_none : (s : List ℕ) → no_feed s ≡ true → scan_one w (e ↵ []) s ≡ None
   unfolding scan_one
-  one_none s p = rw (number-none e (drop (length w) s) (no_drop (length w) s p)) (if-same (starts w s) num.Absent)
+  one_none s p = rw (number-none e (drop (length w) s) (no_drop (length w) s p)) (if-same (starts w s) None)
 
   module _ (l t : List ℕ) (p : no_feed w ≡ true) (q : no_feed e ≡ true) where
     pub one_line : no_feed l ≡ true → scan_one w (e ↵ []) (l ↵ t) ≡ with_bytes (length l + 1) (one_number w e l)
@@ -183,8 +179,8 @@ module _ (w e : List ℕ) where
 
 -- the two numbers of a line, with the bytes that the line takes
 abbrev pub pair_with_bytes : ℕ → Option (ℕ × ℕ) → Pair
-pair_with_bytes k none = pair.Absent
-pair_with_bytes k (some n) = pair.Values n.0 n.1 k
+pair_with_bytes k none = None
+pair_with_bytes k (some n) = Some (n.0, n.1, k)
 
 second-bytes : (x : Option ℕ) (n a b c : ℕ) → a + b ≡ c → second n a (with_bytes b x) ≡ pair_with_bytes c (with_first n x)
 second-bytes none n a b c h = refl
@@ -192,17 +188,17 @@ second-bytes (some m) n a b c h = rw h
 
 -- the two numbers of a line of which the first is found
 abbrev second_of : List ℕ → List ℕ → Num → Option (ℕ × ℕ)
-second_of e l num.Absent = none
-second_of e l (num.Value n k) = with_first n (number_then e (drop k l))
+second_of e l None = none
+second_of e l (Some x) = with_first x.0 (number_then e (drop x.1 l))
 
 module _ (w m e : List ℕ) where
-  pub two_none : (s : List ℕ) → no_feed s ≡ true → scan_two w m (e ↵ []) s ≡ pair.Absent
+  pub two_none : (s : List ℕ) → no_feed s ≡ true → scan_two w m (e ↵ []) s ≡ None
   unfolding scan_two
   two_none s p = go (scan_one w m s)
     where
-      go : (x : Num) → scan_second (e ↵ []) s x ≡ pair.Absent
-      go num.Absent = refl
-      go (num.Value n k) = rw (number-none e (drop k s) (no_drop k s p))
+      go : (x : Num) → scan_second (e ↵ []) s x ≡ None
+      go None = refl
+      go (Some x) = rw (number-none e (drop x.1 s) (no_drop x.1 s p))
 
   two-by : (l : List ℕ) → two_numbers w m e l ≡ second_of e l (scan_one w m l)
   unfolding two_numbers numbers_then scan_number scan_one
@@ -219,7 +215,8 @@ module _ (w m e : List ℕ) where
   two-line l t p q r o = rw (two-by l, one-feeds w m l t p q) (go (scan_one w m l) (one-fits w m l))
     where
       go : (x : Num) → ends x ≤ length l → scan_second (e ↵ []) (l ↵ t) x ≡ pair_with_bytes (length l + 1) (second_of e l x)
-      go num.Absent h = refl
-      go (num.Value n k) h =
+      go None h = refl
+      go (Some x) h =
+          let k = x.1 in
           rw (drop-append-le k l (10 ∷ t) h, number-line e (drop k l) t r (no_drop k l o))
-          (second-bytes (number_then e (drop k l)) n _ _ _ (rw (length-drop k l) (omega arith)))
+          (second-bytes (number_then e (drop k l)) x.0 _ _ _ (rw (length-drop k l) (omega arith)))

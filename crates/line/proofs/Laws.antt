@@ -1,5 +1,5 @@
 -- The first line of a text by its patterns. A byte rules out every pattern whose opening word has another byte there.
-use Rattle.std.specs.Prelude.{if◌then◌else◌}
+use Rattle.std.specs.Prelude.{if◌then◌else◌, Some, None}
 use Prim.Native.Nat.{ℕ, ◌+◌, ◌<◌}
 use mathlib.Core.Path.{◌≡◌, refl, sym, ap, ◌∙◌}
 use mathlib.Core.Bool.{Bool, true, false, ◌&&◌}
@@ -15,11 +15,7 @@ use Rattle.model.specs.Text.{bytes, starts, same, one_number, two_numbers, or_on
 use Rattle.model.specs.declared.Point.{Point}
 use Rattle.model.specs.declared.Line.{Line}
 use Rattle.model.specs.declared.Line.TheVariants.{Stack, Func, At, Close, Malformed}
-use Rattle.scan.specs.declared.Num.{Num}
-use Rattle.scan.specs.declared.Num.TheVariants as num
-use Rattle.scan.specs.declared.Pair.{Pair}
-use Rattle.scan.specs.declared.Pair.TheVariants as pair
-use Rattle.scan.specs.Answers.{scan_one, scan_two}
+use Rattle.scan.specs.Answers.{Num, Pair, scan_one, scan_two}
 use Rattle.scan.proofs.Laws.{both, starts-off, starts-short, one-off, one-short, two-by}
 use Rattle.line.specs.Lines.{First, is_stack, is_func, is_inside, first_is, StackAs, FuncAs}
 use Rattle.line.specs.Patterns.{Pattern, fixed, one, two, Parse, parse_fixed, parse_one, parse_two, ◌↵◌, parse, parse_by, points, stack, func, close, lines}
@@ -221,12 +217,12 @@ module _ (test : Line → Bool) where
   fails-fixed false l k h = refl
 
   fails-one : (x : Num) (f : ℕ → Line) → ((n : ℕ) → test (f n) ≡ false) → passes test (parse_one f x) ≡ false
-  fails-one (num.Value n k) f h = h n
-  fails-one num.Absent f h = refl
+  fails-one (Some x) f h = h x.0
+  fails-one None f h = refl
 
   fails-two : (x : Pair) (f : ℕ → ℕ → Line) → ((p q : ℕ) → test (f p q) ≡ false) → passes test (parse_two f x) ≡ false
-  fails-two (pair.Values p q k) f h = h p q
-  fails-two pair.Absent f h = refl
+  fails-two (Some x) f h = h x.0 x.1
+  fails-two None f h = refl
 
   Never : Pattern → Type 0
   Never (fixed w l) = test l ≡ false
@@ -259,14 +255,14 @@ module _ (test : Line → Bool) where
 
 pub stack-as : (r : Num) (s : List ℕ) → r ≡ scan_one (bytes "(stack ") (bytes ")\n") s → StackAs r s
 unfolding first_of select Never
-stack-as (num.Value n k) s e = found-one 1 115 s stack (Stack n, k) refl (λ y n. rw (ne_eqb 115 y n)) (ap (parse_one Stack) e)
-stack-as num.Absent s e =
+stack-as (Some x) s e = found-one 1 115 s stack (Stack x.0, x.1) refl (λ y n. rw (ne_eqb 115 y n)) (ap (parse_one Stack) e)
+stack-as None s e =
     not_first is_stack refl s (rw (← e) (fails is_stack (func ∷ close ∷ points) s (λ n. refl, (refl, fails-points is_stack (λ x. refl)))))
 
 pub func-as : (r : Num) (s : List ℕ) → r ≡ scan_one (bytes "(func ") (bytes "\n") s → FuncAs r s
 unfolding first_of select Never
-func-as (num.Value n k) s e = found-one 1 102 s func (Func n, k) refl (λ y n. rw (ne_eqb 102 y n)) (ap (parse_one Func) e)
-func-as num.Absent s e =
+func-as (Some x) s e = found-one 1 102 s func (Func x.0, x.1) refl (λ y n. rw (ne_eqb 102 y n)) (ap (parse_one Func) e)
+func-as None s e =
     not_first is_func refl s (rw (← e) (fails is_func (stack ∷ close ∷ points) s (λ n. refl, (refl, fails-points is_func (λ x. refl)))))
 
 pub point-as : (x : Point) (k : ℕ) (s : List ℕ) → some (At x, k) ≡ parse_by points s → First s (At x) k

@@ -1,10 +1,9 @@
 -- What the first line of a text is: the text is what follows a line feed of a task text, or the whole of it.
-use Rattle.std.specs.Prelude.{ℕ, ◌≤◌, Bool, true, false, List, [], ◌∷◌, ◌≡◌, length, drop}
+use Rattle.std.specs.Prelude.{ℕ, ◌≤◌, Bool, true, false, List, [], ◌∷◌, ◌≡◌, length, drop, Option, Some, None}
 use Rattle.model.specs.Text.{lines_of}
 use Rattle.model.specs.declared.Line.{Line}
 use Rattle.model.specs.declared.Line.TheVariants.{Stack, Func, At, Close, Malformed}
-use Rattle.scan.specs.declared.Num.{Num}
-use Rattle.scan.specs.declared.Num.TheVariants as num
+use Rattle.scan.specs.Answers.{Num}
 use Rattle.line.specs.declared.Inside.{Inside}
 use Rattle.line.specs.declared.Inside.TheVariants as inside
 
@@ -39,8 +38,8 @@ first_is test (l ∷ ls) = test l
 -- what each reader says of the text s
 
 abbrev pub NumAs : (ℕ → Line) → (Line → Bool) → Num → List ℕ → Type 0
-NumAs f test (num.Value n k) s = First s (f n) k
-NumAs f test num.Absent s = first_is test (lines_of s) ≡ false
+NumAs f test (Some x) s = First s (f x.0) x.1
+NumAs f test None s = first_is test (lines_of s) ≡ false
 
 abbrev pub StackAs : Num → List ℕ → Type 0
 StackAs = NumAs Stack is_stack
@@ -48,7 +47,7 @@ StackAs = NumAs Stack is_stack
 abbrev pub FuncAs : Num → List ℕ → Type 0
 FuncAs = NumAs Func is_func
 
-abbrev pub InsideAs : Inside → List ℕ → Type 0
-InsideAs (inside.Point x k) s = First s (At x) k
-InsideAs inside.Close s = First s Close 2
-InsideAs inside.Other s = first_is is_inside (lines_of s) ≡ false
+abbrev pub InsideAs : Option Inside → List ℕ → Type 0
+InsideAs (Some (inside.Point x k)) s = First s (At x) k
+InsideAs (Some inside.Close) s = First s Close 2
+InsideAs None s = first_is is_inside (lines_of s) ≡ false

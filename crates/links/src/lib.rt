@@ -4,157 +4,106 @@
 ghost use Rattle.std.specs.Prelude.{◌≡◌, ◌&&◌, ◌-◌, ◌<◌, ltb};
 ghost use Rattle.std.proofs.Math.Option.{some};
 ghost use Rattle.model.specs.Rows.{row_verdict};
-ghost use Rattle.model.specs.Task.{point};
 ghost use Rattle.model.specs.Refusal.{ensure_fits, target_fits, link_row, link_rows};
 ghost use Rattle.tables.specs.Tables.{span_at, func_in, task_of};
-ghost use Rattle.tables.specs.Valid.{Holds, Lies};
 ghost use Rattle.links.specs.Links.{refuse_unless, kind_row, func_row};
 
 use model::{Point, Refusal, Row, Verdict};
-use tables::{Header, Span};
-
-// Point p of a function. Past the end it is a return.
-fn point_in(work: &[u32], s: Span, p: usize) -> Point
-    requires { Lies work.now s }
-    ensures { result ≡ point (func_in work.now s) p }
-{
-    if s.size <= p {
-        return Point::Return;
-    }
-    tables::point_at(work, s.base + p)
-}
+use tables::{HeldFunc, HeldTask};
 
 // 7: a call goes to a later function that exists.
 fn callee_fits(funcs: usize, f: usize, callee: u32) -> bool
     ensures { result ≡ (ltb f callee && ltb callee funcs) }
 {
     let g = callee as usize;
-    if g <= f {
-        return false;
-    }
-    g < funcs
+    f < g && g < funcs
+}
+
+// Refuses by this row unless the test holds.
+fn refuse_unless(test: bool, row: Row) -> Result<(), Row>
+    ensures { result ≡ refuse_unless test row (Ok tt) }
+{
+    if test { Ok(()) } else { Err(row) }
 }
 
 // 8: an ensure stands directly after a call and repeats the frame.
-fn ensure_fits(work: &[u32], s: Span, p: usize, k: u32) -> bool
-    requires { Lies work.now s }
-    ensures { result ≡ ensure_fits (func_in work.now s) p (some k) }
+fn ensure_fits(func: HeldFunc, p: usize, k: u32) -> bool
+    ensures { result ≡ ensure_fits (func_in func.entry.work.now func.entry.span) p (some k) }
 {
     if p == 0 {
         return false;
     }
-    points::is_call(point_in(work, s, p - 1)) & (k == s.frame)
+    points::is_call(func.point_or_return(p - 1)) & (k == func.span.frame)
 }
 
 // 9: a target is a point of the function and no ensure.
-fn target_fits(work: &[u32], s: Span, target: u32) -> bool
-    requires { Lies work.now s }
-    ensures { result ≡ target_fits (func_in work.now s) target }
+fn target_fits(func: HeldFunc, target: u32) -> bool
+    ensures { result ≡ target_fits (func_in func.entry.work.now func.entry.span) target }
 {
     let q = target as usize;
-    (q < s.size) & !points::is_ensure(point_in(work, s, q))
-}
-
-// Both targets of an either. The second is looked at only where the first fits.
-fn both_fit(work: &[u32], s: Span, first: u32, second: u32) -> bool
-    requires { Lies work.now s }
-    ensures { result ≡ (target_fits (func_in work.now s) first && target_fits (func_in work.now s) second) }
-{
-    target_fits(work, s, first) && target_fits(work, s, second)
-}
-
-// Refuses by this row unless the test holds. What is tried after it decides then.
-fn refuse_unless(test: bool, row: Row, line: u32, after: Verdict) -> Verdict
-    ensures { result ≡ refuse_unless test row line after }
-{
-    if test {
-        return after;
-    }
-    Verdict::Refused(Refusal { row, place: line })
+    (q < func.span.size) & !points::is_ensure(func.point_or_return(q))
 }
 
 // 7 to 10 at point p of function f, which is x: the tests that a point of its kind can fail, by number.
 // 8: an ensure comes directly after a call. 10: the last point does not lead past the end.
-fn kind_row(work: &[u32], funcs: usize, f: usize, s: Span, p: usize, line: u32, x: Point) -> Verdict
-    requires { Lies work.now s × (p < s.size) }
-    ensures { result ≡ kind_row funcs f (func_in work.now s) p (ltb p (s.size - 1)) line x }
+fn kind_row(func: HeldFunc, funcs: usize, f: usize, p: usize, x: Point) -> Result<(), Row>
+    requires { p < func.span.size }
+    ensures { result ≡ kind_row funcs f (func_in func.entry.work.now func.entry.span) p (ltb p (func.entry.span.size - 1)) x }
 {
-    let last = refuse_unless(p < s.size - 1, Row::LastPoint, line, Verdict::Accepted);
+    let next = p < func.span.size - 1;
     match x {
-        Point::Load(_) => last,
-        Point::Store(_) => last,
+        Point::Load(_) | Point::Store(_) => refuse_unless(next, Row::LastPoint),
         Point::Call(g) => {
-            let pairing = refuse_unless(
-                points::is_ensure(point_in(work, s, p + 1)),
-                Row::Pairing,
-                line,
-                last,
-            );
-            refuse_unless(callee_fits(funcs, f, g), Row::Callee, line, pairing)
+            refuse_unless(callee_fits(funcs, f, g), Row::Callee)?;
+            refuse_unless(points::is_ensure(func.point_or_return(p + 1)), Row::Pairing)?;
+            refuse_unless(next, Row::LastPoint)
         }
-        Point::Ensure(k) => refuse_unless(ensure_fits(work, s, p, k), Row::Pairing, line, last),
-        Point::Goto(q) => refuse_unless(
-            target_fits(work, s, q),
-            Row::Target,
-            line,
-            Verdict::Accepted,
-        ),
-        Point::Either(q, r) => refuse_unless(
-            both_fit(work, s, q, r),
-            Row::Target,
-            line,
-            Verdict::Accepted,
-        ),
-        Point::Return => Verdict::Accepted,
+        Point::Ensure(k) => {
+            refuse_unless(ensure_fits(func, p, k), Row::Pairing)?;
+            refuse_unless(next, Row::LastPoint)
+        }
+        Point::Goto(q) => refuse_unless(target_fits(func, q), Row::Target),
+        Point::Either(q, r) => {
+            refuse_unless(target_fits(func, q) && target_fits(func, r), Row::Target)
+        }
+        Point::Return => Ok(()),
     }
 }
 
-// 7 to 10 at point p of function f.
-fn link_row(work: &[u32], h: Header, f: usize, s: Span, p: usize) -> Verdict
-    requires { Holds work.now h × (f < h.funcs) × (s ≡ span_at work.now f) × Lies work.now s × (p < s.size) }
-    ensures { result ≡ row_verdict (link_row (task_of work.now h) f p) }
+// 7 to 10 at point p of function f, which is func.
+fn link_row(task: HeldTask, f: usize, func: HeldFunc, p: usize) -> Verdict
+    requires { (f < task.header.funcs) × (func.work.now ≡ task.work.now) × (func.span ≡ span_at task.work.now f) × (p < func.span.size) }
+    ensures { result ≡ row_verdict (link_row (task_of task.entry.work.now task.entry.header) f p) }
 {
-    let x = tables::point_at(work, s.base + p);
-    let line = tables::line_in(f, s.base, p);
-    kind_row(work, h.funcs, f, s, p, line, x)
+    let x = func.point(p);
+    let place = tables::line_in(f, func.span.base, p);
+    kind_row(func, task.header.funcs, f, p, x).map_err(|row| Refusal { row, place })
 }
 
 // 7 to 10 at the points of function f. Before the last point none of them can refuse a load or a store.
-fn func_rows(work: &[u32], h: Header, f: usize) -> Verdict
-    requires { Holds work.now h × (f < h.funcs) }
-    ensures { result ≡ row_verdict (func_row (task_of work.now h) f) }
+fn func_rows(task: HeldTask, f: usize) -> Verdict
+    requires { f < task.header.funcs }
+    ensures { result ≡ row_verdict (func_row (task_of task.entry.work.now task.entry.header) f) }
 {
-    let s = tables::span_at(work, f);
-    if s.size == 0 {
-        return Verdict::Accepted;
+    let func = task.func(f);
+    if func.span.size == 0 {
+        return Ok(());
     }
-    let last = s.size - 1;
-    let mut p = 0;
-    while p < last {
-        if !tables::access_at(work, s.base + p) {
-            let v = link_row(work, h, f, s, p);
-            if let Verdict::Refused(r) = v {
-                return Verdict::Refused(r);
-            }
+    let last = func.span.size - 1;
+    for p in 0..last {
+        if !func.accesses(p) {
+            link_row(task, f, func, p)?;
         }
-        p += 1;
     }
-    link_row(work, h, f, s, last)
+    link_row(task, f, func, last)
 }
 
 // 7 to 10: the first point, by line, that one of them refuses.
-pub fn link_rows(work: &[u32], h: Header) -> Verdict
-    requires { Holds work.now h }
-    ensures { result ≡ row_verdict (link_rows (task_of work.now h)) }
+pub fn link_rows(task: HeldTask) -> Verdict
+    ensures { result ≡ row_verdict (link_rows (task_of task.entry.work.now task.entry.header)) }
 {
-    let funcs = h.funcs;
-    let mut f = 0;
-    while f < funcs {
-        let v = func_rows(work, h, f);
-        if let Verdict::Refused(r) = v {
-            return Verdict::Refused(r);
-        }
-        f += 1;
+    for f in 0..task.header.funcs {
+        func_rows(task, f)?;
     }
-    Verdict::Accepted
+    Ok(())
 }

@@ -1,9 +1,9 @@
 -- What the functions of the reader say: the answer for the whole text is the answer for what is left of it.
-use Rattle.std.specs.Prelude.{ℕ, ◌+◌, ◌≤◌, ◌<◌, ◌≡◌, List, [], length, drop}
+use Rattle.std.specs.Prelude.{ℕ, ◌+◌, ◌≤◌, ◌<◌, ◌≡◌, List, [], length, drop, Result, Ok, Err}
 use Rattle.model.specs.declared.Line.{Line}
-use Rattle.model.specs.declared.Verdict.{Verdict}
-use Rattle.model.specs.declared.Verdict.TheVariants as verdict
+use Rattle.model.specs.declared.Refusal.{Refusal}
 use Rattle.model.specs.Limits.{most_in_all, most_bytes}
+use Rattle.model.specs.Rows.{Verdict}
 use Rattle.model.specs.Text.{lines_of}
 use Rattle.model.specs.Task.{Func, Progress, between, inside, Judged, refused, task, stop, goes, read_line, read_from}
 use Rattle.tables.specs.declared.Header.{Header}
@@ -11,10 +11,7 @@ use Rattle.tables.specs.Layout.{tables_length}
 use Rattle.tables.specs.Tables.{points_of, task_of}
 use Rattle.tables.specs.Valid.{Kept, Holds}
 use Rattle.reader.specs.declared.Position.{Position}
-use Rattle.reader.specs.declared.FuncRead.{FuncRead}
-use Rattle.reader.specs.declared.FuncRead.TheVariants as func-read
-use Rattle.reader.specs.declared.Read.{Read}
-use Rattle.reader.specs.declared.Read.TheVariants as read
+use Rattle.reader.specs.declared.Part.{Part}
 
 -- a line of a text that is short enough begins at this position: line n at byte n - 1 or later
 pub record Begins (text : List ℕ) (at : Position) : Type 0 where
@@ -30,40 +27,49 @@ rest text at p = read_from at.line p (lines_of (drop at.byte text))
 abbrev pub after_stack : List ℕ → ℕ → ℕ → Judged
 after_stack text s a = rest text (record { line = 2; byte = a }) (between (record { stack = s; funcs = [] }))
 
--- the functions of the tables, and the function after them with frame k and m points so far
-abbrev pub part_of : List ℕ → Header → ℕ → ℕ → Func
-part_of w h k m = record { frame = k; points = points_of w h.points m }
-
 abbrev pub between_of : List ℕ → Header → Progress
 between_of w h = between (task_of w h)
 
-abbrev pub inside_of : List ℕ → Header → ℕ → ℕ → Progress
-inside_of w h k m = inside (task_of w h) (part_of w h k m)
+-- the function that is being read, as far as the tables hold it, and the progress in it
+abbrev pub part_of : List ℕ → Part → Func
+part_of w p = record { frame = p.frame; points = points_of w p.before.points p.size }
 
--- the header with one function more, of m points
-abbrev pub after_func : Header → ℕ → Header
-after_func h m = record { stack = h.stack; funcs = h.funcs + 1; points = h.points + m }
+abbrev pub inside_of : List ℕ → Part → Progress
+inside_of w p = inside (task_of w p.before) (part_of w p)
 
--- a point line inside a function
-abbrev pub PointAs : Verdict → List ℕ → List ℕ → Header → ℕ → ℕ → ℕ → Line → Type 0
-PointAs verdict.Accepted w w' h k m n l =
-    (read_line n (inside_of w h k m) l ≡ goes (inside_of w' h k (m + 1)))
+-- the function with frame k after those of h, with no point so far
+abbrev pub opened : Header → ℕ → Part
+opened h k = record { before = h; frame = k; size = 0 }
+
+-- one point more
+abbrev pub more : Part → Part
+more p = record { before = p.before; frame = p.frame; size = p.size + 1 }
+
+-- the header that counts the function
+abbrev pub after_func : Part → Header
+after_func p = record { stack = p.before.stack; funcs = p.before.funcs + 1; points = p.before.points + p.size }
+
+-- line n, a point line inside a function; p, p': the function before and after it
+abbrev pub PointAs : Verdict → List ℕ → List ℕ → Part → Part → ℕ → Line → Type 0
+PointAs (Ok u) w w' p p' n l =
+    (read_line n (inside_of w p) l ≡ goes (inside_of w' (more p)))
     × Kept tables_length w w'
-    × Holds w' h
-    × (h.points + m < most_in_all)
-PointAs (verdict.Refused q) w w' h k m n l = (read_line n (inside_of w h k m) l ≡ stop q) × (w' ≡ w)
+    × Holds w' p.before
+    × (p.before.points + p.size < most_in_all)
+    × (p' ≡ more p)
+PointAs (Err q) w w' p p' n l = (read_line n (inside_of w p) l ≡ stop q) × (w' ≡ w)
 
--- the rest of a function, read on from the position at and the progress p
-abbrev pub FuncReadAs : FuncRead → List ℕ → Position → Progress → List ℕ → List ℕ → Type 0
-FuncReadAs (func-read.Whole next h) text at p w w' =
-    (rest text at p ≡ rest text next (between_of w' h))
+-- the rest of a function, read on from the position at and the progress p: the position after its closing line, and the header that counts it
+abbrev pub FuncReadAs : Result (Position × Header) Refusal → List ℕ → Position → Progress → List ℕ → List ℕ → Type 0
+FuncReadAs (Ok x) text at p w w' =
+    (rest text at p ≡ rest text x.0 (between_of w' x.1))
     × Kept tables_length w w'
-    × Holds w' h
-    × Begins text next
-    × (at.byte < next.byte)
-FuncReadAs (func-read.Refused q) text at p w w' = (rest text at p ≡ refused q) × Kept tables_length w w'
+    × Holds w' x.1
+    × Begins text x.0
+    × (at.byte < x.0.byte)
+FuncReadAs (Err q) text at p w w' = (rest text at p ≡ refused q) × Kept tables_length w w'
 
--- a whole text
-abbrev pub ReadAs : Read → Judged → List ℕ → List ℕ → Type 0
-ReadAs (read.Task h) j w w' = (j ≡ task (task_of w' h)) × Kept tables_length w w' × Holds w' h
-ReadAs (read.Refused q) j w w' = (j ≡ refused q) × Kept tables_length w w'
+-- a whole text: a task, which the tables hold, or a refusal
+abbrev pub ReadAs : Result Header Refusal → Judged → List ℕ → List ℕ → Type 0
+ReadAs (Ok h) j w w' = (j ≡ task (task_of w' h)) × Kept tables_length w w' × Holds w' h
+ReadAs (Err q) j w w' = (j ≡ refused q) × Kept tables_length w w'

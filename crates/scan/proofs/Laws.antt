@@ -1,15 +1,15 @@
 -- Laws of the definitions of model that a reader of words and numbers uses.
-use Rattle.std.specs.Prelude.{if◌then◌else◌}
-use Rattle.std.proofs.Common.{◌≡◌, ℕ, zero, suc, ◌+◌, ◌-◌, ◌*◌, ◌%◌, ◌^◌, ◌<◌, ◌≤◌, min, Bool, true, false, not, ◌&&◌, ◌||◌, eqb, leb, List, [], ◌∷◌, ◌++◌, length, get_or, take, drop, sym, refl, ap, ◌∙◌, add-one, arith, length-drop, drop_of_length-le, drop-cons, take-suc, eq-eqb, ne_eqb, le-leb}
-use mathlib.Core.Bool.{and-true, and-false, or-false}
+use Rattle.std.specs.Prelude.{if◌then◌else◌, Some, None, slice_get}
+use Rattle.std.proofs.Common.{◌≡◌, ℕ, zero, suc, ◌+◌, ◌-◌, ◌*◌, ◌%◌, ◌^◌, ◌<◌, ◌≤◌, min, Bool, true, false, not, ◌&&◌, ◌||◌, eqb, leb, List, [], ◌∷◌, ◌++◌, length, get_or, take, drop, sym, refl, ap, ◌∙◌, add-one, arith, length-drop, drop-cons, take-suc, eq-eqb, ne_eqb, le-leb}
+use mathlib.Core.Bool.{and_assoc, and-true, and-false, or-false}
+use lib.Seq.{take-length}
+use Rattle.std.proofs.lemmas.Option.{slice_get_within, get_or_from_slice_get}
 use native.Mathlib.Nat.{pow-succ', pow-le-pow_right}
 use native.Mathlib.Decide.{dec_le, ℕ_discrete}
 use borrow.Author.Tests.{not-true, lt-leb}
 use borrow.Author.Rules.{part_to_end}
 use Rattle.model.specs.Text.{starts, is_digit, digits, value, is_number, number_of, after_number}
-use Rattle.scan.specs.declared.Num.{Num}
-use Rattle.scan.specs.declared.Num.TheVariants as num
-use Rattle.scan.specs.Answers.{delimits, scan_number, later, scan_one, second, scan_second, scan_two, limit, Taken}
+use Rattle.scan.specs.Answers.{Num, delimits, scan_number, later, scan_one, second, scan_second, scan_two, limit, Taken}
 
 -- the part of s from i on, as a function that is lent `&s[i..]` sees it
 abbrev pub tail : ℕ → List ℕ → List ℕ
@@ -53,16 +53,23 @@ starts-fits w s e =
       | no h ↦ let i = starts-short w s (omega arith) in let z : ◌≡◌ {A = ℕ} 0 1 = cc in omega arith
     ]
 
--- the word from its byte j on
-pub starts-at :
-    (w s : List ℕ) (i j : ℕ) → i ≡ j + 1 → j < length w → j < length s
-    → starts (drop j w) (drop j s) ≡ eqb (get_or w j 0) (get_or s j 0) && starts (drop i w) (drop i s)
+-- one more byte of the word
+more : (w s : List ℕ) (i : ℕ) → i < length w → i < length s → starts (take (suc i) w) s ≡ starts (take i w) s && eqb (get_or w i 0) (get_or s i 0)
 unfolding starts
-starts-at w s i j n h k = rw (n, add-one, drop-cons w j 0, drop-cons s j 0)
+more [] s i h k = absurd (omega arith)
+more (a ∷ w) [] i h k = absurd (omega arith)
+more (a ∷ w) (b ∷ s) zero h k = and-true (eqb a b)
+more (a ∷ w) (b ∷ s) (suc i) h k =
+    ap (λ t. eqb a b && t) (more w s i (omega arith) (omega arith))
+    ∙ sym (and_assoc (eqb a b) (starts (take i w) s) (eqb (get_or w i 0) (get_or s i 0)))
 
-pub starts-end : (w s : List ℕ) (i : ℕ) → length w ≤ i → starts (drop i w) (drop i s) ≡ true
-unfolding starts
-starts-end w s i h = rw (drop_of_length-le w h)
+pub starts-more :
+    (w s : List ℕ) (i : ℕ) {all : Bool} → i < length w → i < length s → all ≡ starts (take i w) s
+    → all && eqb (get_or w i 0) (get_or s i 0) ≡ starts (take (i + 1) w) s
+starts-more w s i h k e = rw (e, add-one i) (sym (more w s i h k))
+
+pub starts-whole : (w s : List ℕ) (i : ℕ) → i ≡ length w → starts (take i w) s ≡ starts w s
+starts-whole w s i e = rw (e, take-length w)
 
 -- digits
 
@@ -107,6 +114,15 @@ module _ (s : List ℕ) (i d : ℕ) (h : i < length s) (e : (d + 48) % 2 ^ 32 �
 
   pub value-more : d ≤ 9 → value 0 (take i s) * 10 + d ≡ value 0 (take (i + 1) s)
   value-more k = rw (add-one, take-suc s i 0) (omega (arith, value-snoc 0 (take i s) (get_or s i 0)))
+
+-- the first byte of s, as the code finds it
+pub first-byte : (s : List ℕ) (x d : ℕ) → Some x ≡ slice_get s 0 → (d + 48) % 2 ^ 32 ≡ x → (0 < length s) × ((d + 48) % 2 ^ 32 ≡ get_or s 0 0)
+first-byte s x d e h = (slice_get_within s 0 x (sym e), h ∙ sym (get_or_from_slice_get s 0 x 0 (sym e)))
+
+pub no_byte : (s : List ℕ) → None ≡ slice_get s 0 → digits s ≡ 0
+unfolding digits
+no_byte [] e = refl
+no_byte (b ∷ s) e = cc
 
 pub value-first : (s : List ℕ) (d : ℕ) → 0 < length s → (d + 48) % 2 ^ 32 ≡ get_or s 0 0 → d ≤ 9 → d ≡ value 0 (take 1 s)
 unfolding value
@@ -162,13 +178,13 @@ taken_is s d v i e k h l m t = record {
 
 -- s begins with a number and the word e, or not
 
-pub number-absent : (e s : List ℕ) → digits s ≡ 0 → num.Absent ≡ scan_number e s
+pub number-absent : (e s : List ℕ) → digits s ≡ 0 → None ≡ scan_number e s
 unfolding scan_number
 number-absent e s h = rw h
 
 pub number-taken :
     (e s : List ℕ) (v k : ℕ) → delimits e ≡ true → Taken s v k → (b : Bool) → starts e (tail k s) ≡ b
-    → (if b then num.Value v (k + length e) else num.Absent) ≡ scan_number e s
+    → (if b then Some (v, k + length e) else None) ≡ scan_number e s
 unfolding scan_number
 number-taken e s v k d t b h =
     elim (ℕ_discrete (digits s) k) [
@@ -179,19 +195,19 @@ number-taken e s v k d t b h =
 -- how many bytes are taken
 
 abbrev pub ends : Num → ℕ
-ends (num.Value v k) = k
-ends num.Absent = 0
+ends (Some x) = x.1
+ends None = 0
 
 pub number_fits : (e s : List ℕ) → ends (scan_number e s) ≤ length s
 unfolding scan_number
 number_fits e s = go (is_number s && starts e (after_number s)) refl
   where
-    go : (t : Bool) → is_number s && starts e (after_number s) ≡ t → ends (if t then num.Value (number_of s) (digits s + length e) else num.Absent) ≤ length s
+    go : (t : Bool) → is_number s && starts e (after_number s) ≡ t → ends (if t then Some (number_of s, digits s + length e) else None) ≤ length s
     go true h =
         omega (arith, starts-fits e (after_number s) (both (is_number s) (starts e (after_number s)) h).1, length-drop (digits s) s, digits-fit s)
     go false h = omega arith
 
-number_short : (e s : List ℕ) → length s ≤ length e → scan_number e s ≡ num.Absent
+number_short : (e s : List ℕ) → length s ≤ length e → scan_number e s ≡ None
 unfolding scan_number
 number_short e s h =
     elim (dec_le 1 (digits s)) [
@@ -200,31 +216,31 @@ number_short e s h =
     ]
 
 -- a number and the word e in the part of s from a on
-pub tail-fits : (e s : List ℕ) (a v k : ℕ) → a ≤ length s → scan_number e (tail a s) ≡ num.Value v k → a + k ≤ length s
+pub tail-fits : (e s : List ℕ) (a v k : ℕ) → a ≤ length s → scan_number e (tail a s) ≡ Some (v, k) → a + k ≤ length s
 tail-fits e s a v k l h = omega (arith, rw (h, part_to_end s a, length-drop a s) at (number_fits e (tail a s)))
 
 later-ends : (k : ℕ) (x : Num) → ends (later k x) ≤ k + ends x
-later-ends k (num.Value v n) = omega arith
-later-ends k num.Absent = omega arith
+later-ends k (Some x) = omega arith
+later-ends k None = omega arith
 
 module _ (w e s : List ℕ) where
   pub one-fits : ends (scan_one w e s) ≤ length s
   unfolding scan_one
   one-fits = go (starts w s) refl
     where
-      go : (t : Bool) → starts w s ≡ t → ends (if t then later (length w) (scan_number e (drop (length w) s)) else num.Absent) ≤ length s
+      go : (t : Bool) → starts w s ≡ t → ends (if t then later (length w) (scan_number e (drop (length w) s)) else None) ≤ length s
       go true h =
           let d = drop (length w) s in
           omega (arith, later-ends (length w) (scan_number e d), number_fits e d, length-drop (length w) s, starts-fits w s h)
       go false h = omega arith
 
-  pub one-short : length s ≤ length w + length e → scan_one w e s ≡ num.Absent
+  pub one-short : length s ≤ length w + length e → scan_one w e s ≡ None
   unfolding scan_one
-  one-short h = rw (number_short e (drop (length w) s) (rw (length-drop (length w) s) (omega arith))) (if-same (starts w s) num.Absent)
+  one-short h = rw (number_short e (drop (length w) s) (rw (length-drop (length w) s) (omega arith))) (if-same (starts w s) None)
 
   -- s begins with the word w, a number and the word e, or not
 
-  pub one-off : starts w s ≡ false → num.Absent ≡ scan_one w e s
+  pub one-off : starts w s ≡ false → None ≡ scan_one w e s
   unfolding scan_one
   one-off h = rw h
 
@@ -238,5 +254,5 @@ module _ (w m e s : List ℕ) where
   unfolding scan_two
   two-by x h = ap (scan_second e s) h
 
-  pub two-on : (p k : ℕ) (y : Num) → num.Value p k ≡ scan_one w m s → y ≡ scan_number e (tail k s) → second p k y ≡ scan_two w m e s
-  two-on p k y h j = ap (second p k) (j ∙ ap (scan_number e) (part_to_end s k)) ∙ two-by (num.Value p k) h
+  pub two-on : (p k : ℕ) (y : Num) → Some (p, k) ≡ scan_one w m s → y ≡ scan_number e (tail k s) → second p k y ≡ scan_two w m e s
+  two-on p k y h j = ap (second p k) (j ∙ ap (scan_number e) (part_to_end s k)) ∙ two-by (Some (p, k)) h

@@ -5,7 +5,8 @@ use mathlib.Core.Path.{◌≡◌, refl, ap, sym, ◌∙◌}
 use mathlib.Core.List.{List, ◌++◌}
 use mathlib.Core.Option.{Option, none, some}
 use lib.Dec.{leb, leb→le}
-use lib.ListN.{length, drop, replicate}
+use lib.ListN.{length, take, drop, replicate}
+use Rattle.std.proofs.lemmas.List.{length-take-le}
 use borrow.Author.Tests.{lt-ltb, le-ltb, lt-leb, le-leb}
 use Rattle.model.specs.declared.Row.TheVariants.{OutputTooSmall}
 use Rattle.model.specs.declared.Refusal.{Refusal}
@@ -35,6 +36,10 @@ module _ (asked : ℕ) where
   pub cleared-full : (w : List ℕ) → asked ≤ length w → replicate asked 0 ++ drop asked w ≡ cleared asked w
   unfolding cleared
   cleared-full w h = rw (le-ltb (length w) asked h)
+
+  -- zeros over as many numbers as there are in front
+  pub cleared-filled : (w : List ℕ) {front : List ℕ} → asked ≤ length w → front ≡ replicate (length (take asked w)) 0 → front ++ drop asked w ≡ cleared asked w
+  cleared-filled w h e = rw (e, length-take-le asked w h) (cleared-full w h)
 
 -- what is kept past the numbers asked for is all that matters
 pub cleared-same : {n asked : ℕ} {w w' : List ℕ} → n ≤ asked → asked ≤ length w → Kept n w w' → cleared asked w' ≡ cleared asked w
@@ -104,7 +109,7 @@ module _ (l output : List ℕ) {v : Verdict} (row : v ≡ row_verdict (length_ro
       → Puts l output (Ok n) output'
   long-enough e i o =
       let n = verdict-none (length_row (length output) (length l)) (sym row ∙ e) in
-      record { left = λ work. rw n (λ k. after_write (record { verdict = Accepted; written = i k }) work (o k)) }
+      record { left = λ work. rw n (λ k. after_write (Ok (i k)) work (o k)) }
 
 -- bytes that are those of a task which the rows of the service pass
 pub task-written : {asked : ℕ} (rows : Task → Option Refusal) (print : Task → List ℕ) {t : Task} {l w w' output output' : List ℕ} {r : Written}

@@ -9,7 +9,7 @@ use mathlib.Core.Bool.{Bool, true, false}
 use mathlib.Core.List.{List, [], ◌∷◌}
 use mathlib.Core.Option.{some}
 use lib.ListN.{length, get_or, take, length-append, set}
-use lib.ListN.{get_or-append}
+use lib.ListN.{get_or-append, get_or-eq_default}
 use lib.Dec.{T, ltb, eqb, ltb→lt, lt→ltb}
 use borrow.Author.Tests.{ne_eqb, le-ltb}
 use lib.Seq.{get_or_at, take-append-le, take_all, get_or-set_same, get_or-set_other}
@@ -81,6 +81,10 @@ pub length-points : (w : List ℕ) (b n : ℕ) → length (points_of w b n) ≡ 
 unfolding points_of
 length-points w b zero = refl
 length-points w b (suc n) = simp (length-append, length-points w b n) (omega arith)
+
+-- past the end of a function there is no point, which counts as a return
+pub point-past : (w : List ℕ) (b n p : ℕ) → n ≤ p → Return ≡ get_or (points_of w b n) p Return
+point-past w b n p h = sym (get_or-eq_default (points_of w b n) Return (rw (length-points w b n) h))
 
 pub point-there : (w : List ℕ) (b n p : ℕ) → p < n → get_or (points_of w b n) p Return ≡ point_at w (b + p)
 unfolding points_of

@@ -2,3 +2,4 @@
 pub mod Layout
 pub mod Tables
 pub mod Valid
+pub mod Unique

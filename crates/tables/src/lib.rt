@@ -7,9 +7,11 @@ ghost use Rattle.model.specs.Limits.{most_funcs, most_in_all};
 ghost use Rattle.tables.specs.Layout.{tables_length};
 ghost use Rattle.tables.specs.Tables.{point_of, is_access, point_at, put_point, kind_of, first_argument, second_argument, put_func, span_at, opening_line, line_in};
 
+pub use held::{HeldFunc, HeldTask};
 pub use layout::{Bounds, Columns, Frames, Layout};
 use model::Point;
 
+mod held;
 mod layout;
 
 // What is known of a task beside its tables: the cache blocks, how many functions, and how many points in all.

@@ -1,14 +1,13 @@
 -- `line::read_inside` meets its contract.
-use mathlib.Core.Path.{sym, ap, ◌∙◌}
-use Rattle.line.specs.Patterns.{parsed_as}
+use mathlib.Core.Path.{sym}
 use Rattle.line.proofs.Laws.{point-as, close-as, other-as}
 use Rattle.line.proofs.read_inside.Goals as goal
 
-pub returns-in-Point : goal.returns-in-Point
-returns-in-Point c = point-as _ _ _ (ap parsed_as (sym c.in-Point.is) ∙ c.read_point.ensures)
+pub returns-in-Some : goal.returns-in-Some
+returns-in-Some c = point-as _ _ _ c.in-Some.ensures
 
 pub returns-then-starts : goal.returns-then-starts
-returns-then-starts c = close-as _ (sym c.starts.ensures ∙ c.if-starts.true)
+returns-then-starts c = close-as _ (sym c.if-starts.ensures)
 
-pub returns : goal.returns
-returns c = other-as _ (ap parsed_as (sym c.in_default.is) ∙ c.read_point.ensures) (sym c.starts.ensures ∙ c.if-starts.false)
+pub returns-else-starts : goal.returns-else-starts
+returns-else-starts c = other-as _ c.in_default.ensures (sym c.if-starts.ensures)

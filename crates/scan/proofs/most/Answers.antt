@@ -6,5 +6,5 @@ use Rattle.scan.proofs.most.Goals as goal
 pub returns-then-v-eq0 : goal.returns-then-v-eq0
 returns-then-v-eq0 c = omega (arith, limit-zero c.args.v (omega arith))
 
-pub returns : goal.returns
-returns c = omega (arith, c.smaller_usize.ensures, limit-other c.args.v (omega arith))
+pub returns-else-v-eq0 : goal.returns-else-v-eq0
+returns-else-v-eq0 c = omega (arith, limit-other c.args.v (omega arith))
