@@ -25,10 +25,7 @@ fn next_of(p: usize, x: Point) -> Next
     ensures { targets result ≡ leads_from p x }
 {
     match x {
-        Point::Load(_) => Next::To(p + 1),
-        Point::Store(_) => Next::To(p + 1),
-        Point::Call(_) => Next::To(p + 1),
-        Point::Ensure(_) => Next::To(p + 1),
+        Point::Load(_) | Point::Store(_) | Point::Call(_) | Point::Ensure(_) => Next::To(p + 1),
         Point::Goto(q) => Next::To(q as usize),
         Point::Either(q, r) => Next::Fork(q as usize, r as usize),
         Point::Return => Next::Nowhere,
@@ -48,6 +45,7 @@ pub fn next_at(work: &[u32], s: Span, p: usize) -> Next
 }
 
 // A function in the tables whose walks a kernel can follow, and for each of its points the bits that it generates and those that it kills.
+// A proof does not know of a slice in a struct that its numbers fit their type, so words says it of the kills.
 #[derive(Clone, Copy)]
 pub struct Flow<'a> {
     pub work: &'a [u32],
@@ -59,7 +57,7 @@ pub struct Flow<'a> {
 }
 
 impl<'a> Flow<'a> {
-    pub fn new(work: &'a [u32], span: Span, gens: &'a [u64], kills: &'a [u64]) -> Flow<'a>
+    pub fn new(work: &'a [u32], span: Span, gens: &'a [u64], kills: &'a [u64]) -> Self
         requires { Given work.now span gens.now kills.now }
         ensures { (result.work.now ≡ work.now) × (result.span ≡ span) × (result.gens.now ≡ gens.now) × (result.kills.now ≡ kills.now) }
     {

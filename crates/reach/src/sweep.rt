@@ -18,7 +18,8 @@ use flow::Next;
 use model::{Limits, Point};
 use tables::{Header, Span};
 
-// What a point does with its set: it may be at fault, it leads to the next point with a set, or it leads elsewhere.
+// What a point does with its set: it may be at fault, it leads to the next point with a set, or it leads elsewhere. These are three ways on, and no
+// Option<u64> in a Result is plainer.
 #[derive(Clone, Copy)]
 pub enum Step {
     Fails,

@@ -120,9 +120,6 @@ module _ {n : ℕ} {x : Worklist} (q : ℕ) (l : Pending n x) (h : q < n) (k : i
         | no j ↦ let e : i ≡ x.count = omega arith in rw (e, new) a
       ]
 
-  pub last-added : q ≡ last (added q x)
-  last-added = let e : x.count + 1 - 1 ≡ x.count = omega arith in rw e (sym new)
-
   distinct-added : Distinct (added q x)
   distinct-added = record {
     few = omega (arith, pending-room l q h k, l.small);
@@ -183,19 +180,16 @@ absent-added {q} a = distinct-added q a.pending a.below a.absent
 
 -- ---- what take leaves
 
--- the last point, which has its state
-pub sound-ends : {x : Worklist} (r : Sound x) → 0 < x.count → Ends (last x) x
+-- the last point
+sound-ends : {x : Worklist} (r : Sound x) → 0 < x.count → Ends (last x) x
 sound-ends r h = record { n = r.n; pending = r.pending; some = h; ends = refl }
-
-pub ends-room : {p : ℕ} {x : Worklist} → Ends p x → p < length x.state
-ends-room e = omega (arith, e.ends, last_within e.pending e.some, e.pending.state_long)
 
 -- ---- tables of states
 
 pub in_state : (t : List Visit) (q : ℕ) {v : Visit} → get_or t q Unseen ≡ v → item (codes t) q ≡ code v
 in_state t q e = get_or-map code t q Unseen ∙ ap code e
 
-pub state_set : (t : List Visit) (q : ℕ) (v : Visit) → codes (set t q v) ≡ set (codes t) q (code v)
+state_set : (t : List Visit) (q : ℕ) (v : Visit) → codes (set t q v) ≡ set (codes t) q (code v)
 state_set t q v = map-set code t q v
 
 -- a point is put, and the last one is taken

@@ -23,8 +23,7 @@ loop-preserved c =
 pub returns : goal.returns
 returns c =
     let r = c.round.ensures in
-    let e = filled-cleared _ _ c.requires (c.fill.ensures.after (λ y e. e)) in
-    (
+    let e = filled-cleared _ _ c.requires (c.fill.ensures.after (λ y e. e)) in (
       solved-round _ _ _ _ c.args.flow.given.fits.inside c.args.flow.words r c.loop-test.false,
       kept_on (kept-cleared e c.requires) (kept_on c.loop.invariant.1 r.kept),
     )

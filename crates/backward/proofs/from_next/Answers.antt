@@ -1,5 +1,4 @@
 -- Each arm of the match is one case of the definition.
-use native.Mathlib.Omega.{arith}
 use borrow.Author.Rules.{rules}
 use Rattle.bits.proofs.Laws.{union-none}
 use Rattle.flow.proofs.Laws.{next_one, next_both}
@@ -7,32 +6,22 @@ use Rattle.backward.specs.Rounds.{joined}
 use Rattle.backward.proofs.from_next.Goals as goal
 
 pub offset_bounds-sets-q : goal.offset_bounds-sets-q
-unfolding joined
 offset_bounds-sets-q c = let h = next_one c.requires c.in-To.is in search rules
 
 pub bounds-sets-q : goal.bounds-sets-q
-unfolding joined
 bounds-sets-q c = next_one c.requires c.in-To.is
 
 pub offset_bounds-sets-q-in-Fork : goal.offset_bounds-sets-q-in-Fork
-unfolding joined
 offset_bounds-sets-q-in-Fork c = let h = next_both c.requires c.in-Fork.is in search rules
 
 pub bounds-sets-q-in-Fork : goal.bounds-sets-q-in-Fork
-unfolding joined
-bounds-sets-q-in-Fork c = let h = next_both c.requires c.in-Fork.is in omega arith
+bounds-sets-q-in-Fork c = (next_both c.requires c.in-Fork.is).0
 
 pub offset_bounds-sets-r : goal.offset_bounds-sets-r
-unfolding joined
 offset_bounds-sets-r c = let h = next_both c.requires c.in-Fork.is in search rules
 
 pub bounds-sets-r : goal.bounds-sets-r
-unfolding joined
-bounds-sets-r c = let h = next_both c.requires c.in-Fork.is in omega arith
-
-pub returns-in-Nowhere : goal.returns-in-Nowhere
-unfolding joined
-returns-in-Nowhere c = rw c.in-Nowhere.is
+bounds-sets-r c = (next_both c.requires c.in-Fork.is).1
 
 pub returns-in-To : goal.returns-in-To
 unfolding joined
@@ -41,3 +30,7 @@ returns-in-To c = rw (c.in-To.is, union-none)
 pub returns-in-Fork : goal.returns-in-Fork
 unfolding joined
 returns-in-Fork c = rw (c.in-Fork.is, union-none) c.union_of.ensures
+
+pub returns-in-Nowhere : goal.returns-in-Nowhere
+unfolding joined
+returns-in-Nowhere c = rw c.in-Nowhere.is

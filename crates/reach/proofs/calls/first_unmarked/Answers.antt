@@ -1,5 +1,6 @@
 -- Of the functions from 1 on, those from f on decide.
 use native.Mathlib.Omega.{arith}
+use mathlib.Core.Bool.{not}
 use mathlib.Core.Path.{refl, ap}
 use Rattle.theory.proofs.Search.{search-on, search-off, search-end}
 use Rattle.tables.specs.declared.Span.{Span}
@@ -17,14 +18,14 @@ returns-then-not-marks-f c =
     let t = c.loop-f-test.true in
     let k = c.requires in
     let b = ap (λ (s : Span). s.base) c.span_at-s.ensures in
-    let r = row-uncalled k.0 _ t (k.1 _ t) c.if-not-marks-f.true-raw b c.opening_line.ensures in
+    let r = row-uncalled k.0 _ t (k.1 _ t) (ap not c.if-not-marks-f.true) b c.opening_line.ensures in
     search-off _ _ _ c.loop-f.invariant r refl t
 
 pub loop-f-preserved : goal.loop-f-preserved
 loop-f-preserved c =
     let t = c.loop-f-test.true in
     let k = c.requires in
-    search-on _ _ _ c.loop-f.invariant (row-called k.0 _ t (k.1 _ t) c.if-not-marks-f.false-raw) refl t
+    search-on _ _ _ c.loop-f.invariant (row-called k.0 _ t (k.1 _ t) (ap not c.if-not-marks-f.false)) refl t
 
 pub loop-f-init : goal.loop-f-init
 loop-f-init c = calls-start _ c.args.h

@@ -4,7 +4,6 @@ use Rattle.model.specs.Limits.{most_points}
 use native.Mathlib.Omega.{arith}
 use mathlib.Core.Path.{◌≡◌}
 use borrow.Author.Count.{below_more}
-use borrow.Author.Tests.{not-false}
 use Rattle.reach.proofs.Answers.{all_same, ready-fits}
 use Rattle.reach.proofs.sweep.clean_funcs.Goals as goal
 
@@ -15,7 +14,7 @@ points-requires c =
 
 pub loop-f-preserved : goal.loop-f-preserved
 loop-f-preserved c =
-    let k = c.points.ensures (not-false _ c.if-not-points.false-raw) in
+    let k = c.points.ensures c.if-not-points.false in
     let l = c.loop-f in
     (k.1, record { within = omega arith; clean = below_more _ _ l.invariant.1.clean (rw c.span_at.ensures at k.0) })
 

@@ -4,14 +4,13 @@ use native.Mathlib.Numerals.{add-one}
 use mathlib.Core.List.Memᴰ
 use mathlib.Core.List.{[], ◌∷◌}
 use mathlib.Core.Path.{refl, ap, ◌∙◌}
-use borrow.Author.Tests.{not-false}
 use Rattle.flow.specs.Flow.{targets}
 use Rattle.reach.proofs.Theory.{moved_none, moved_more}
 use Rattle.reach.proofs.sweep.Sweep.onward.Goals as goal
 
 pub returns-then-arrive-2 : goal.returns-then-arrive-2
 returns-then-arrive-2 c x h =
-    let first = c.arrive-in-Fork.ensures (not-false _ c.if-not-arrive.false-raw) in
+    let first = c.arrive-in-Fork.ensures c.if-not-arrive.false in
     (h, rw c.in-Fork.is (moved_more first (c.arrive-in-Fork-2.ensures c.if-arrive-2.true)))
 
 pub returns-then-q-p : goal.returns-then-q-p
