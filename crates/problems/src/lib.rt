@@ -69,7 +69,8 @@ fn each_set<F: Fn(u64) -> u32>(sets: &[u64], out: &mut [u32], number: F)
     }
 }
 
-// The sets of the points of a function, for a problem that goes backward.
+// The sets of the points of a function, for a problem that goes backward. Inlined, each problem has a loop of its own, with no choice in it.
+#[inline(always)]
 fn solve(problem: Problem, func: FitFunc, column: &[u32], scratch: &mut Scratch)
     requires { Blocks func.span.size column.now }
     ensures { Answered problem (func_in func.entry.work.now func.entry.span) column.now scratch.new.sets
