@@ -46,7 +46,7 @@ pub struct FitFunc<'a> {
     pub ghost fits: { Fits work.now span },
 }
 
-// The gens and kills of the points of a function. A problem without a column is lent an empty one.
+// The gens and kills of the points of a function. A problem without a column is lent an empty one. Inlined for the same reason as solve.
 #[inline(always)]
 fn fill(problem: Problem, func: FitFunc, column: &[u32], gens: &mut [u64], kills: &mut [u64])
     requires { (func.span.size ≤ length gens.old) × (func.span.size ≤ length kills.old) × Blocks func.span.size column.now }
@@ -71,7 +71,7 @@ fn each_set<F: Fn(u64) -> u32>(sets: &[u64], out: &mut [u32], number: F)
     }
 }
 
-// The sets of the points of a function, for a problem that goes backward.
+// The sets of the points of a function, for a problem that goes backward. Inlined, each problem has a loop of its own, with no choice in it.
 #[inline(always)]
 fn solve(problem: Problem, func: FitFunc, column: &[u32], scratch: &mut Scratch)
     requires { Blocks func.span.size column.now }
