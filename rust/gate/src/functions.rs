@@ -66,7 +66,7 @@ impl Place {
     }
 
     fn pass(&mut self, line: &str) {
-        if let Some(rest) = line.strip_prefix("impl ") {
+        if let Some(rest) = line.strip_prefix("impl").and_then(without_parameters) {
             self.type_name = impl_name(rest);
         } else if line == "}" {
             self.type_name = None;
@@ -129,6 +129,20 @@ impl Open {
             cycle: self.cycle,
         })
     }
+}
+
+/// What follows the word `impl` and its parameters, in brackets that nest.
+fn without_parameters(rest: &str) -> Option<&str> {
+    let mut depth = 0;
+    for (place, letter) in rest.char_indices() {
+        match letter {
+            '<' => depth += 1,
+            '>' => depth -= 1,
+            ' ' if depth == 0 => return Some(&rest[place + 1..]),
+            _ => {}
+        }
+    }
+    None
 }
 
 /// What a proof calls an `impl` block, whose line goes on so: its type, or its type and the trait.
@@ -212,6 +226,12 @@ impl Sink for Writer<'_> {
     }
 }
 
+impl<'a, S: Into<u8>> Held<'a, S> {
+    fn func(self) -> u8 {
+        0
+    }
+}
+
 #[unsafe(no_mangle)]
 pub extern \"C\" fn felknost_check(text: &[u8]) -> u32
 {
@@ -241,6 +261,7 @@ pub extern \"C\" fn felknost_check(text: &[u8]) -> u32
                 ("wide", "{ x as u64 }"),
                 ("Machine::reserve", "{ self.st - k }"),
                 ("WriterSink::put", "{ self.end += 1; }"),
+                ("Held::func", "{ 0 }"),
                 ("felknost_check", "{ 0 }"),
             ]
         );
