@@ -1,7 +1,7 @@
 // Words, decimal numbers and lines of them, written into a lent buffer, or only counted.
 #![tactic(auto)]
 
-ghost use Rattle.std.specs.Prelude.{◌≡◌, ℕ, ◌+◌, ◌*◌, ◌≤◌, List, length};
+ghost use Rattle.std.specs.Prelude.{◌≡◌, ℕ, ◌+◌, ◌≤◌, List, length};
 ghost use Rattle.model.specs.Sheet.{decimal, line_text};
 ghost use Rattle.print.specs.Print.{spaced_number, spaced};
 ghost use Rattle.print.specs.Sink.{SinkLaws};
@@ -41,6 +41,7 @@ pub fn number_length(n: u32) -> usize
     }
     let mut rest = n;
     let mut k: usize = 1;
+    // No range: how often rest is divided is the answer.
     while 9 < rest {
         rest /= 10;
         k += 1;
