@@ -15,7 +15,7 @@ use Rattle.model.specs.Sheet.{decimal, line_text}
 use Rattle.model.specs.Services.{over}
 use Rattle.theory.proofs.Lists.{joined-append, joined_snoc, length-joined, sum_room}
 use Rattle.theory.proofs.Decimal.{decimal-small, decimal-large, length-small, length-large}
-use Rattle.print.specs.Wrote.{wrote-length}
+use Rattle.print.specs.Wrote.{wrote_on, wrote-length}
 use Rattle.print.specs.Print.{pasted, Wrote, spaced}
 
 -- a buffer that bytes are written into
@@ -101,6 +101,10 @@ wrote-two at m out h k l =
           number-first at at (m / 10) o (omega arith) (omega arith) (omega (arith, length-set out (at + 1) (48 + m % 10)))
           ∙ number-last at (at + 1) m out h (omega arith) (omega arith);
     }
+
+-- bytes with a space before them
+pub spaced-wrote : (at : ℕ) {r : ℕ} {w out o : List ℕ} → at < length out → Wrote (at + 1) w (set out at 32) r o → Wrote at (bytes " " ++ w) out r o
+spaced-wrote at {out = out} h x = wrote_on (omega arith) (record { end = refl; buffer = pasted-one at 32 out h }) x
 
 -- a piece for each number of a list: one more, and that it lies before the end of all
 module _ (g : ℕ → List ℕ) (l : List ℕ) (i : ℕ) where

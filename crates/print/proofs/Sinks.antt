@@ -3,10 +3,9 @@ use Prim.Native.Nat.{ℕ, ◌+◌, ◌≤◌, ◌<◌}
 use native.Mathlib.Omega.{arith}
 use mathlib.Core.List.{List, ◌++◌}
 use lib.ListN.{length, get_or, take}
-use Rattle.model.specs.Basic.{joined, count_from, up_to}
+use Rattle.model.specs.Basic.{joined, up_to}
 use Rattle.model.specs.Text.{bytes}
 use Rattle.model.specs.Sheet.{line_text}
-use Rattle.theory.proofs.Lists.{joined-next}
 use Rattle.print.specs.Print.{spaced}
 use Rattle.print.specs.Sink.{SinkLaws}
 use Rattle.print.proofs.Laws.{item-next, item-within, line-parts, next-room}

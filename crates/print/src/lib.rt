@@ -1,9 +1,9 @@
 // Words, decimal numbers and lines of them, written into a lent buffer, or only counted.
 #![tactic(auto)]
 
-ghost use Rattle.std.specs.Prelude.{◌≡◌, ℕ, ◌+◌, ◌*◌, ◌≤◌, List, length};
+ghost use Rattle.std.specs.Prelude.{◌≡◌, ℕ, ◌+◌, ◌≤◌, List, length};
 ghost use Rattle.model.specs.Sheet.{decimal, line_text};
-ghost use Rattle.print.specs.Print.{Wrote, spaced};
+ghost use Rattle.print.specs.Print.{spaced_number, spaced};
 ghost use Rattle.print.specs.Sink.{SinkLaws};
 ghost use Rattle.print.specs.Sinks.{most_counted, Counted, counter_laws, Written, writer_laws};
 
@@ -21,10 +21,10 @@ pub trait Sink {
         requires { end self.old + length bytes.now ≤ room self.old }
         ensures { Puts bytes.now self.old self.new };
 
-    // Puts n in decimal.
+    // Puts n in decimal, with a space before it.
     fn put_number(&mut self, n: u32)
-        requires { end self.old + length (decimal n) ≤ room self.old }
-        ensures { Puts (decimal n) self.old self.new };
+        requires { end self.old + length (spaced_number n) ≤ room self.old }
+        ensures { Puts (spaced_number n) self.old self.new };
 
     ghost laws: { SinkLaws end room Puts };
 }
@@ -41,6 +41,7 @@ pub fn number_length(n: u32) -> usize
     }
     let mut rest = n;
     let mut k: usize = 1;
+    // No range: how often rest is divided is the answer.
     while 9 < rest {
         rest /= 10;
         k += 1;
@@ -80,7 +81,7 @@ impl Sink for Counter {
     }
 
     fn put_number(&mut self, n: u32) {
-        self.count += number_length(n);
+        self.count += 1 + number_length(n);
     }
 }
 
@@ -108,19 +109,22 @@ impl Sink for Writer<'_> {
 
     // Most numbers of a report have one or two digits.
     fn put_number(&mut self, n: u32) {
+        let space = self.end;
+        let at = space + 1;
+        self.out[space] = b' ';
         if n < 10 {
-            self.out[self.end] = b'0' + n as u8;
-            self.end += 1;
+            self.out[at] = b'0' + n as u8;
+            self.end = at + 1;
             return;
         }
         if n < 100 {
-            self.out[self.end + 1] = b'0' + (n % 10) as u8;
-            self.out[self.end] = b'0' + (n / 10) as u8;
-            self.end += 2;
+            self.out[at + 1] = b'0' + (n % 10) as u8;
+            self.out[at] = b'0' + (n / 10) as u8;
+            self.end = at + 2;
             return;
         }
-        let end = self.end + number_length(n);
-        put_digits(&mut self.out[self.end..end], n);
+        let end = at + number_length(n);
+        put_digits(&mut self.out[at..end], n);
         self.end = end;
     }
 }
@@ -131,7 +135,6 @@ fn put_numbers<S: Sink>(out: &mut S, numbers: &[u32])
     ensures { S.Puts (spaced numbers.now) out.old out.new }
 {
     for n in numbers {
-        out.put(b" ");
         out.put_number(*n);
     }
 }

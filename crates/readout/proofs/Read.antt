@@ -13,11 +13,11 @@ use Rattle.tables.specs.Layout.{frame_table, base_table}
 use Rattle.tables.specs.Tables.{item, base_at, size_at, span_at, task_of}
 use Rattle.tables.specs.Valid.{Lies}
 use Rattle.tables.proofs.Laws.{frame_is}
-use Rattle.tables.proofs.Valid.{lies_in, settled-fits}
+use Rattle.tables.proofs.Valid.{lies_in}
 use Rattle.prices.specs.declared.Price.{Price}
 use Rattle.prices.specs.Prices.{price_of}
 use Rattle.columns.specs.Columns.{high_column, dead_column, need_column, next_column, fill_column, longest_column, shortest_column, entry_column}
-use Rattle.columns.specs.Columns.{chain_column, PointsLow}
+use Rattle.columns.specs.Columns.{chain_column}
 use Rattle.columns.proofs.Limits.{frame-low}
 use Rattle.readout.specs.Sheet.{front, spill_from, chain_from, figures_from, sheet_in}
 use Rattle.readout.specs.Readable.{Readable, figured_of, func_figures}

@@ -1,12 +1,11 @@
 -- What a reader of the columns relies on, and the figures as they are read back.
-use Rattle.std.specs.Prelude.{ℕ, ◌≤◌, ◌<◌, ◌≡◌, List, length}
+use Rattle.std.specs.Prelude.{ℕ, ◌≤◌, List, length}
 use Rattle.model.specs.Limits.{most_stack, work_length}
 use Rattle.model.specs.Task.{func}
 use Rattle.model.specs.Figures as model
 use Rattle.model.specs.Sheet as sheet
 use Rattle.tables.specs.declared.Header.{Header}
-use Rattle.tables.specs.declared.Span.{Span}
-use Rattle.tables.specs.Tables.{span_at, task_of}
+use Rattle.tables.specs.Tables.{task_of}
 use Rattle.tables.specs.Valid.{Settled}
 use Rattle.prices.specs.declared.Price.{Price}
 use Rattle.prices.specs.Prices.{Small}

@@ -54,13 +54,7 @@ fn write<P: Print>(
 // none where n is 0; with 0 and 1 the sheet counts blocks, and the lines of the points have once as their last field.
 //
 //     report(b"(stack 65)\n", 0, 1, &mut output, &mut work) is Err(Refusal { row: Row::StackSize, place: 1 })
-pub fn report(
-    text: &[u8],
-    start: u32,
-    each: u32,
-    output: &mut [u8],
-    work: &mut [u32],
-) -> Written
+pub fn report(text: &[u8], start: u32, each: u32, output: &mut [u8], work: &mut [u32]) -> Written
     ensures left { after_write result work.new output.new
         ≡ report_of text.now start each work.old output.old }
     ensures numbers { verdict_numbers (written_verdict result) []
