@@ -7,15 +7,15 @@ use mathlib.Core.Path.{◌≡◌, refl, ap, sym, subst, ◌∙◌}
 use native.Mathlib.Omega.{arith}
 use lib.Dec.{eqb, leb, eqb→eq, leb→le, leb-zero}
 use lib.ListN.{length}
-use borrow.Author.Tests.{eq-eqb, ne_eqb, lt-leb, le-leb}
+use borrow.Author.Tests.{ne_eqb, lt-leb, le-leb}
 use Rattle.model.specs.declared.Eviction.{Eviction}
-use Rattle.model.specs.declared.Row.TheVariants.{EventList, AnswersTooSmall, CacheSize, MemoryTooSmall, AfterFinish}
+use Rattle.model.specs.declared.Row.TheVariants.{EventList, AnswersTooSmall, CacheSize, MemoryTooSmall}
 use Rattle.model.specs.declared.Refusal.{Refusal}
 use Rattle.std.proofs.Common.{Result, Ok, Err}
 use Rattle.model.specs.declared.RunResult.{RunResult}
 use Rattle.model.specs.Limits.{work_length, most_event_numbers}
 use Rattle.model.specs.Basic.{unless, ◌or_else◌}
-use Rattle.model.specs.Rows.{Verdict, refuse, row_verdict}
+use Rattle.model.specs.Rows.{refuse, row_verdict}
 use Rattle.model.specs.Task.{Task, count, Judged, refused, task}
 use Rattle.model.specs.Core.{idle}
 use Rattle.model.specs.Figures.{longest}
@@ -26,7 +26,7 @@ use Rattle.model.specs.Run.{Ran}
 use Rattle.model.specs.Services.{cleared, over, result_of, AfterRun, after_run, run_as, run_judged, run_with, run_of, run_judged_of, Demand3, LeavesClean, PaysOnce}
 use Rattle.model.specs.WellFormed.{WellFormed}
 use Rattle.theory.specs.Agree.{Agree}
-use Rattle.theory.specs.Without.{first_row, nothing_done, untouched}
+use Rattle.theory.specs.Without.{first_row, untouched}
 use Rattle.theory.proofs.Lists.{and-holds, or-equal}
 use Rattle.theory.proofs.Firsts.{row-none, unless-none}
 use Rattle.theory.proofs.Search.{verdict-none, verdict-some}

@@ -27,7 +27,7 @@ use Rattle.machine.proofs.Laws.{entered-with}
 use Rattle.steps.specs.declared.State.{State}
 use Rattle.steps.specs.declared.Turned.{Turned}
 use Rattle.steps.specs.Frames.{frames_end, places_in}
-use Rattle.steps.specs.Steps.{Stays, IsTurn, IsPlain, PlainStep}
+use Rattle.steps.specs.Steps.{Stays, IsTurn, IsPlain}
 use Rattle.steps.proofs.Laws.{plain-turn}
 use Rattle.moves.specs.Moves.{StepsIn}
 use Rattle.turns.specs.Turns.{Started}
