@@ -2,8 +2,7 @@
 use Prim.Native.Nat.{ℕ, zero, suc, ◌+◌, ◌-◌, ◌%◌, ◌≤◌, ◌<◌}
 use mathlib.Core.List.{List, [], ◌++◌, append-nil}
 use mathlib.Core.Path.{◌≡◌, refl, ap, sym, ◌∙◌}
-use native.Mathlib.Nat.{mod-add-mod, mod-eq_of_lt, mod-eq-sub-mod, mod-lt, mod_self, add_assoc, add-zero}
-use native.Mathlib.Decide.{dec_lt}
+use native.Mathlib.Nat.{mod-add-mod, mod-lt, add_assoc}
 use native.Mathlib.Numerals.{add-one}
 use native.Mathlib.Omega.{arith}
 use lib.ListN.{length, get_or, set, take, drop, length-drop, take-append-drop, length-replicate}
@@ -20,63 +19,21 @@ use Rattle.machine.proofs.Kept.{start-memory, save-good, between-good}
 
 -- ---- blocks
 
--- a block and an offset, whose sum wraps at most once
-pub wrap-none : (s b o : ℕ) → b + o < s → (b + o ≡ (b + o) % s) × (b + o < s)
-wrap-none s b o h = (sym (mod-eq_of_lt h), h)
-
-pub wrap-once : (s b o : ℕ) → b < s → o ≤ s → s ≤ b + o → (b + o - s ≡ (b + o) % s) × (b + o - s < s)
-wrap-once s b o h k l = (sym (mod-eq-sub-mod l ∙ mod-eq_of_lt (omega arith)), omega arith)
-
-pub wraps-to-first : (s b : ℕ) → b + 1 ≡ s → 0 < s → (0 ≡ (b + 1) % s) × (0 < s)
-wraps-to-first s b e h = (sym (ap (λ (n : ℕ). n % s) e ∙ mod_self s), h)
-
--- the block of x, from that of x + o
-module _ (s b o x : ℕ) (h : b < s) (k : o ≤ s) (e : b ≡ (x + o) % s) where
-  from-below : b ≡ (x % s + o) % s
-  from-below = e ∙ sym (mod-add-mod x s o)
-
-  pub back-wraps : b < o → b + (s - o) ≡ x % s
-  back-wraps l =
-      let m = mod-lt x {m = s} (omega arith) in
-      elim (dec_lt (x % s + o) s) [
-        | yes j ↦ let z = from-below ∙ mod-eq_of_lt j in absurd (omega (arith, z))
-        | no j ↦ let z = from-below ∙ sym (wrap-once s (x % s) o m k (omega arith)).0 in omega (arith, z)
-      ]
-
-  pub back-stays : o ≤ b → b - o ≡ x % s
-  back-stays l =
-      let m = mod-lt x {m = s} (omega arith) in
-      elim (dec_lt (x % s + o) s) [
-        | yes j ↦ let z = from-below ∙ mod-eq_of_lt j in omega (arith, z)
-        | no j ↦ let z = from-below ∙ sym (wrap-once s (x % s) o m k (omega arith)).0 in absurd (omega (arith, z))
-      ]
-
 -- the block of an address o above ST
 pub top-after : (s st top o r : ℕ) → top ≡ st % s → r ≡ (top + o) % s → r ≡ (st + o) % s
 top-after s st top o r e g = g ∙ ap (λ (y : ℕ). (y + o) % s) e ∙ mod-add-mod st s o
 
--- the first block of a loop, and the next one where it has passed i
-pub block-first : (s x r : ℕ) → r ≡ x % s → r ≡ (x + 0) % s
-block-first s x r e = e ∙ ap (λ (y : ℕ). y % s) (sym (add-zero x))
-
+-- the next block of a loop that has passed i
 pub block-next : (s x b i r : ℕ) → b ≡ (x + i) % s → r ≡ (b + 1) % s → r ≡ (x + (i + 1)) % s
 block-next s x b i r e g =
     g ∙ ap (λ (y : ℕ). (y + 1) % s) e ∙ mod-add-mod (x + i) s 1 ∙ ap (λ (y : ℕ). y % s) (add_assoc x i 1)
 
 -- ---- one turn of each loop
 
-pub area-none : (cache area : List ℕ) (top from : ℕ) → area ≡ spilled_area cache area top from 0
-unfolding spilled_area
-area-none cache area top from = refl
-
 pub area-more : (cache area₀ area : List ℕ) (top from i b : ℕ) → area ≡ spilled_area cache area₀ top from i → b ≡ (top + from + i) % length cache
     → set area (from + i) (get_or cache b 0) ≡ spilled_area cache area₀ top from (i + 1)
 unfolding spilled_area
 area-more cache area₀ area top from i b e g = rw (add-one, e, g)
-
-pub filled_none : (memory cache : List ℕ) (a : ℕ) → cache ≡ filled memory cache a 0
-unfolding filled
-filled_none memory cache a = refl
 
 pub filled_more : (memory cache₀ cache : List ℕ) (a i b : ℕ) → cache ≡ filled memory cache₀ a i → b ≡ (a + i) % length cache₀
     → set cache b (get_or memory (a + i) 0) ≡ filled memory cache₀ a (i + 1)

@@ -226,10 +226,6 @@ module _ {price : Price} (w : List ℕ) {w' : List ℕ} {h : Header} (f : Figure
 
 -- ---- what was judged
 
-pub none-run : (x : Eviction) (rows : Task → Option Refusal) (sheet : Task → Sheet) (q : Refusal) (w events answers cache memory : List ℕ)
-    → Performs x rows sheet (refused q) w events answers cache memory (none_done q) w answers cache memory
-none-run x rows sheet q w events answers cache memory = record { left = λ work. refl; after = refl }
-
 -- the service, whose working space is l in the end
 module _ {x : Eviction} {first : Option Refusal} {rows : Task → Option Refusal} {sheet : Task → Sheet}
     {text w w' w'' events answers cache memory answers' cache' memory' l : List ℕ} {j : Result Header Refusal} {r : RunResult} (a : Lent work_length first text w j w')

@@ -1,4 +1,4 @@
--- A step at a point that is known, and a start.
+-- A step that moves nothing, and a start.
 use Prim.Native.Nat.{ℕ, ◌≤◌, ◌<◌}
 use mathlib.Core.List.{List, [], ◌∷◌}
 use mathlib.Core.Path.{◌≡◌, refl, ap, sym, ◌∙◌}
@@ -32,12 +32,7 @@ use Rattle.steps.proofs.Laws.{plain-turn}
 use Rattle.moves.specs.Moves.{StepsIn}
 use Rattle.turns.specs.Turns.{Started}
 
--- a step at a point that is known
-pub steps-at : (price : Price) (w : List ℕ) (h : Header) (x : State) (y z : Point) (v : ℕ) (cache memory : List ℕ) {r : Turned} {w' cache' memory' : List ℕ}
-    → y ≡ z → StepsIn price w h x z v cache memory r w' cache' memory' → StepsIn price w h x y v cache memory r w' cache' memory'
-steps-at price w h x y z v cache memory e d = rw e d
-
--- one that moves nothing costs nothing
+-- a step that moves nothing costs nothing
 pub plain_in : (price : Price) {m a : ℕ} {r : Turned} {w cache memory : List ℕ} {u : run.Turn} → IsPlain m a r w cache memory u
     → IsTurn (price_of price) m a r w cache memory u 0
 plain_in price d = plain-turn (price_of price) (price-moves price.start price.each).none d
