@@ -16,7 +16,7 @@ use Rattle.model.specs.declared.RunResult.{RunResult}
 use Rattle.model.specs.Limits.{work_length, most_event_numbers}
 use Rattle.model.specs.Basic.{unless, ◌or_else◌}
 use Rattle.model.specs.Rows.{refuse, row_verdict}
-use Rattle.model.specs.Task.{Task, count, Judged, refused, task}
+use Rattle.model.specs.Task.{Task, count, Judged, task}
 use Rattle.model.specs.Core.{idle}
 use Rattle.model.specs.Figures.{longest}
 use Rattle.model.specs.Sheet.{Sheet, move_price, priced_sheet, sheet_of}

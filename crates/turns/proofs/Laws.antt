@@ -5,7 +5,6 @@ use mathlib.Core.Path.{◌≡◌, refl, ap, sym, ◌∙◌}
 use native.Mathlib.Omega.{arith}
 use Rattle.model.specs.declared.Eviction.{Eviction}
 use Rattle.model.specs.declared.Eviction.TheVariants.{Eager}
-use Rattle.model.specs.declared.Point.{Point}
 use Rattle.model.specs.Task.{count, func}
 use Rattle.model.specs.Core.{reserve, idle}
 use Rattle.model.specs.Figures.{longest}
@@ -24,12 +23,10 @@ use Rattle.machine.specs.declared.Machine.{Machine}
 use Rattle.theory.specs.Cores.{with_eviction}
 use Rattle.machine.specs.Moves.{core_of, Entered}
 use Rattle.machine.proofs.Laws.{entered-with}
-use Rattle.steps.specs.declared.State.{State}
 use Rattle.steps.specs.declared.Turned.{Turned}
 use Rattle.steps.specs.Frames.{frames_end, places_in}
 use Rattle.steps.specs.Steps.{Stays, IsTurn, IsPlain}
 use Rattle.steps.proofs.Laws.{plain-turn}
-use Rattle.moves.specs.Moves.{StepsIn}
 use Rattle.turns.specs.Turns.{Started}
 
 -- a step that moves nothing costs nothing
