@@ -2,13 +2,15 @@
 use Prim.Native.Nat.{ℕ, zero, suc, ◌+◌, ◌-◌, ◌%◌, ◌≤◌, ◌<◌}
 use mathlib.Core.List.{List, [], ◌++◌, append-nil}
 use mathlib.Core.Path.{◌≡◌, refl, ap, sym, ◌∙◌}
-use native.Mathlib.Nat.{mod-add-mod, mod-lt, add_assoc}
+use native.Mathlib.Nat.{mod-add-mod, mod-eq_of_lt, mod-eq-sub-mod, mod-lt, add_assoc}
+use native.Mathlib.Decide.{dec_lt}
 use native.Mathlib.Numerals.{add-one}
 use native.Mathlib.Omega.{arith}
 use lib.ListN.{length, get_or, set, take, drop, length-drop, take-append-drop, length-replicate}
 use lib.Seq.{take_all, drop-length, take-set-le, drop-set-add}
 use borrow.Rule.Slice.PartMut.{mid_of, put_mid}
 use Rattle.model.specs.declared.Eviction.{Eviction}
+use Rattle.model.specs.declared.Eviction.TheVariants.{Eager}
 use Rattle.model.specs.Core as core
 use Rattle.model.specs.Core.{Core, written, spilled, filled, reserved, resume_moves, reserve, save, with_cache, filled_with, resume}
 use Rattle.machine.specs.declared.Machine.{Machine}
@@ -18,6 +20,31 @@ use Rattle.machine.specs.Moves.{eviction_of, core_of, OnCache, Good, Does, Preem
 use Rattle.machine.proofs.Kept.{start-memory, save-good, between-good}
 
 -- ---- blocks
+
+-- a block and an offset, whose sum wraps once
+pub wrap-once : (s b o : ℕ) → b < s → o ≤ s → s ≤ b + o → (b + o - s ≡ (b + o) % s) × (b + o - s < s)
+wrap-once s b o h k l = (sym (mod-eq-sub-mod l ∙ mod-eq_of_lt (omega arith)), omega arith)
+
+-- the block of x, from that of x + o
+module _ (s b o x : ℕ) (h : b < s) (k : o ≤ s) (e : b ≡ (x + o) % s) where
+  from-below : b ≡ (x % s + o) % s
+  from-below = e ∙ sym (mod-add-mod x s o)
+
+  pub back-wraps : b < o → b + (s - o) ≡ x % s
+  back-wraps l =
+      let m = mod-lt x {m = s} (omega arith) in
+      elim (dec_lt (x % s + o) s) [
+        | yes j ↦ let z = from-below ∙ mod-eq_of_lt j in absurd (omega (arith, z))
+        | no j ↦ let z = from-below ∙ sym (wrap-once s (x % s) o m k (omega arith)).0 in omega (arith, z)
+      ]
+
+  pub back-stays : o ≤ b → b - o ≡ x % s
+  back-stays l =
+      let m = mod-lt x {m = s} (omega arith) in
+      elim (dec_lt (x % s + o) s) [
+        | yes j ↦ let z = from-below ∙ mod-eq_of_lt j in omega (arith, z)
+        | no j ↦ let z = from-below ∙ sym (wrap-once s (x % s) o m k (omega arith)).0 in absurd (omega (arith, z))
+      ]
 
 -- the block of an address o above ST
 pub top-after : (s st top o r : ℕ) → top ≡ st % s → r ≡ (top + o) % s → r ≡ (st + o) % s
@@ -104,6 +131,11 @@ does r cache memory to a b p x c d o e =
       blocks = e;
     }
 
+-- a machine with 0 writes back all
+pub zero-eager : eviction_of 0 ≡ Eager
+unfolding eviction_of
+zero-eager = refl
+
 -- a fresh machine, whose entry moves nothing
 pub entered : (m : Machine) (x : Eviction) (stack frame numbers : ℕ) → frame ≤ stack → m.st ≡ numbers - frame → m.occupancy ≡ reserved stack frame 0
     → m.pointer ≡ reserved stack frame 0 → eviction_of m.lazy ≡ x → m.top ≡ m.st % stack → Entered x stack frame numbers m
@@ -137,6 +169,16 @@ entered-with m r x y stack frame numbers h a b = record {
       });
   top = b.1 ∙ a.top ∙ ap (λ (c : Core). c.st % stack) (sym (b.0 [] []));
 }
+
+-- what is written back, by the number that the machine has
+pub written_all : (n m : ℕ) → (n ≡ written (eviction_of 0) n m) × (n ≤ n)
+unfolding written eviction_of
+written_all n m = (refl, omega arith)
+
+pub written_below : (z n m : ℕ) → (z ≡ 0 → ⊥) → m ≤ n → (m ≡ written (eviction_of z) n m) × (m ≤ n)
+unfolding written eviction_of
+written_below zero n m h k = absurd (h refl)
+written_below (suc z) n m h k = (refl, k)
 
 -- ---- both halves of a preemption
 
