@@ -2,7 +2,7 @@
 use Prim.Native.Nat.{ℕ, zero, suc, ◌+◌, ◌-◌, ◌%◌, ◌≤◌, ◌<◌}
 use mathlib.Core.List.{List, [], ◌++◌, append-nil}
 use mathlib.Core.Path.{◌≡◌, refl, ap, sym, ◌∙◌}
-use native.Mathlib.Nat.{mod-add-mod, mod-eq_of_lt, mod-eq-sub-mod, mod-lt, mod_self, add_assoc, add-zero}
+use native.Mathlib.Nat.{mod-add-mod, mod-eq_of_lt, mod-eq-sub-mod, mod-lt, add_assoc}
 use native.Mathlib.Decide.{dec_lt}
 use native.Mathlib.Numerals.{add-one}
 use native.Mathlib.Omega.{arith}
@@ -10,6 +10,7 @@ use lib.ListN.{length, get_or, set, take, drop, length-drop, take-append-drop, l
 use lib.Seq.{take_all, drop-length, take-set-le, drop-set-add}
 use borrow.Rule.Slice.PartMut.{mid_of, put_mid}
 use Rattle.model.specs.declared.Eviction.{Eviction}
+use Rattle.model.specs.declared.Eviction.TheVariants.{Eager}
 use Rattle.model.specs.Core as core
 use Rattle.model.specs.Core.{Core, written, spilled, filled, reserved, resume_moves, reserve, save, with_cache, filled_with, resume}
 use Rattle.machine.specs.declared.Machine.{Machine}
@@ -20,15 +21,9 @@ use Rattle.machine.proofs.Kept.{start-memory, save-good, between-good}
 
 -- ---- blocks
 
--- a block and an offset, whose sum wraps at most once
-pub wrap-none : (s b o : ℕ) → b + o < s → (b + o ≡ (b + o) % s) × (b + o < s)
-wrap-none s b o h = (sym (mod-eq_of_lt h), h)
-
+-- a block and an offset, whose sum wraps once
 pub wrap-once : (s b o : ℕ) → b < s → o ≤ s → s ≤ b + o → (b + o - s ≡ (b + o) % s) × (b + o - s < s)
 wrap-once s b o h k l = (sym (mod-eq-sub-mod l ∙ mod-eq_of_lt (omega arith)), omega arith)
-
-pub wraps-to-first : (s b : ℕ) → b + 1 ≡ s → 0 < s → (0 ≡ (b + 1) % s) × (0 < s)
-wraps-to-first s b e h = (sym (ap (λ (n : ℕ). n % s) e ∙ mod_self s), h)
 
 -- the block of x, from that of x + o
 module _ (s b o x : ℕ) (h : b < s) (k : o ≤ s) (e : b ≡ (x + o) % s) where
@@ -55,28 +50,17 @@ module _ (s b o x : ℕ) (h : b < s) (k : o ≤ s) (e : b ≡ (x + o) % s) where
 pub top-after : (s st top o r : ℕ) → top ≡ st % s → r ≡ (top + o) % s → r ≡ (st + o) % s
 top-after s st top o r e g = g ∙ ap (λ (y : ℕ). (y + o) % s) e ∙ mod-add-mod st s o
 
--- the first block of a loop, and the next one where it has passed i
-pub block-first : (s x r : ℕ) → r ≡ x % s → r ≡ (x + 0) % s
-block-first s x r e = e ∙ ap (λ (y : ℕ). y % s) (sym (add-zero x))
-
+-- the next block of a loop that has passed i
 pub block-next : (s x b i r : ℕ) → b ≡ (x + i) % s → r ≡ (b + 1) % s → r ≡ (x + (i + 1)) % s
 block-next s x b i r e g =
     g ∙ ap (λ (y : ℕ). (y + 1) % s) e ∙ mod-add-mod (x + i) s 1 ∙ ap (λ (y : ℕ). y % s) (add_assoc x i 1)
 
 -- ---- one turn of each loop
 
-pub area-none : (cache area : List ℕ) (top from : ℕ) → area ≡ spilled_area cache area top from 0
-unfolding spilled_area
-area-none cache area top from = refl
-
 pub area-more : (cache area₀ area : List ℕ) (top from i b : ℕ) → area ≡ spilled_area cache area₀ top from i → b ≡ (top + from + i) % length cache
     → set area (from + i) (get_or cache b 0) ≡ spilled_area cache area₀ top from (i + 1)
 unfolding spilled_area
 area-more cache area₀ area top from i b e g = rw (add-one, e, g)
-
-pub filled_none : (memory cache : List ℕ) (a : ℕ) → cache ≡ filled memory cache a 0
-unfolding filled
-filled_none memory cache a = refl
 
 pub filled_more : (memory cache₀ cache : List ℕ) (a i b : ℕ) → cache ≡ filled memory cache₀ a i → b ≡ (a + i) % length cache₀
     → set cache b (get_or memory (a + i) 0) ≡ filled memory cache₀ a (i + 1)
@@ -147,6 +131,11 @@ does r cache memory to a b p x c d o e =
       blocks = e;
     }
 
+-- a machine with 0 writes back all
+pub zero-eager : eviction_of 0 ≡ Eager
+unfolding eviction_of
+zero-eager = refl
+
 -- a fresh machine, whose entry moves nothing
 pub entered : (m : Machine) (x : Eviction) (stack frame numbers : ℕ) → frame ≤ stack → m.st ≡ numbers - frame → m.occupancy ≡ reserved stack frame 0
     → m.pointer ≡ reserved stack frame 0 → eviction_of m.lazy ≡ x → m.top ≡ m.st % stack → Entered x stack frame numbers m
@@ -180,6 +169,16 @@ entered-with m r x y stack frame numbers h a b = record {
       });
   top = b.1 ∙ a.top ∙ ap (λ (c : Core). c.st % stack) (sym (b.0 [] []));
 }
+
+-- what is written back, by the number that the machine has
+pub written_all : (n m : ℕ) → (n ≡ written (eviction_of 0) n m) × (n ≤ n)
+unfolding written eviction_of
+written_all n m = (refl, omega arith)
+
+pub written_below : (z n m : ℕ) → (z ≡ 0 → ⊥) → m ≤ n → (m ≡ written (eviction_of z) n m) × (m ≤ n)
+unfolding written eviction_of
+written_below zero n m h k = absurd (h refl)
+written_below (suc z) n m h k = (refl, k)
 
 -- ---- both halves of a preemption
 

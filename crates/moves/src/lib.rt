@@ -1,5 +1,6 @@
 // The events that move blocks between cache and memory: a call, an ensure and a preemption. Each adds the price of what it moves, and what the sheet
-// allows it, to the totals.
+// allows it, to the totals. The buffers are parameters of their own and no struct, so that each signature says which of them are read and which are
+// written.
 #![tactic(auto)]
 
 ghost use Rattle.std.specs.Prelude.{ℕ, ◌+◌, ◌≤◌, length};

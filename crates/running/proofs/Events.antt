@@ -7,16 +7,16 @@ use mathlib.Core.Path.{◌≡◌, refl, ap, sym, subst, ◌∙◌}
 use native.Mathlib.Omega.{arith}
 use lib.Dec.{eqb, leb, eqb→eq, leb→le, leb-zero}
 use lib.ListN.{length}
-use borrow.Author.Tests.{eq-eqb, ne_eqb, lt-leb, le-leb}
+use borrow.Author.Tests.{ne_eqb, lt-leb, le-leb}
 use Rattle.model.specs.declared.Eviction.{Eviction}
-use Rattle.model.specs.declared.Row.TheVariants.{EventList, AnswersTooSmall, CacheSize, MemoryTooSmall, AfterFinish}
+use Rattle.model.specs.declared.Row.TheVariants.{EventList, AnswersTooSmall, CacheSize, MemoryTooSmall}
 use Rattle.model.specs.declared.Refusal.{Refusal}
 use Rattle.std.proofs.Common.{Result, Ok, Err}
 use Rattle.model.specs.declared.RunResult.{RunResult}
 use Rattle.model.specs.Limits.{work_length, most_event_numbers}
 use Rattle.model.specs.Basic.{unless, ◌or_else◌}
-use Rattle.model.specs.Rows.{Verdict, refuse, row_verdict}
-use Rattle.model.specs.Task.{Task, count, Judged, refused, task}
+use Rattle.model.specs.Rows.{refuse, row_verdict}
+use Rattle.model.specs.Task.{Task, count, Judged, task}
 use Rattle.model.specs.Core.{idle}
 use Rattle.model.specs.Figures.{longest}
 use Rattle.model.specs.Sheet.{Sheet, move_price, priced_sheet, sheet_of}
@@ -26,7 +26,7 @@ use Rattle.model.specs.Run.{Ran}
 use Rattle.model.specs.Services.{cleared, over, result_of, AfterRun, after_run, run_as, run_judged, run_with, run_of, run_judged_of, Demand3, LeavesClean, PaysOnce}
 use Rattle.model.specs.WellFormed.{WellFormed}
 use Rattle.theory.specs.Agree.{Agree}
-use Rattle.theory.specs.Without.{first_row, nothing_done, untouched}
+use Rattle.theory.specs.Without.{first_row, untouched}
 use Rattle.theory.proofs.Lists.{and-holds, or-equal}
 use Rattle.theory.proofs.Firsts.{row-none, unless-none}
 use Rattle.theory.proofs.Search.{verdict-none, verdict-some}
@@ -225,10 +225,6 @@ module _ {price : Price} (w : List ℕ) {w' : List ℕ} {h : Header} (f : Figure
   serves-own d = serves-agree agrees b.readable.settled.formed d
 
 -- ---- what was judged
-
-pub none-run : (x : Eviction) (rows : Task → Option Refusal) (sheet : Task → Sheet) (q : Refusal) (w events answers cache memory : List ℕ)
-    → Performs x rows sheet (refused q) w events answers cache memory (none_done q) w answers cache memory
-none-run x rows sheet q w events answers cache memory = record { left = λ work. refl; after = refl }
 
 -- the service, whose working space is l in the end
 module _ {x : Eviction} {first : Option Refusal} {rows : Task → Option Refusal} {sheet : Task → Sheet}

@@ -97,9 +97,7 @@ fn run_task(
         });
     }
     bounds::bound_task(work, h, price);
-    Ok(run::run_events(
-        events, answers, cache, memory, work, h, price, eviction,
-    ))
+    Ok(run::run_events(events, answers, cache, memory, work, h, price, eviction))
 }
 
 // What was judged is refused, or its events are run on the core that evicts so.

@@ -1,13 +1,11 @@
 -- From a step and a preemption to an event, and the rows of an event by its tests.
-use Prim.Native.Nat.{ℕ, zero, suc, ◌+◌, ◌-◌, ◌≤◌, ◌<◌}
-use mathlib.Core.Bool.{or-true, Bool, true, false, not, ◌||◌}
+use Prim.Native.Nat.{ℕ, ◌+◌, ◌-◌, ◌≤◌, ◌<◌}
+use mathlib.Core.Bool.{or-true, true, false}
 use mathlib.Core.List.{List, ◌∷◌}
 use mathlib.Core.Option as option
 use Rattle.std.proofs.Common.{Result, Ok, Err}
 use mathlib.Core.Path.{◌≡◌, refl, ap, sym, subst, ◌∙◌}
-use native.Mathlib.Omega.{arith}
-use lib.Dec.{eqb, leb}
-use borrow.Author.Tests.{eq-eqb, ne_eqb, le-leb, lt-leb}
+use borrow.Author.Tests.{le-leb, lt-leb}
 use Rattle.model.specs.declared.Point.{Point}
 use Rattle.model.specs.declared.Refusal.{Refusal}
 use Rattle.model.specs.declared.Row.TheVariants.{AfterFinish, Kind, Choice}
@@ -25,13 +23,13 @@ use Rattle.readout.specs.Sheet.{sheet_in}
 use Rattle.machine.specs.Moves.{core_of}
 use Rattle.steps.specs.declared.State.{State}
 use Rattle.steps.specs.declared.Turned.{Turned}
-use Rattle.steps.specs.Frames.{places_in, frames_from, frames_of, state_of, turn_of}
+use Rattle.steps.specs.Frames.{places_in, frames_of, state_of, turn_of}
 use Rattle.steps.specs.Steps.{Stays, Added, IsTurn}
 use Rattle.steps.proofs.Laws.{frames-some}
 use Rattle.moves.specs.Moves.{StepsIn, IsPreemption}
 use Rattle.turns.specs.declared.Event.{Event}
 use Rattle.turns.specs.declared.Event.TheVariants.{Step, Preempt}
-use Rattle.turns.specs.Turns.{Turns, act_of, Decodes}
+use Rattle.turns.specs.Turns.{Turns, Decodes}
 use Rattle.turns.proofs.Laws.{stays_same}
 use Rattle.turns.proofs.Given.{top_of}
 

@@ -2,23 +2,19 @@
 use Prim.Native.Nat.{ℕ, zero, suc, ◌+◌, ◌-◌, ◌≤◌, ◌<◌}
 use mathlib.Core.List.{List, [], ◌∷◌}
 use mathlib.Core.Path.{◌≡◌, refl, ap, sym, subst, ◌∙◌}
-use mathlib.Core.Bool.{false}
-use mathlib.Core.Logic.{inl}
 use native.Mathlib.Omega.{arith}
-use lib.Dec.{T, eqb, eqb_refl}
 use lib.ListN.{length}
 use Rattle.model.specs.declared.Point.{Point}
-use Rattle.model.specs.declared.Point.TheVariants.{Load, Store, Call, Ensure}
-use Rattle.model.specs.Limits.{most_stack, most_funcs, most_points, most_in_all}
+use Rattle.model.specs.declared.Point.TheVariants.{Call, Ensure}
+use Rattle.model.specs.Limits.{most_stack, most_funcs, most_in_all}
 use Rattle.model.specs.Task.{Task, func, point}
-use Rattle.model.specs.Walk.{called, touches}
+use Rattle.model.specs.Walk.{called}
 use Rattle.model.specs.Plain.{Frame}
 use Rattle.model.specs.Run.{Place}
 use Rattle.model.specs.WellFormed.{WellFormed}
-use Rattle.theory.proofs.Lists.{or-holds}
 use Rattle.theory.proofs.Links.{callee-later}
 use Rattle.theory.proofs.Frames.{places, place, In, Below, Standing}
-use Rattle.theory.proofs.Window.{room-below, ensures-frame, touched-cached}
+use Rattle.theory.proofs.Window.{room-below, ensures-frame}
 use Rattle.theory.proofs.Fair.{Running}
 use Rattle.tables.specs.declared.Header.{Header}
 use Rattle.tables.specs.declared.Span.{Span}
@@ -31,7 +27,7 @@ use Rattle.machine.specs.Moves.{core_of, most_address, Good}
 use Rattle.machine.proofs.Kept.{window-good, window-frame}
 use Rattle.steps.specs.declared.State.{State}
 use Rattle.steps.specs.Frames.{places_in, frames_from}
-use Rattle.steps.specs.Steps.{Counts, Reaches, Leaves}
+use Rattle.steps.specs.Steps.{Counts, Leaves}
 use Rattle.moves.specs.Moves.{Inside, Enters}
 use Rattle.moves.proofs.Laws.{inside-small}
 use Rattle.turns.specs.Turns.{Runs, Placed, StandsAt}

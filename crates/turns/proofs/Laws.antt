@@ -1,11 +1,10 @@
--- A step at a point that is known, and a start.
+-- A step that moves nothing, and a start.
 use Prim.Native.Nat.{ℕ, ◌≤◌, ◌<◌}
 use mathlib.Core.List.{List, [], ◌∷◌}
 use mathlib.Core.Path.{◌≡◌, refl, ap, sym, ◌∙◌}
 use native.Mathlib.Omega.{arith}
 use Rattle.model.specs.declared.Eviction.{Eviction}
 use Rattle.model.specs.declared.Eviction.TheVariants.{Eager}
-use Rattle.model.specs.declared.Point.{Point}
 use Rattle.model.specs.Task.{count, func}
 use Rattle.model.specs.Core.{reserve, idle}
 use Rattle.model.specs.Figures.{longest}
@@ -24,20 +23,13 @@ use Rattle.machine.specs.declared.Machine.{Machine}
 use Rattle.theory.specs.Cores.{with_eviction}
 use Rattle.machine.specs.Moves.{core_of, Entered}
 use Rattle.machine.proofs.Laws.{entered-with}
-use Rattle.steps.specs.declared.State.{State}
 use Rattle.steps.specs.declared.Turned.{Turned}
 use Rattle.steps.specs.Frames.{frames_end, places_in}
-use Rattle.steps.specs.Steps.{Stays, IsTurn, IsPlain, PlainStep}
+use Rattle.steps.specs.Steps.{Stays, IsTurn, IsPlain}
 use Rattle.steps.proofs.Laws.{plain-turn}
-use Rattle.moves.specs.Moves.{StepsIn}
 use Rattle.turns.specs.Turns.{Started}
 
--- a step at a point that is known
-pub steps-at : (price : Price) (w : List ℕ) (h : Header) (x : State) (y z : Point) (v : ℕ) (cache memory : List ℕ) {r : Turned} {w' cache' memory' : List ℕ}
-    → y ≡ z → StepsIn price w h x z v cache memory r w' cache' memory' → StepsIn price w h x y v cache memory r w' cache' memory'
-steps-at price w h x y z v cache memory e d = rw e d
-
--- one that moves nothing costs nothing
+-- a step that moves nothing costs nothing
 pub plain_in : (price : Price) {m a : ℕ} {r : Turned} {w cache memory : List ℕ} {u : run.Turn} → IsPlain m a r w cache memory u
     → IsTurn (price_of price) m a r w cache memory u 0
 plain_in price d = plain-turn (price_of price) (price-moves price.start price.each).none d

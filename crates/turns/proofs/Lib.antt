@@ -1,4 +1,4 @@
--- Laws: a step at a point that is known, and a start. Given: what a step and a preemption ask, from a state that a run can be in. Events: from a step
+-- Laws: a step that moves nothing, and a start. Given: what a step and a preemption ask, from a state that a run can be in. Events: from a step
 -- and a preemption to an event, and its rows. Kept: what a loop over events cites.
 pub mod Laws
 pub mod Given

@@ -23,9 +23,6 @@ returns c =
     serves-as c.args.eviction c.start-x.result p c.start-x.ensures
     (loops-end c.loop-i.invariant p.paired p.answered (omega arith) c.ended-2.ensures)
 
-pub start-x-requires : goal.start-x-requires
-start-x-requires c = let p = c.requires in (p.bounded.readable.settled, p.some, p.room)
-
 pub loop-i-init : goal.loop-i-init
 loop-i-init c = loops-start c.args.eviction c.start-x.result c.requires c.start-x.ensures
 
