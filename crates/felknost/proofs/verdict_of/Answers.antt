@@ -1,5 +1,0 @@
--- By the ending.
-use Rattle.felknost.proofs.verdict_of.Goals as goal
-
-pub returns-in-Refused : goal.returns-in-Refused
-returns-in-Refused c = rw c.in-Refused.is
