@@ -25,8 +25,3 @@ loop-g-preserved c =
     let a = c.args in
     let l = c.loop-g in
     (omega arith, within-out (level_in a.work.now) (shortest_in a.work.now) a.n a.level (l.g - 1) (omega arith) (omega arith) (omega arith) l.invariant.1)
-
-pub returns : goal.returns
-returns c =
-    let e : c.args.m ≡ c.loop-g.g = omega arith in
-    rw e c.loop-g.invariant.1

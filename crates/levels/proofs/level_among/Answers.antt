@@ -17,10 +17,5 @@ loop-g-preserved c =
     let l = c.loop-g in
     (omega arith, level-turn (shortest_in a.work.now) a.n a.v (l.g - 1) (omega arith) (omega arith) l.invariant.1 c.raised-level.ensures)
 
-pub returns : goal.returns
-returns c =
-    let e : c.args.m ≡ c.loop-g.g = omega arith in
-    rw e c.loop-g.invariant.1
-
 pub raised-level-requires : goal.raised-level-requires
 raised-level-requires c = omega (arith, level-most (shortest_in c.args.work.now) c.args.n c.args.v c.loop-g.g)
