@@ -7,11 +7,10 @@ ghost use Rattle.model.specs.Rows.{row_verdict};
 ghost use Rattle.model.specs.Walk.{called, is};
 ghost use Rattle.tables.specs.Layout.{tables_length};
 ghost use Rattle.tables.specs.Tables.{task_of};
-ghost use Rattle.tables.specs.Valid.{Holds};
 ghost use Rattle.reach.specs.Calls.{calls_at, mark_of};
 
 use model::{Limits, Point, Refusal, Row, Verdict};
-use tables::Header;
+use tables::HeldTask;
 
 // Marks the function that a point calls.
 fn mark(x: Point, marks: &mut [bool])
@@ -37,16 +36,16 @@ fn mark_calls(work: &[u32], points: usize, marks: &mut [bool; Limits::FUNCS])
 }
 
 // The first function from 1 on that has no mark.
-fn first_unmarked(work: &[u32], h: Header, marks: &[bool; Limits::FUNCS]) -> Verdict
-    requires { Holds work.now h × ((f : ℕ) → f < h.funcs → mark_of marks.now f ≡ is_called (task_of work.now h) f) }
-    ensures { result ≡ row_verdict (call_rows (task_of work.now h)) }
+fn first_unmarked(task: HeldTask, marks: &[bool; Limits::FUNCS]) -> Verdict
+    requires { (f : ℕ) → f < task.header.funcs → mark_of marks.now f ≡ is_called (task_of task.work.now task.header) f }
+    ensures { result ≡ row_verdict (call_rows (task_of task.entry.work.now task.entry.header)) }
 {
-    for f in 1..h.funcs {
+    for f in 1..task.header.funcs {
         if !marks[f] {
-            let s = tables::span_at(work, f);
+            let func = task.func(f);
             return Err(Refusal {
                 row: Row::Uncalled,
-                place: tables::opening_line(f, s.base),
+                place: tables::opening_line(f, func.span.base),
             });
         }
     }
@@ -54,11 +53,10 @@ fn first_unmarked(work: &[u32], h: Header, marks: &[bool; Limits::FUNCS]) -> Ver
 }
 
 // 12 of the task.
-pub fn call_rows(work: &[u32], h: Header) -> Verdict
-    requires { Holds work.now h }
-    ensures { result ≡ row_verdict (call_rows (task_of work.now h)) }
+pub fn call_rows(task: HeldTask) -> Verdict
+    ensures { result ≡ row_verdict (call_rows (task_of task.entry.work.now task.entry.header)) }
 {
     let mut marks = [false; Limits::FUNCS];
-    mark_calls(work, h.points, &mut marks);
-    first_unmarked(work, h, &marks)
+    mark_calls(task.work, task.header.points, &mut marks);
+    first_unmarked(task, &marks)
 }

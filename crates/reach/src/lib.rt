@@ -11,13 +11,13 @@ ghost use Rattle.model.specs.Rows.{row_verdict};
 ghost use Rattle.model.specs.Walk.{stored, is};
 ghost use Rattle.model.specs.WellFormed.{Shaped, Linked};
 ghost use Rattle.tables.specs.Tables.{item, point_at, task_of};
-ghost use Rattle.tables.specs.Valid.{Holds, Fits};
+ghost use Rattle.tables.specs.Valid.{Fits};
 ghost use Rattle.worklist.specs.Worklist.{codes};
-ghost use Rattle.reach.specs.Reach.{HoldsLinked, first_failing, seen, initialised, Tells, verdict_from};
+ghost use Rattle.reach.specs.Reach.{first_failing, seen, initialised, Tells, verdict_from};
 
 use flow::Flow;
 use model::{Limits, Refusal, Row, Verdict};
-use tables::{Header, Span};
+use tables::{HeldTask, Span};
 use worklist::Visit;
 
 mod calls;
@@ -115,9 +115,9 @@ fn solve(work: &[u32], s: Span, scratch: &mut Scratch)
 }
 
 // The functions from the first on, by the kernel, up to the first refusal 11. What is kept is refusal 12, or else the first refusal 13 so far.
-fn solved_rows(work: &[u32], h: Header, first: usize, calls: Verdict) -> Verdict
-    requires { HoldsLinked work.now h }
-    ensures { result ≡ verdict_from (task_of work.now h) first h.funcs calls }
+fn solved_rows(task: HeldTask, first: usize, calls: Verdict) -> Verdict
+    requires { Shaped (task_of task.work.now task.header) × Linked (task_of task.work.now task.header) }
+    ensures { result ≡ verdict_from (task_of task.entry.work.now task.entry.header) first task.entry.header.funcs calls }
 {
     let mut scratch = Scratch {
         gens: [0; Limits::POINTS],
@@ -126,24 +126,24 @@ fn solved_rows(work: &[u32], h: Header, first: usize, calls: Verdict) -> Verdict
         state: [Visit::Unseen; Limits::POINTS],
     };
     let mut kept = calls;
-    for f in first..h.funcs {
-        let s = tables::span_at(work, f);
-        solve(work, s, &mut scratch);
+    for f in first..task.header.funcs {
+        let s = tables::span_at(task.work, f);
+        solve(task.work, s, &mut scratch);
         first_unreached(f, s, &scratch.state)?;
-        kept = kept.and(first_unstored(work, f, s, &scratch.sets));
+        kept = kept.and(first_unstored(task.work, f, s, &scratch.sets));
     }
     kept
 }
 
 // 11, 12 and 13, in this order, each by line.
-pub fn walk_rows(work: &[u32], h: Header) -> Verdict
-    requires { Holds work.now h × Shaped (task_of work.now h) × Linked (task_of work.now h) }
-    ensures { result ≡ row_verdict (walk_rows (task_of work.now h)) }
+pub fn walk_rows(task: HeldTask) -> Verdict
+    requires { Shaped (task_of task.work.now task.header) × Linked (task_of task.work.now task.header) }
+    ensures { result ≡ row_verdict (walk_rows (task_of task.entry.work.now task.entry.header)) }
 {
-    let calls = calls::call_rows(work, h);
-    let clean = sweep::clean_funcs(work, h);
-    if clean == h.funcs {
+    let calls = calls::call_rows(task);
+    let clean = sweep::clean_funcs(task);
+    if clean == task.header.funcs {
         return calls;
     }
-    solved_rows(work, h, clean, calls)
+    solved_rows(task, clean, calls)
 }

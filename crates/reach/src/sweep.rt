@@ -8,15 +8,16 @@ ghost use Rattle.model.specs.declared.Point.{Point as AnyPoint};
 ghost use Rattle.model.specs.Limits.{most_stack, most_points};
 ghost use Rattle.model.specs.Task.{offset_fits, point};
 ghost use Rattle.model.specs.Walk.{leads};
-ghost use Rattle.tables.specs.Tables.{item, func_in};
+ghost use Rattle.model.specs.WellFormed.{Shaped, Linked};
+ghost use Rattle.tables.specs.Tables.{item, func_in, task_of};
 ghost use Rattle.tables.specs.Valid.{Fits};
-ghost use Rattle.reach.specs.Reach.{HoldsLinked, Clean, CleanBefore};
+ghost use Rattle.reach.specs.Reach.{Clean, CleanBefore};
 ghost use Rattle.reach.specs.Sweep.{Most, UnionAt, Arrived, Passes, Accessed, Stepped};
 
 use super::{Bytes, Sets, point};
 use flow::Next;
 use model::{Limits, Point};
-use tables::{Header, Span};
+use tables::{HeldTask, Span};
 
 // What a point does with its set: it may be at fault, it leads to the next point with a set, or it leads elsewhere. These are three ways on, and no
 // Option<u64> in a Result is plainer.
@@ -144,18 +145,18 @@ fn access(x: Point, m: u64) -> Step
 }
 
 // How many functions, from the first on, pass the sweep. The mark of each is above those of the functions before it, so that no mark has to be cleared.
-pub fn clean_funcs(work: &[u32], h: Header) -> usize
-    requires { HoldsLinked work.now h }
-    ensures { CleanBefore work.now h result }
+pub fn clean_funcs(task: HeldTask) -> usize
+    requires { Shaped (task_of task.work.now task.header) × Linked (task_of task.work.now task.header) }
+    ensures { CleanBefore task.entry.work.now task.entry.header result }
 {
     let mut sweep = Sweep {
         sets: [0; Limits::POINTS],
         marks: [0; Limits::POINTS],
     };
-    for f in 0..h.funcs {
-        if !sweep.points(work, tables::span_at(work, f), (f + 1) as u8) {
+    for f in 0..task.header.funcs {
+        if !sweep.points(task.work, tables::span_at(task.work, f), (f + 1) as u8) {
             return f;
         }
     }
-    h.funcs
+    task.header.funcs
 }

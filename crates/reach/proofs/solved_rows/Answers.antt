@@ -12,20 +12,20 @@ invariant_of-scratch c = record { no_gens = all_same 0 most_points }
 
 pub first_unreached-requires : goal.first_unreached-requires
 first_unreached-requires c =
-    let k = ready-fits c.requires _ c.loop-f-test.true c.span_at-s.ensures in
-    omega (arith, c.requires.0.few)
+    let k = ready-fits (c.args.task.holds, c.requires.0, c.requires.1) _ c.loop-f-test.true c.span_at-s.ensures in
+    omega (arith, c.args.task.holds.few)
 
 pub first_unstored-requires : goal.first_unstored-requires
 first_unstored-requires c =
-    let k = ready-fits c.requires _ c.loop-f-test.true c.span_at-s.ensures in
-    (omega (arith, c.requires.0.few), k, omega arith)
+    let k = ready-fits (c.args.task.holds, c.requires.0, c.requires.1) _ c.loop-f-test.true c.span_at-s.ensures in
+    (omega (arith, c.args.task.holds.few), k, omega arith)
 
 pub returns : goal.returns
 returns c = from_end _ _ _ _ c.loop-f-test.false ∙ c.loop-f.invariant
 
 pub returns-in_err-first_unreached : goal.returns-in_err-first_unreached
 returns-in_err-first_unreached c =
-    let k = c.requires.0 in
+    let k = c.args.task.holds in
     let t = c.loop-f-test.true in
     let r = reach-in k _ t c.span_at-s.ensures c.solve.ensures c.in_err-first_unreached.ensures in
     let p = err_from_is_err_and c.from_residual.result c.from_residual.ensures.1 in
@@ -34,7 +34,7 @@ returns-in_err-first_unreached c =
 pub loop-f-preserved : goal.loop-f-preserved
 loop-f-preserved c =
     let t = c.loop-f-test.true in
-    let k = c.requires.0 in
+    let k = c.args.task.holds in
     let e = c.span_at-s.ensures in
     let a = c.solve.ensures in
     let r = reach-in k _ t e a c.in_ok-first_unreached.ensures in
@@ -45,7 +45,7 @@ pub loop-f-init : goal.loop-f-init
 loop-f-init c = refl
 
 pub span_at-s-requires : goal.span_at-s-requires
-span_at-s-requires c = (omega (arith, c.requires.0.few), c.requires.0.room)
+span_at-s-requires c = (omega (arith, c.args.task.holds.few), c.args.task.holds.room)
 
 pub solve-requires : goal.solve-requires
-solve-requires c = ready-fits c.requires _ c.loop-f-test.true c.span_at-s.ensures
+solve-requires c = ready-fits (c.args.task.holds, c.requires.0, c.requires.1) _ c.loop-f-test.true c.span_at-s.ensures
