@@ -1,17 +1,10 @@
 -- Of the functions from 1 on, those from f on decide.
-use native.Mathlib.Omega.{arith}
 use mathlib.Core.Bool.{not}
 use mathlib.Core.Path.{refl, ap}
 use Rattle.theory.proofs.Search.{search-on, search-off, search-end}
 use Rattle.tables.specs.declared.Span.{Span}
-use Rattle.tables.proofs.Valid.{lies_in}
 use Rattle.reach.proofs.Called.{calls-start, row-called, row-uncalled}
 use Rattle.reach.proofs.calls.first_unmarked.Goals as goal
-
-pub opening_line-requires : goal.opening_line-requires
-opening_line-requires c =
-    let k = lies_in c.args.task.holds _ c.loop-f-test.true in
-    omega (arith, ap (λ (s : Span). s.base) c.func-func.ensures.span)
 
 pub returns-then-not-marks-f : goal.returns-then-not-marks-f
 returns-then-not-marks-f c =
