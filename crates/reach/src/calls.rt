@@ -1,11 +1,10 @@
 // Refusal 12: a function that no point of the task calls.
 ghost use Rattle.std.specs.Prelude.{◌≡◌, false, ◌||◌, ℕ, ◌<◌, ◌≤◌, length};
 ghost use Rattle.model.specs.Basic.{any, up_to};
-ghost use Rattle.model.specs.Limits.{most_funcs, most_in_all};
+ghost use Rattle.model.specs.Limits.{most_funcs};
 ghost use Rattle.model.specs.Refusal.{is_called, call_rows};
 ghost use Rattle.model.specs.Rows.{row_verdict};
 ghost use Rattle.model.specs.Walk.{called, is};
-ghost use Rattle.tables.specs.Layout.{tables_length};
 ghost use Rattle.tables.specs.Tables.{task_of};
 ghost use Rattle.reach.specs.Calls.{calls_at, mark_of};
 
@@ -26,12 +25,12 @@ fn mark(x: Point, marks: &mut [bool])
 }
 
 // Marks each function that one of the task's points calls.
-fn mark_calls(work: &[u32], points: usize, marks: &mut [bool; Limits::FUNCS])
-    requires { (tables_length ≤ length work.now) × (points ≤ most_in_all) × ((f : ℕ) → mark_of marks.old f ≡ false) }
-    ensures { (f : ℕ) → f < most_funcs → mark_of marks.new f ≡ any (calls_at work.now f) (up_to points) }
+fn mark_calls(task: HeldTask, marks: &mut [bool; Limits::FUNCS])
+    requires { (f : ℕ) → mark_of marks.old f ≡ false }
+    ensures { (f : ℕ) → f < most_funcs → mark_of marks.new f ≡ any (calls_at task.entry.work.now f) (up_to task.entry.header.points) }
 {
-    for i in 0..points {
-        mark(tables::point_at(work, i), marks);
+    for i in 0..task.header.points {
+        mark(tables::point_at(task.work, i), marks);
     }
 }
 
@@ -57,6 +56,6 @@ pub fn call_rows(task: HeldTask) -> Verdict
     ensures { result ≡ row_verdict (call_rows (task_of task.entry.work.now task.entry.header)) }
 {
     let mut marks = [false; Limits::FUNCS];
-    mark_calls(task.work, task.header.points, &mut marks);
+    mark_calls(task, &mut marks);
     first_unmarked(task, &marks)
 }

@@ -13,4 +13,4 @@ first_unmarked-requires c =
     (λ f h. c.mark_calls.ensures f (omega (arith, k.few)) ∙ sym (called_is k f))
 
 pub mark_calls-requires : goal.mark_calls-requires
-mark_calls-requires c = let k = c.args.task.holds in (k.room, k.all, all_same false most_funcs)
+mark_calls-requires c = all_same false most_funcs
