@@ -19,8 +19,9 @@ fn task_rows(work: &[u32], h: Header) -> Verdict
     requires { Holds work.now h × Shaped (task_of work.now h) }
     ensures { result ≡ row_verdict (task_rows (task_of work.now h)) }
 {
-    links::link_rows(HeldTask { work, header: h })?;
-    reach::walk_rows(work, h)
+    let task = HeldTask { work, header: h };
+    links::link_rows(task)?;
+    reach::walk_rows(task)
 }
 
 // A task, which the tables hold, or a refusal. Everything past the tables is as it was.

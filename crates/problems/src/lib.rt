@@ -6,13 +6,12 @@ ghost use Rattle.model.specs.Limits.{most_stack};
 ghost use Rattle.model.specs.Task.{Task};
 ghost use Rattle.model.specs.Figures as figure;
 ghost use Rattle.tables.specs.Tables.{item, func_in};
-ghost use Rattle.tables.specs.Valid.{Fits};
 ghost use Rattle.problems.specs.Problems.{Filled, Gives, Takes, Blocks, Answered, lowest_level, Used, KeptIn, CutIn, EachReached};
 
 use effects::Problem;
 use flow::Flow;
 use model::Limits;
-use tables::Span;
+pub use tables::FitFunc;
 use worklist::Visit;
 
 // A number for each point of a function.
@@ -38,14 +37,6 @@ impl Scratch {
     }
 }
 
-// A function in the tables whose walks stay in it, with offsets below its frame.
-#[derive(Clone, Copy)]
-pub struct FitFunc<'a> {
-    pub work: &'a [u32],
-    pub span: Span,
-    pub ghost fits: { Fits work.now span },
-}
-
 // The gens and kills of the points of a function. A problem without a column is lent an empty one. Inlined for the same reason as solve.
 #[inline(always)]
 fn fill(problem: Problem, func: FitFunc, column: &[u32], gens: &mut [u64], kills: &mut [u64])
@@ -54,7 +45,7 @@ fn fill(problem: Problem, func: FitFunc, column: &[u32], gens: &mut [u64], kills
         × Filled (Takes problem func.entry.work.now func.entry.span column.now) func.entry.span.size kills.old kills.new }
 {
     for p in 0..func.span.size {
-        let e = effects::effect_of(tables::point_at(func.work, func.span.base + p));
+        let e = effects::effect_of(func.point(p));
         let a = column.get(p).copied().unwrap_or(0);
         gens[p] = effects::gens_of(problem, e, func.span.frame, a);
         kills[p] = effects::kills_of(problem, e, a);

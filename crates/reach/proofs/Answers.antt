@@ -20,13 +20,11 @@ use Rattle.theory.proofs.Lists.{same_test}
 use Rattle.theory.proofs.Links.{lead-inside}
 use Rattle.theory.proofs.Figures.{Closed, reached-walk, uninitialised-walk}
 use Rattle.theory.proofs.Walks.{walk-trans}
-use Rattle.tables.specs.declared.Header.{Header}
 use Rattle.tables.specs.declared.Span.{Span}
-use Rattle.tables.specs.Tables.{item, point_at, span_at, func_in}
+use Rattle.tables.specs.Tables.{item, point_at, func_in}
 use Rattle.tables.specs.Valid.{Fits}
 use Rattle.tables.proofs.Laws.{load_below, length-points, point-there, here, elsewhere}
-use Rattle.tables.proofs.Valid.{fits_in}
-use Rattle.reach.specs.Reach.{HoldsLinked, Clean, has, seen, Tells}
+use Rattle.reach.specs.Reach.{Clean, has, seen, Tells}
 use Rattle.reach.specs.Sweep.{Most}
 use Rattle.reach.proofs.Theory.{Has, Sweeping}
 
@@ -146,10 +144,6 @@ module _ {w : List ℕ} {s : Span} (k : Fits w s) where
               rw (← point-in p h)
               (stored_same x p (item sets p) (loaded (point x p)) (λ j e. bit_in p j h (load-in p j h e)));
         }
-
--- function f of a task that is read and linked
-pub ready-fits : {w : List ℕ} {h : Header} → HoldsLinked w h → (f : ℕ) → f < h.funcs → {s : Span} → s ≡ span_at w f → Fits w s
-ready-fits r f l e = rw e (fits_in r.0 r.1 r.2 f l)
 
 -- an array that a pass starts with
 pub all_same : {A : Type 0} (a : A) (n p : ℕ) → get_or (replicate n a) p a ≡ a

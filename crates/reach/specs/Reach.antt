@@ -11,15 +11,9 @@ use Rattle.model.specs.Refusal.{stored_before, reach_row, load_row}
 use Rattle.model.specs.Rows.{Verdict, refuse, row_verdict}
 use Rattle.model.specs.Task.{Func, Task, size, func, point}
 use Rattle.model.specs.Walk.{loaded}
-use Rattle.model.specs.WellFormed.{Shaped, Linked}
 use Rattle.tables.specs.declared.Header.{Header}
 use Rattle.tables.specs.declared.Span.{Span}
-use Rattle.tables.specs.Tables.{item, point_at, span_at, func_in, task_of, line_in}
-use Rattle.tables.specs.Valid.{Holds}
-
--- the tables hold a task that is read and linked
-abbrev pub HoldsLinked : List ℕ → Header → Type 0
-HoldsLinked w h = Holds w h × Shaped (task_of w h) × Linked (task_of w h)
+use Rattle.tables.specs.Tables.{item, point_at, span_at, func_in, line_in}
 
 -- every walk to point p stores the offset that it loads, if there is one
 abbrev pub loads_stored : Func → ℕ → Bool

@@ -1,17 +1,15 @@
 // Refusal 12: a function that no point of the task calls.
 ghost use Rattle.std.specs.Prelude.{◌≡◌, false, ◌||◌, ℕ, ◌<◌, ◌≤◌, length};
 ghost use Rattle.model.specs.Basic.{any, up_to};
-ghost use Rattle.model.specs.Limits.{most_funcs, most_in_all};
+ghost use Rattle.model.specs.Limits.{most_funcs};
 ghost use Rattle.model.specs.Refusal.{is_called, call_rows};
 ghost use Rattle.model.specs.Rows.{row_verdict};
 ghost use Rattle.model.specs.Walk.{called, is};
-ghost use Rattle.tables.specs.Layout.{tables_length};
 ghost use Rattle.tables.specs.Tables.{task_of};
-ghost use Rattle.tables.specs.Valid.{Holds};
 ghost use Rattle.reach.specs.Calls.{calls_at, mark_of};
 
 use model::{Limits, Point, Refusal, Row, Verdict};
-use tables::Header;
+use tables::HeldTask;
 
 // Marks the function that a point calls.
 fn mark(x: Point, marks: &mut [bool])
@@ -27,26 +25,26 @@ fn mark(x: Point, marks: &mut [bool])
 }
 
 // Marks each function that one of the task's points calls.
-fn mark_calls(work: &[u32], points: usize, marks: &mut [bool; Limits::FUNCS])
-    requires { (tables_length ≤ length work.now) × (points ≤ most_in_all) × ((f : ℕ) → mark_of marks.old f ≡ false) }
-    ensures { (f : ℕ) → f < most_funcs → mark_of marks.new f ≡ any (calls_at work.now f) (up_to points) }
+fn mark_calls(task: HeldTask, marks: &mut [bool; Limits::FUNCS])
+    requires { (f : ℕ) → mark_of marks.old f ≡ false }
+    ensures { (f : ℕ) → f < most_funcs → mark_of marks.new f ≡ any (calls_at task.entry.work.now f) (up_to task.entry.header.points) }
 {
-    for i in 0..points {
-        mark(tables::point_at(work, i), marks);
+    for i in 0..task.header.points {
+        mark(tables::point_at(task.work, i), marks);
     }
 }
 
 // The first function from 1 on that has no mark.
-fn first_unmarked(work: &[u32], h: Header, marks: &[bool; Limits::FUNCS]) -> Verdict
-    requires { Holds work.now h × ((f : ℕ) → f < h.funcs → mark_of marks.now f ≡ is_called (task_of work.now h) f) }
-    ensures { result ≡ row_verdict (call_rows (task_of work.now h)) }
+fn first_unmarked(task: HeldTask, marks: &[bool; Limits::FUNCS]) -> Verdict
+    requires { (f : ℕ) → f < task.header.funcs → mark_of marks.now f ≡ is_called (task_of task.work.now task.header) f }
+    ensures { result ≡ row_verdict (call_rows (task_of task.entry.work.now task.entry.header)) }
 {
-    for f in 1..h.funcs {
+    for f in 1..task.header.funcs {
         if !marks[f] {
-            let s = tables::span_at(work, f);
+            let func = task.func(f);
             return Err(Refusal {
                 row: Row::Uncalled,
-                place: tables::opening_line(f, s.base),
+                place: tables::opening_line(f, func.span.base),
             });
         }
     }
@@ -54,11 +52,10 @@ fn first_unmarked(work: &[u32], h: Header, marks: &[bool; Limits::FUNCS]) -> Ver
 }
 
 // 12 of the task.
-pub fn call_rows(work: &[u32], h: Header) -> Verdict
-    requires { Holds work.now h }
-    ensures { result ≡ row_verdict (call_rows (task_of work.now h)) }
+pub fn call_rows(task: HeldTask) -> Verdict
+    ensures { result ≡ row_verdict (call_rows (task_of task.entry.work.now task.entry.header)) }
 {
     let mut marks = [false; Limits::FUNCS];
-    mark_calls(work, h.points, &mut marks);
-    first_unmarked(work, h, &marks)
+    mark_calls(task, &mut marks);
+    first_unmarked(task, &marks)
 }

@@ -11,13 +11,12 @@ ghost use Rattle.model.specs.Rows.{row_verdict};
 ghost use Rattle.model.specs.Walk.{stored, is};
 ghost use Rattle.model.specs.WellFormed.{Shaped, Linked};
 ghost use Rattle.tables.specs.Tables.{item, point_at, task_of};
-ghost use Rattle.tables.specs.Valid.{Holds, Fits};
 ghost use Rattle.worklist.specs.Worklist.{codes};
-ghost use Rattle.reach.specs.Reach.{HoldsLinked, first_failing, seen, initialised, Tells, verdict_from};
+ghost use Rattle.reach.specs.Reach.{first_failing, seen, initialised, Tells, verdict_from};
 
 use flow::Flow;
 use model::{Limits, Refusal, Row, Verdict};
-use tables::{Header, Span};
+use tables::{FitFunc, HeldTask, LinkedTask, Span};
 use worklist::Visit;
 
 mod calls;
@@ -81,43 +80,42 @@ fn first_unreached(f: usize, s: Span, state: &[Visit]) -> Verdict
 }
 
 // Refusal 13 in function f: the first load whose offset is in its set, so that some walk reaches it with no store of the offset before.
-fn first_unstored(work: &[u32], f: usize, s: Span, sets: &[u64]) -> Verdict
-    requires { (f < most_funcs) × Fits work.now s × (s.size ≤ length sets.now) }
-    ensures { result ≡ row_verdict (first_failing Uninitialised f s (initialised work.now s sets.now)) }
+fn first_unstored(f: usize, func: FitFunc, sets: &[u64]) -> Verdict
+    requires { (f < most_funcs) × (func.span.size ≤ length sets.now) }
+    ensures { result ≡ row_verdict (first_failing Uninitialised f func.entry.span (initialised func.entry.work.now func.entry.span sets.now)) }
 {
-    first_failing(Row::Uninitialised, f, s, |p| {
-        !point::has_load(sets[p], tables::point_at(work, s.base + p))
+    first_failing(Row::Uninitialised, f, func.span, |p| {
+        !point::has_load(sets[p], func.point(p))
     })
 }
 
-fn fill_kills(work: &[u32], s: Span, kills: &mut [u64])
-    requires { Fits work.now s × (s.size ≤ length kills.old) }
-    ensures { (p : ℕ) → p < s.size → Marks (λ j. is j (stored (point_at work.now (s.base + p)))) (item kills.new p) }
+fn fill_kills(func: FitFunc, kills: &mut [u64])
+    requires { func.span.size ≤ length kills.old }
+    ensures { (p : ℕ) → p < func.entry.span.size
+        → Marks (λ j. is j (stored (point_at func.entry.work.now (func.entry.span.base + p)))) (item kills.new p) }
 {
-    for p in 0..s.size {
-        kills[p] = point::kill_of(tables::point_at(work, s.base + p));
+    for p in 0..func.span.size {
+        kills[p] = point::kill_of(func.point(p));
     }
 }
 
 // Runs the kernel over a function. At its entry no offset of the frame is stored; a store kills its own.
-fn solve(work: &[u32], s: Span, scratch: &mut Scratch)
-    requires { Fits work.now s }
-    ensures { Tells work.now s scratch.new.sets (codes scratch.new.state) }
+fn solve(func: FitFunc, scratch: &mut Scratch)
+    ensures { Tells func.entry.work.now func.entry.span scratch.new.sets (codes scratch.new.state) }
 {
-    fill_kills(work, s, &mut scratch.kills);
-    let flow = Flow::new(work, s, &scratch.gens, &scratch.kills);
+    fill_kills(func, &mut scratch.kills);
+    let flow = Flow::new(func.work, func.span, &scratch.gens, &scratch.kills);
     forward::forward(
         flow,
-        bits::low_bits(s.frame),
+        bits::low_bits(func.span.frame),
         &mut scratch.sets,
         &mut scratch.state,
     );
 }
 
 // The functions from the first on, by the kernel, up to the first refusal 11. What is kept is refusal 12, or else the first refusal 13 so far.
-fn solved_rows(work: &[u32], h: Header, first: usize, calls: Verdict) -> Verdict
-    requires { HoldsLinked work.now h }
-    ensures { result ≡ verdict_from (task_of work.now h) first h.funcs calls }
+fn solved_rows(linked: LinkedTask, first: usize, calls: Verdict) -> Verdict
+    ensures { result ≡ verdict_from (task_of linked.entry.task.work.now linked.entry.task.header) first linked.entry.task.header.funcs calls }
 {
     let mut scratch = Scratch {
         gens: [0; Limits::POINTS],
@@ -126,24 +124,25 @@ fn solved_rows(work: &[u32], h: Header, first: usize, calls: Verdict) -> Verdict
         state: [Visit::Unseen; Limits::POINTS],
     };
     let mut kept = calls;
-    for f in first..h.funcs {
-        let s = tables::span_at(work, f);
-        solve(work, s, &mut scratch);
-        first_unreached(f, s, &scratch.state)?;
-        kept = kept.and(first_unstored(work, f, s, &scratch.sets));
+    for f in first..linked.task.header.funcs {
+        let func = linked.func(f);
+        solve(func, &mut scratch);
+        first_unreached(f, func.span, &scratch.state)?;
+        kept = kept.and(first_unstored(f, func, &scratch.sets));
     }
     kept
 }
 
 // 11, 12 and 13, in this order, each by line.
-pub fn walk_rows(work: &[u32], h: Header) -> Verdict
-    requires { Holds work.now h × Shaped (task_of work.now h) × Linked (task_of work.now h) }
-    ensures { result ≡ row_verdict (walk_rows (task_of work.now h)) }
+pub fn walk_rows(task: HeldTask) -> Verdict
+    requires { Shaped (task_of task.work.now task.header) × Linked (task_of task.work.now task.header) }
+    ensures { result ≡ row_verdict (walk_rows (task_of task.entry.work.now task.entry.header)) }
 {
-    let calls = calls::call_rows(work, h);
-    let clean = sweep::clean_funcs(work, h);
-    if clean == h.funcs {
+    let linked = LinkedTask { task };
+    let calls = calls::call_rows(task);
+    let clean = sweep::clean_funcs(linked);
+    if clean == task.header.funcs {
         return calls;
     }
-    solved_rows(work, h, clean, calls)
+    solved_rows(linked, clean, calls)
 }

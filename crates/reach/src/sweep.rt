@@ -9,14 +9,13 @@ ghost use Rattle.model.specs.Limits.{most_stack, most_points};
 ghost use Rattle.model.specs.Task.{offset_fits, point};
 ghost use Rattle.model.specs.Walk.{leads};
 ghost use Rattle.tables.specs.Tables.{item, func_in};
-ghost use Rattle.tables.specs.Valid.{Fits};
-ghost use Rattle.reach.specs.Reach.{HoldsLinked, Clean, CleanBefore};
+ghost use Rattle.reach.specs.Reach.{Clean, CleanBefore};
 ghost use Rattle.reach.specs.Sweep.{Most, UnionAt, Arrived, Passes, Accessed, Stepped};
 
 use super::{Bytes, Sets, point};
 use flow::Next;
 use model::{Limits, Point};
-use tables::{Header, Span};
+use tables::{FitFunc, LinkedTask};
 
 // What a point does with its set: it may be at fault, it leads to the next point with a set, or it leads elsewhere. These are three ways on, and no
 // Option<u64> in a Result is plainer.
@@ -90,16 +89,15 @@ impl Sweep {
     }
 
     // Point p with the set m. One comparison tells a load or a store.
-    fn visit(&mut self, work: &[u32], s: Span, mark: u8, p: usize, m: u64) -> Step
-        requires { Fits work.now s × (p < s.size) }
-        ensures { Stepped mark p (leads (func_in work.now s) p) (point (func_in work.now s) p) m
+    fn visit(&mut self, func: FitFunc, mark: u8, p: usize, m: u64) -> Step
+        requires { p < func.span.size }
+        ensures { Stepped mark p (leads (func_in func.entry.work.now func.entry.span) p) (point (func_in func.entry.work.now func.entry.span) p) m
             self.old.sets self.old.marks self.new.sets self.new.marks result }
     {
-        let i = s.base + p;
-        if tables::access_at(work, i) {
-            return access(tables::point_at(work, i), m);
+        if tables::access_at(func.work, func.span.base + p) {
+            return access(func.point(p), m);
         }
-        self.onward(flow::next_at(work, s, p), mark, p, m)
+        self.onward(flow::next_at(func.work, func.span, p), mark, p, m)
     }
 
     // Point q has the mark, or it is past the end.
@@ -111,17 +109,17 @@ impl Sweep {
     }
 
     // The points of one function, whose mark is above all that stand. The points before p are reached, and so is p, to which the set carried comes.
-    fn points(&mut self, work: &[u32], s: Span, mark: u8) -> bool
-        requires { Fits work.now s × ((q : ℕ) → item self.old.marks q < mark) }
-        ensures { result ≡ true → Clean work.now s × Most mark self.new.marks }
+    fn points(&mut self, func: FitFunc, mark: u8) -> bool
+        requires { (q : ℕ) → item self.old.marks q < mark }
+        ensures { result ≡ true → Clean func.entry.work.now func.entry.span × Most mark self.new.marks }
     {
-        let mut carried = bits::low_bits(s.frame);
-        for p in 0..s.size {
+        let mut carried = bits::low_bits(func.span.frame);
+        for p in 0..func.span.size {
             let m = self.union_at(mark, p, carried);
             self.sets[p] = m;
-            carried = match self.visit(work, s, mark, p, m) {
+            carried = match self.visit(func, mark, p, m) {
                 Step::Falls(next) => next,
-                Step::Leaves if self.marked_or_past(mark, p + 1, s.size) => 0,
+                Step::Leaves if self.marked_or_past(mark, p + 1, func.span.size) => 0,
                 Step::Fails | Step::Leaves => return false,
             };
         }
@@ -144,18 +142,17 @@ fn access(x: Point, m: u64) -> Step
 }
 
 // How many functions, from the first on, pass the sweep. The mark of each is above those of the functions before it, so that no mark has to be cleared.
-pub fn clean_funcs(work: &[u32], h: Header) -> usize
-    requires { HoldsLinked work.now h }
-    ensures { CleanBefore work.now h result }
+pub fn clean_funcs(linked: LinkedTask) -> usize
+    ensures { CleanBefore linked.entry.task.work.now linked.entry.task.header result }
 {
     let mut sweep = Sweep {
         sets: [0; Limits::POINTS],
         marks: [0; Limits::POINTS],
     };
-    for f in 0..h.funcs {
-        if !sweep.points(work, tables::span_at(work, f), (f + 1) as u8) {
+    for f in 0..linked.task.header.funcs {
+        if !sweep.points(linked.func(f), (f + 1) as u8) {
             return f;
         }
     }
-    h.funcs
+    linked.task.header.funcs
 }

@@ -7,7 +7,7 @@ ghost use Rattle.model.specs.Limits.{most_funcs, most_in_all};
 ghost use Rattle.tables.specs.Layout.{tables_length};
 ghost use Rattle.tables.specs.Tables.{point_of, is_access, point_at, put_point, kind_of, first_argument, second_argument, put_func, span_at, opening_line, line_in};
 
-pub use held::{HeldFunc, HeldTask};
+pub use held::{FitFunc, HeldFunc, HeldTask, LinkedTask};
 pub use layout::{Bounds, Columns, Frames, Layout};
 use model::Point;
 

@@ -9,9 +9,9 @@ use Rattle.reach.proofs.fill_kills.Given as goal
 
 abbrev pub invariant-loop-p : goal.invariant-loop-p
 invariant-loop-p l =
-    (l.p ≤ l.s.size)
+    (l.p ≤ l.func.span.size)
     × (length l.kills ≡ length l.initial.kills)
-    × ((q : ℕ) → q < l.p → Marks (λ j. is j (stored (point_at l.work (l.s.base + q)))) (item l.kills q))
+    × ((q : ℕ) → q < l.p → Marks (λ j. is j (stored (point_at l.func.work.now (l.func.span.base + q)))) (item l.kills q))
 
 abbrev pub decreases-loop-p : goal.decreases-loop-p
-decreases-loop-p l = l.s.size - l.p
+decreases-loop-p l = l.func.span.size - l.p

@@ -4,11 +4,11 @@ use mathlib.Core.Path.{◌∙◌}
 use Rattle.reach.proofs.Rows.{from_end, from-clean}
 use Rattle.reach.proofs.walk_rows.Goals as goal
 
-pub returns-then-clean-h : goal.returns-then-clean-h
-returns-then-clean-h c =
-    from_end _ c.clean_funcs-clean.result c.args.h.funcs _ (omega arith)
-    ∙ from-clean c.requires.0 c.clean_funcs-clean.ensures c.call_rows-calls.ensures
+pub returns-then-clean-task : goal.returns-then-clean-task
+returns-then-clean-task c =
+    from_end _ c.clean_funcs-clean.result c.args.task.header.funcs _ (omega arith)
+    ∙ from-clean c.args.task.holds c.clean_funcs-clean.ensures c.call_rows-calls.ensures
 
 pub returns : goal.returns
 returns c =
-    c.solved_rows.ensures ∙ from-clean c.requires.0 c.clean_funcs-clean.ensures c.call_rows-calls.ensures
+    c.solved_rows.ensures ∙ from-clean c.args.task.holds c.clean_funcs-clean.ensures c.call_rows-calls.ensures

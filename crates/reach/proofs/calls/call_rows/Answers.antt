@@ -9,8 +9,8 @@ use Rattle.reach.proofs.calls.call_rows.Goals as goal
 
 pub first_unmarked-requires : goal.first_unmarked-requires
 first_unmarked-requires c =
-    let k = c.requires in
-    (k, λ f h. c.mark_calls.ensures f (omega (arith, k.few)) ∙ sym (called_is k f))
+    let k = c.args.task.holds in
+    (λ f h. c.mark_calls.ensures f (omega (arith, k.few)) ∙ sym (called_is k f))
 
 pub mark_calls-requires : goal.mark_calls-requires
-mark_calls-requires c = (c.requires.room, c.requires.all, all_same false most_funcs)
+mark_calls-requires c = all_same false most_funcs

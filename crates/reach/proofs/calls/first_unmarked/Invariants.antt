@@ -5,4 +5,4 @@ use Rattle.tables.specs.Tables.{task_of}
 use Rattle.reach.proofs.calls.first_unmarked.Given as goal
 
 abbrev pub invariant-loop-f : goal.invariant-loop-f
-invariant-loop-f l = Rest (call_rows (task_of l.work l.fn.h)) (call_row (task_of l.work l.fn.h)) l.f l.f-end
+invariant-loop-f l = Rest (call_rows (task_of l.task.work.now l.task.header)) (call_row (task_of l.task.work.now l.task.header)) l.f l.f-end

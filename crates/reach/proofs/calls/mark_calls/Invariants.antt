@@ -7,4 +7,4 @@ use Rattle.reach.specs.Calls.{calls_at, mark_of}
 use Rattle.reach.proofs.calls.mark_calls.Given as goal
 
 abbrev pub invariant-loop-i : goal.invariant-loop-i
-invariant-loop-i l = (f : ℕ) → f < most_funcs → mark_of l.marks f ≡ any (calls_at l.work f) (up_to l.i)
+invariant-loop-i l = (f : ℕ) → f < most_funcs → mark_of l.marks f ≡ any (calls_at l.task.work.now f) (up_to l.i)

@@ -4,4 +4,4 @@ use Rattle.reach.specs.Sweep.{Most}
 use Rattle.reach.proofs.sweep.clean_funcs.Given as goal
 
 abbrev pub invariant-loop-f : goal.invariant-loop-f
-invariant-loop-f l = Most l.f l.sweep.marks × CleanBefore l.work l.fn.h l.f
+invariant-loop-f l = Most l.f l.sweep.marks × CleanBefore l.linked.task.work.now l.linked.task.header l.f

@@ -19,14 +19,8 @@ loop-p-preserved c =
       | in-Leaves w ↦ turn-leaves l.invariant t i j _ v w.in-Leaves.is w.carried-is (w.marked_or_past.ensures w.if-marked_or_past.true)
     ]
 
-pub low_bits-carried-requires : goal.low_bits-carried-requires
-low_bits-carried-requires c = c.requires.0.frame
-
 pub loop-p-init : goal.loop-p-init
-loop-p-init c = sweeping-none _ _ _ _ _ _ c.requires.1
-
-pub visit-requires : goal.visit-requires
-visit-requires c = (c.requires.0, c.loop-p-test.true)
+loop-p-init c = sweeping-none _ _ _ _ _ _ c.requires
 
 pub returns : goal.returns
-returns c e = swept-clean c.requires.0 c.low_bits-carried.ensures c.loop-p.invariant c.loop-p-test.false
+returns c e = swept-clean c.args.func.fits c.low_bits-carried.ensures c.loop-p.invariant c.loop-p-test.false

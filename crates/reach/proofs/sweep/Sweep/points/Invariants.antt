@@ -5,4 +5,4 @@ use Rattle.reach.proofs.sweep.Sweep.points.Given as goal
 
 abbrev pub invariant-loop-p : goal.invariant-loop-p
 invariant-loop-p l =
-    Sweeping (func_in l.work l.s) l.s.size l.initial.carried l.mark l.p l.carried l.self.sets l.self.marks
+    Sweeping (func_in l.func.work.now l.func.span) l.func.span.size l.initial.carried l.mark l.p l.carried l.self.sets l.self.marks
