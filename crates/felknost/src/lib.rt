@@ -38,6 +38,7 @@ pub extern "C" fn felknost_check(text: &[u8]) -> u32
     }
 }
 
+// C gets numbers: 0 and 0 for acceptance, or the code and the place of a refusal.
 fn code_of(v: Verdict) -> u32
     ensures { result ≡ verdict_code v }
 {

@@ -100,7 +100,7 @@ pub enum Eviction {
     Lazy,
 }
 
-// How a run ends.
+// How a run ends: an enum of its own and no Result, which is a form that document 01 names.
 #[derive(Clone, Copy)]
 pub enum Ending {
     AllDone,

@@ -39,7 +39,7 @@ impl Scratch {
 
 // The gens and kills of the points of a function. A problem without a column is lent an empty one. Inlined for the same reason as solve.
 #[inline(always)]
-fn fill(problem: Problem, func: FitFunc, column: &[u32], gens: &mut [u64], kills: &mut [u64])
+pub fn fill(problem: Problem, func: FitFunc, column: &[u32], gens: &mut [u64], kills: &mut [u64])
     requires { (func.span.size ≤ length gens.old) × (func.span.size ≤ length kills.old) × Blocks func.span.size column.now }
     ensures { Filled (Gives problem func.entry.work.now func.entry.span column.now) func.entry.span.size gens.old gens.new
         × Filled (Takes problem func.entry.work.now func.entry.span column.now) func.entry.span.size kills.old kills.new }

@@ -22,6 +22,7 @@ struct Position {
     byte: usize,
 }
 
+// A row is met at this place. In `model`, which has the type, nothing runs.
 fn refusal(row: Row, place: u32) -> Refusal
     ensures { result ≡ refuse row place }
 {

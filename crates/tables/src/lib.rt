@@ -30,7 +30,7 @@ pub struct Span {
     pub size: usize,
 }
 
-// The point that a kind and two arguments stand for.
+// The point that a kind and two arguments stand for. The working space that C lends is numbers, so a kind is one there.
 fn point_of(kind: u32, first: u32, second: u32) -> Point
     ensures { result ≡ point_of kind first second }
 {
