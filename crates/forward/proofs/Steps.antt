@@ -5,6 +5,7 @@ use native.Mathlib.Decide.{ℕ_discrete}
 use mathlib.Core.Path.{◌≡◌, refl, ap, sym, ◌∙◌}
 use mathlib.Core.List.{List, Memᴰ}
 use lib.ListN.{length-set}
+use Rattle.std.specs.Prelude.{Option, Some, None}
 use Rattle.bits.specs.Bits.{set_bits, union, transfer}
 use Rattle.bits.proofs.Laws.{union-ge}
 use Rattle.model.specs.Walk.{leads}
@@ -17,10 +18,10 @@ use Rattle.flow.specs.Flow.{LeadsWithin, Given, targets}
 use Rattle.flow.proofs.Laws.{next_one, next_both}
 use Rattle.flow.specs.declared.Next.{Next}
 use Rattle.flow.specs.declared.Next.TheVariants.{Nowhere, To, Fork}
-use Rattle.worklist.specs.Worklist.{unseen, seen, waiting, tally, Worklist, taken, Absent, Ends}
+use Rattle.worklist.specs.Worklist.{unseen, seen, waiting, tally, Worklist, taken, Absent, Sound, Ends, Took}
 use Rattle.worklist.proofs.Laws.{tally-yes, tally-no, pending-added, last_within, last-waits, pending-taken}
 use Rattle.forward.specs.Visits.{Progress, with_set, added_with, last_of, last_taken}
-use Rattle.forward.specs.Visits.{Merged, Propagated, Visited, Visits, Listed, Mergeable, MergeableAll}
+use Rattle.forward.specs.Visits.{Merged, Propagated, Visited, Visits, Onward, Listed, Mergeable, MergeableAll}
 
 -- a point that does not wait is put at the end of the worklist
 pub listed-added : {n q : ℕ} {x : Progress} (m : ℕ) → Listed n x → q < n → (item x.list.state q ≡ waiting → ⊥) → Listed n (added_with q m x)
@@ -226,6 +227,24 @@ module _ {next : Next} {m : ℕ} {x : Progress} where
   pub propagated-two : {q p : ℕ} {y z : Progress} → next ≡ Fork q p → Merged p m x y → Merged q m y z → Propagated m (targets next) x z
   propagated-two e a b = rw e (Propagated.two a b)
 
+-- after a step from x to y the last point of the worklist is taken
+pub listed-sound : {n : ℕ} {x : Progress} → Listed n x → Sound x.list
+listed-sound {n} l = record { n = n; pending = l.pending }
+
+-- one more is left where a point was taken, which is still to visit
+unfoldable pub in-hand : Option ℕ → ℕ
+in-hand None = 0
+in-hand (Some p) = 1
+
+cost-took : {n : ℕ} {s : List ℕ} (y z : Worklist) (p : Option ℕ) → Listed n (record { sets = s; list = y }) → Took y z p
+    → cost n (record { sets = s; list = z }) + in-hand p ≤ cost n (record { sets = s; list = y })
+unfolding in-hand
+cost-took y z None l (e, k) = rw k (omega arith)
+cost-took y z (Some p) l (e, k, d) = rw k (omega (arith, cost-taken l e.some))
+
+pub onward-by : {S T : Progress → Type 0} {x : Progress} {p : Option ℕ} → ((y : Progress) → S y → T y) → Onward S x p → Onward T x p
+onward-by f a = record { list = a.list; step = f _ a.step; took = a.took }
+
 -- the visit of p, the last point of the worklist; y is the worklist once it is taken
 module _ {x : Progress} {p : ℕ} {y : Worklist} (e : Ends p x.list) (k : y ≡ taken x.list) where
   pub ready-visit : {w : List ℕ} {s : Span} {gens kills l : List ℕ} → Given w s gens kills → Listed s.size x
@@ -235,6 +254,14 @@ module _ {x : Progress} {p : ℕ} {y : Worklist} (e : Ends p x.list) (k : y ≡ 
     inside = λ q m. g.fits.inside p q (rw e.ends (last_within l.pending e.some)) (rw d at m);
     list = rw k (preserved-taken l e.some).list;
   }
+
+  pub visit-costs : {w : List ℕ} {s : Span} {gens kills l : List ℕ} {m : ℕ} {z : Progress} {o : Option ℕ} → Given w s gens kills → Listed s.size x
+      → l ≡ leads (func_in w s) p → Onward (Propagated m l (record { sets = x.sets; list = y })) z o
+      → cost s.size z + in-hand o ≤ cost s.size (record { sets = x.sets; list = y })
+  visit-costs {s = s} {z = z} {o = o} g l d a =
+      let b = preserved-propagated (rw k (preserved-taken l e.some).list)
+      (λ q m. g.fits.inside p q (rw e.ends (last_within l.pending e.some)) (rw d at m)) a.step in
+      omega (arith, b.costs, cost-took a.list z.list o b.list a.took)
 
   pub visited : {next : ℕ → List ℕ} {gens kills l : List ℕ} {m : ℕ} {z : Progress}
       → m ≡ transfer (item x.sets p) (item kills p) (item gens p) → l ≡ next p

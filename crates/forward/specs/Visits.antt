@@ -1,10 +1,10 @@
 -- The worklist algorithm, step by step: what each function of the crate does to the sets and the worklist.
-use Rattle.std.specs.Prelude.{ℕ, ◌^◌, ◌≤◌, ◌<◌, ◌≡◌, length, set}
+use Rattle.std.specs.Prelude.{ℕ, ◌^◌, ◌≤◌, ◌<◌, ◌≡◌, length, set, Option}
 use mathlib.Core.List.{List, [], ◌∷◌, Memᴰ}
 use Rattle.bits.specs.Bits.{set_bits, union, transfer}
 use Rattle.tables.specs.Tables.{item}
 use Rattle.worklist.specs.declared.Visit.{Visit}
-use Rattle.worklist.specs.Worklist.{unseen, waiting, Worklist, worklist_of, added, last, taken, Pending}
+use Rattle.worklist.specs.Worklist.{unseen, waiting, Worklist, worklist_of, added, last, taken, Pending, Took}
 
 -- how far the visits have come: the set of each point, and the worklist with the states
 pub record Progress : Type 0 where
@@ -56,6 +56,12 @@ pub record Visited (next : ℕ → List ℕ) (gens kills : List ℕ) (x y : Prog
 pub data Visits (next : ℕ → List ℕ) (gens kills : List ℕ) (x : Progress) : Progress → Type 0 where
   none : Visits next gens kills x x
   more : {y z : Progress} → Visits next gens kills x y → 0 < y.list.count → Visited next gens kills y z → Visits next gens kills x z
+
+-- a step has led to sets and a worklist, and then the last point of the worklist is taken, where it has one
+pub record Onward (Step : Progress → Type 0) (x : Progress) (p : Option ℕ) : Type 0 where
+  pub list : Worklist
+  pub step : Step (record { sets = x.sets; list = list })
+  pub took : Took list x.list p
 
 -- of a function of n points: there is a set for each, and the worklist holds those that wait, never more than most_points and none twice
 pub record Listed (n : ℕ) (x : Progress) : Type 0 where

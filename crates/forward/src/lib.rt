@@ -1,14 +1,14 @@
 // The forward gen/kill data-flow kernel over the points of one function, with a worklist of the points still to visit.
 #![tactic(auto)]
 
-ghost use Rattle.std.specs.Prelude.{◌≡◌, ◌≤◌, length};
+ghost use Rattle.std.specs.Prelude.{◌≡◌, ◌≤◌, length, true};
 ghost use Rattle.model.specs.Walk.{leads};
 ghost use Rattle.tables.specs.Tables.{func_in};
 ghost use Rattle.tables.specs.Valid.{Kept};
 ghost use Rattle.flow.specs.Flow.{targets};
-ghost use Rattle.worklist.specs.Worklist.{codes};
+ghost use Rattle.worklist.specs.Worklist.{worklist_of, codes, Ends};
 ghost use Rattle.forward.specs.Forward.{Solved};
-ghost use Rattle.forward.specs.Visits.{progress_of, Merged, Propagated, Visits, Listed, Mergeable, MergeableAll};
+ghost use Rattle.forward.specs.Visits.{progress_of, Merged, Propagated, Visits, Onward, Listed, Mergeable, MergeableAll};
 
 use flow::{Flow, Next};
 use model::Limits;
@@ -17,36 +17,66 @@ use worklist::{Visit, Worklist};
 // The worklist has room for each point that a function may have.
 type Points = Worklist<{ Limits::POINTS }>;
 
-// The set m is merged into that of point q, which goes into the worklist if it is seen for the first time or its set has grown.
-fn merge(sets: &mut [u64], state: &mut [Visit], list: &mut Points, q: usize, m: u64)
+// The set m is merged into that of point q, which goes into the worklist if it is seen for the first time or its set has grown: true says so.
+fn merge(sets: &mut [u64], state: &mut [Visit], list: &mut Points, q: usize, m: u64) -> bool
     requires { Mergeable q (progress_of sets.old state.old list.old.points list.old.count) }
     ensures { Merged q m (progress_of sets.old state.old list.old.points list.old.count)
-        (progress_of sets.new state.new list.new.points list.new.count) }
+        (progress_of sets.new state.new list.new.points list.new.count)
+        × (result ≡ true → Ends q (worklist_of state.new list.new.points list.new.count)) }
 {
     let old = sets[q];
     let new = bits::union_of(old, m);
     match state[q] {
-        Visit::Waiting => sets[q] = new,
-        Visit::Seen if new == old => {}
+        Visit::Waiting => {
+            sets[q] = new;
+            false
+        }
+        Visit::Seen if new == old => false,
         _ => {
             sets[q] = new;
             list.put(state, q);
+            true
         }
     }
 }
 
-// The set m is merged into that of each point that is next, the first of two last, so that it is visited first.
-fn propagate(next: Next, m: u64, sets: &mut [u64], state: &mut [Visit], list: &mut Points)
+// The same, and the last point of the worklist is taken, to be visited next: q, if it was put there.
+fn follow(
+    sets: &mut [u64],
+    state: &mut [Visit],
+    list: &mut Points,
+    q: usize,
+    m: u64,
+) -> Option<usize>
+    requires { Mergeable q (progress_of sets.old state.old list.old.points list.old.count) }
+    ensures { Onward (Merged q m (progress_of sets.old state.old list.old.points list.old.count))
+        (progress_of sets.new state.new list.new.points list.new.count) result }
+{
+    if merge(sets, state, list, q, m) {
+        list.take_last(state, q);
+        return Some(q);
+    }
+    list.take(state)
+}
+
+// The set m is merged into that of each point that is next, the first of two last, so that it is visited first. The result is the point to visit.
+fn propagate(
+    next: Next,
+    m: u64,
+    sets: &mut [u64],
+    state: &mut [Visit],
+    list: &mut Points,
+) -> Option<usize>
     requires { MergeableAll (targets next) (progress_of sets.old state.old list.old.points list.old.count) }
-    ensures { Propagated m (targets next) (progress_of sets.old state.old list.old.points list.old.count)
-        (progress_of sets.new state.new list.new.points list.new.count) }
+    ensures { Onward (Propagated m (targets next) (progress_of sets.old state.old list.old.points list.old.count))
+        (progress_of sets.new state.new list.new.points list.new.count) result }
 {
     match next {
-        Next::Nowhere => {}
-        Next::To(q) => merge(sets, state, list, q, m),
+        Next::Nowhere => list.take(state),
+        Next::To(q) => follow(sets, state, list, q, m),
         Next::Fork(q, r) => {
             merge(sets, state, list, r, m);
-            merge(sets, state, list, q, m);
+            follow(sets, state, list, q, m)
         }
     }
 }
@@ -59,9 +89,10 @@ fn drain(flow: Flow, sets: &mut [u64], state: &mut [Visit], list: &mut Points)
         (progress_of sets.new state.new list.new.points list.new.count)
         × (list.new.count ≡ 0) }
 {
-    while let Some(p) = list.take(state) {
+    let mut last = list.take(state);
+    while let Some(p) = last {
         let m = flow.transfer(p, sets[p]);
-        propagate(flow.next(p), m, sets, state, list);
+        last = propagate(flow.next(p), m, sets, state, list);
     }
 }
 

@@ -8,7 +8,6 @@ use borrow.Author.Tests.{eq-eqb, ne_eqb}
 use denote.Enum.Bare.{sameb}
 use lib.Dec.{eqb}
 use lib.ListN.{length, get_or, set, length-set, get_or-map}
-use Rattle.std.specs.Prelude.{Some}
 use Rattle.std.proofs.lemmas.List.{map-set, length-map}
 use Rattle.model.specs.Limits.{most_points}
 use Rattle.tables.specs.Tables.{item, sum}
@@ -16,7 +15,7 @@ use Rattle.tables.proofs.Laws.{sum-but, here, elsewhere, set-each}
 use Rattle.worklist.specs.contracts.Visit.{the_type}
 use Rattle.worklist.specs.declared.Visit.{Visit}
 use Rattle.worklist.specs.declared.Visit.TheVariants.{Unseen, Seen, Waiting}
-use Rattle.worklist.specs.Worklist.{unseen, seen, waiting, code, codes, Worklist, worklist_of, Took, added, last, taken, Distinct, tally, Pending, Sound, Absent, Ends}
+use Rattle.worklist.specs.Worklist.{unseen, seen, waiting, code, codes, Worklist, worklist_of, added, last, taken, Distinct, tally, Pending, Sound, Absent, Ends}
 
 -- ---- sums
 
@@ -178,10 +177,21 @@ absent-room {q} a =
 pub absent-added : {q : ℕ} {x : Worklist} → Absent q x → Distinct (added q x)
 absent-added {q} a = distinct-added q a.pending a.below a.absent
 
+-- and then it is the last
+pub added-ends : {q : ℕ} {x : Worklist} → Absent q x → Ends q (added q x)
+added-ends {q} {x} a =
+    let e : x.count + 1 - 1 ≡ x.count = omega arith in
+    record {
+      n = a.n;
+      pending = pending-added q a.pending a.below a.absent;
+      some = omega arith;
+      ends = sym (ap (item (set x.points x.count q)) e ∙ new q a.pending a.below a.absent);
+    }
+
 -- ---- what take leaves
 
 -- the last point
-sound-ends : {x : Worklist} (r : Sound x) → 0 < x.count → Ends (last x) x
+pub sound-ends : {x : Worklist} (r : Sound x) → 0 < x.count → Ends (last x) x
 sound-ends r h = record { n = r.n; pending = r.pending; some = h; ends = refl }
 
 -- ---- tables of states
@@ -196,10 +206,9 @@ state_set t q v = map-set code t q v
 pub put_added : (t : List Visit) (l : List ℕ) (c q : ℕ) → worklist_of (set t q Waiting) (set l c q) (c + 1) ≡ added q (worklist_of t l c)
 put_added t l c q = rw (state_set t q Waiting)
 
-pub took-last : (t : List Visit) (l : List ℕ) (c : ℕ) → Sound (worklist_of t l c) → 0 < c
-    → Took (worklist_of t l c) (worklist_of (set t (item l (c - 1)) Seen) l (c - 1)) (Some (item l (c - 1)))
-took-last t l c r h =
-    rw (state_set t (item l (c - 1)) Seen) (sound-ends r h, refl, (pending-taken r.pending h).distinct)
+pub took-last : (t : List Visit) (l : List ℕ) (c p : ℕ) → Ends p (worklist_of t l c)
+    → (worklist_of (set t p Seen) l (c - 1) ≡ taken (worklist_of t l c)) × Distinct (worklist_of (set t p Seen) l (c - 1))
+took-last t l c p r = rw (state_set t p Seen, r.ends) (refl, (pending-taken r.pending r.some).distinct)
 
 pub length-codes : (t : List Visit) → length (codes t) ≡ length t
 length-codes t = length-map t code

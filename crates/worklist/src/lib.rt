@@ -2,7 +2,7 @@
 #![tactic(auto)]
 
 ghost use Rattle.std.specs.Prelude.{◌≡◌, length};
-ghost use Rattle.worklist.specs.Worklist.{worklist_of, added, Distinct, Sound, Absent, Took};
+ghost use Rattle.worklist.specs.Worklist.{worklist_of, added, taken, Distinct, Sound, Absent, Ends, Took};
 
 // The state of a point: no walk has come to it; one has; one has, and the point is in the worklist.
 #[derive(Clone, Copy, PartialEq, Eq)]
@@ -40,7 +40,17 @@ impl<const N: usize> Worklist<N> {
         self.count += 1;
     }
 
-    // Its last point, which is taken, and waits no longer.
+    // Its last point, which the caller knows to be q, is taken, and waits no longer: no load has to wait for what was just put.
+    pub fn take_last(&mut self, state: &mut [Visit], q: usize)
+        requires { Ends q (worklist_of state.old self.old.points self.old.count) }
+        ensures { (worklist_of state.new self.new.points self.new.count ≡ taken (worklist_of state.old self.old.points self.old.count))
+            × Distinct (worklist_of state.new self.new.points self.new.count) }
+    {
+        self.count -= 1;
+        state[q] = Visit::Seen;
+    }
+
+    // Its last point, which is taken, where it has one.
     pub fn take(&mut self, state: &mut [Visit]) -> Option<usize>
         requires { Sound (worklist_of state.old self.old.points self.old.count) }
         ensures { Took (worklist_of state.old self.old.points self.old.count) (worklist_of state.new self.new.points self.new.count) result }

@@ -3,34 +3,38 @@ use native.Mathlib.Omega.{arith}
 use mathlib.Core.Path.{ap, ◌∙◌}
 use Rattle.worklist.specs.Worklist.{Worklist}
 use Rattle.forward.specs.Visits.{Visits}
-use Rattle.forward.proofs.Steps.{preserved-none, preserved-on, preserved-visited, ready-visit, visited, progress-same}
+use Rattle.forward.proofs.Steps.{preserved-none, preserved-on, preserved-visited, ready-visit, visited, visit-costs, listed-sound, onward-by, in-hand, progress-same}
 use Rattle.forward.proofs.drain.Goals as goal
 
-pub loop-p-init : goal.loop-p-init
-loop-p-init c = (Visits.none, search preserved-none)
+pub take-last-requires : goal.take-last-requires
+take-last-requires c = (omega arith, listed-sound c.requires)
 
-pub take-requires : goal.take-requires
-take-requires c = (omega arith, record { n = c.args.flow.span.size; pending = c.loop-p.invariant.1.list.pending })
+pub loop-last-init : goal.loop-last-init
+loop-last-init c = record { list = _; step = (Visits.none, preserved-none c.requires); took = c.take-last.ensures }
 
-pub propagate-requires : goal.propagate-requires
-propagate-requires c =
-    let e = c.in-Some.ensures in
-    ready-visit e.0 e.1 c.args.flow.given c.loop-p.invariant.1.list c.next.ensures
+pub propagate-last-requires : goal.propagate-last-requires
+propagate-last-requires c =
+    let e = rw c.in-Some.is at c.loop-last.invariant.took in
+    ready-visit e.0 e.1 c.args.flow.given c.loop-last.invariant.step.1.list c.next.ensures
 
-pub loop-p-smaller : goal.loop-p-smaller
-loop-p-smaller c =
-    let e = c.in-Some.ensures in
-    let v = visited e.0 e.1 c.transfer-m.ensures c.next.ensures c.propagate.ensures in
-    (preserved-visited c.args.flow.given.fits.inside c.loop-p.invariant.1.list e.0.some v).1
+pub loop-last-smaller : goal.loop-last-smaller
+unfolding in-hand
+loop-last-smaller c =
+    let e = rw c.in-Some.is at c.loop-last.invariant.took in
+    let v = visit-costs e.0 e.1 c.args.flow.given c.loop-last.invariant.step.1.list c.next.ensures c.propagate-last.ensures in
+    rw c.in-Some.is (omega (arith, v))
 
-pub loop-p-preserved : goal.loop-p-preserved
-loop-p-preserved c =
-    let e = c.in-Some.ensures in
-    let i = c.loop-p.invariant in
-    let v = visited e.0 e.1 c.transfer-m.ensures c.next.ensures c.propagate.ensures in
-    (Visits.more i.0 e.0.some v, preserved-on i.1 (preserved-visited c.args.flow.given.fits.inside i.1.list e.0.some v).0)
+pub loop-last-preserved : goal.loop-last-preserved
+loop-last-preserved c =
+    let e = rw c.in-Some.is at c.loop-last.invariant.took in
+    let i = c.loop-last.invariant.step in
+    onward-by
+    (λ y a.
+    let v = visited e.0 e.1 c.transfer-m.ensures c.next.ensures a in
+    (Visits.more i.0 e.0.some v, preserved-on i.1 (preserved-visited c.args.flow.given.fits.inside i.1.list e.0.some v).0))
+    c.propagate-last.ensures
 
 pub returns : goal.returns
 returns c =
-    let e = c.in_default.ensures in
-    (rw (progress-same e.1) c.loop-p.invariant.0, ap (λ (x : Worklist). x.count) e.1 ∙ e.0)
+    let e = rw c.in_default.is at c.loop-last.invariant.took in
+    (rw (progress-same e.1) c.loop-last.invariant.step.0, ap (λ (x : Worklist). x.count) e.1 ∙ e.0)

@@ -1,21 +1,25 @@
 -- Each arm merges the set into those of the points that it names.
-use Rattle.forward.proofs.Steps.{ready-one, ready-first, ready-second, propagated-none, propagated-one, propagated-two}
+use native.Mathlib.Omega.{arith}
+use Rattle.forward.proofs.Steps.{ready-one, ready-first, ready-second, propagated-none, propagated-one, propagated-two, listed-sound, onward-by}
 use Rattle.forward.proofs.propagate.Goals as goal
 
+pub take-requires : goal.take-requires
+take-requires c = (omega arith, listed-sound c.requires.list)
+
+pub follow-requires : goal.follow-requires
+follow-requires c = ready-one c.requires c.in-To.is
+
 pub merge-requires : goal.merge-requires
-merge-requires c = ready-one c.requires c.in-To.is
+merge-requires c = ready-first c.requires c.in-Fork.is
 
-pub merge-requires-in-Fork : goal.merge-requires-in-Fork
-merge-requires-in-Fork c = ready-first c.requires c.in-Fork.is
-
-pub merge-requires-in-Fork-2 : goal.merge-requires-in-Fork-2
-merge-requires-in-Fork-2 c = ready-second c.requires c.in-Fork.is c.merge-in-Fork.ensures
+pub follow-requires-in-Fork : goal.follow-requires-in-Fork
+follow-requires-in-Fork c = ready-second c.requires c.in-Fork.is c.merge.ensures.0
 
 pub returns-in-Nowhere : goal.returns-in-Nowhere
-returns-in-Nowhere c = propagated-none c.in-Nowhere.is
+returns-in-Nowhere c = record { list = _; step = propagated-none c.in-Nowhere.is; took = c.take.ensures }
 
 pub returns-in-To : goal.returns-in-To
-returns-in-To c = propagated-one c.in-To.is c.merge.ensures
+returns-in-To c = onward-by (λ y a. propagated-one c.in-To.is a) c.follow.ensures
 
 pub returns-in-Fork : goal.returns-in-Fork
-returns-in-Fork c = propagated-two c.in-Fork.is c.merge-in-Fork.ensures c.merge-in-Fork-2.ensures
+returns-in-Fork c = onward-by (λ y a. propagated-two c.in-Fork.is c.merge.ensures.0 a) c.follow-in-Fork.ensures

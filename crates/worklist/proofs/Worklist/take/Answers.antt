@@ -1,7 +1,10 @@
 -- The last point waits no longer.
 use native.Mathlib.Omega.{arith}
-use Rattle.worklist.proofs.Laws.{took-last}
+use Rattle.worklist.proofs.Laws.{sound-ends, took-last}
 use Rattle.worklist.proofs.Worklist.take.Goals as goal
 
 pub returns : goal.returns
-returns g c = took-last _ _ _ c.requires (omega arith)
+returns g c =
+    let e = sound-ends c.requires (omega arith) in
+    let t = took-last _ _ _ _ e in
+    (e, t.0, t.1)
