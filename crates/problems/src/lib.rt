@@ -1,8 +1,9 @@
 // The figures within a function of the task in the tables, each read off the sets that a kernel finds for one gen/kill problem.
 #![tactic(auto)]
 
-ghost use Rattle.std.specs.Prelude.{◌≡◌, ℕ, ◌≤◌, length};
-ghost use Rattle.model.specs.Limits.{most_stack};
+ghost use Rattle.std.specs.Prelude.{◌≡◌, ℕ, ◌≤◌, length, replicate};
+ghost use Rattle.model.specs.Limits.{most_stack, most_points};
+ghost use Rattle.worklist.specs.declared.Visit.TheVariants.{Unseen};
 ghost use Rattle.model.specs.Task.{Task};
 ghost use Rattle.model.specs.Figures as figure;
 ghost use Rattle.tables.specs.Tables.{item, func_in};
@@ -27,7 +28,13 @@ pub struct Scratch {
 }
 
 impl Scratch {
-    pub fn new() -> Scratch {
+    // Nothing is given, taken or seen yet.
+    pub fn new() -> Scratch
+        ensures gens { result.gens ≡ replicate most_points 0 }
+        ensures kills { result.kills ≡ replicate most_points 0 }
+        ensures sets { result.sets ≡ replicate most_points 0 }
+        ensures state { result.state ≡ replicate most_points Unseen }
+    {
         Scratch {
             gens: [0; Limits::POINTS],
             kills: [0; Limits::POINTS],

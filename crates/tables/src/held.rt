@@ -84,7 +84,8 @@ impl FitFunc<'_> {
         ensures there { result ≡ point_at self.entry.work.now (self.entry.span.base + p) }
         ensures offset { T (offset_fits most_stack result) }
     {
-        point_at(self.work, self.span.base + p)
+        let i = self.span.base + p;
+        point_at(self.work, i)
     }
 }
 
