@@ -227,11 +227,11 @@ module _ {next : Next} {m : ℕ} {x : Progress} where
   pub propagated-two : {q p : ℕ} {y z : Progress} → next ≡ Fork q p → Merged p m x y → Merged q m y z → Propagated m (targets next) x z
   propagated-two e a b = rw e (Propagated.two a b)
 
--- after a step from x to y the last point of the worklist is taken
+-- what take requires
 pub listed-sound : {n : ℕ} {x : Progress} → Listed n x → Sound x.list
 listed-sound {n} l = record { n = n; pending = l.pending }
 
--- one more is left where a point was taken, which is still to visit
+-- 1 where a point was taken and is still to visit
 unfoldable pub in-hand : Option ℕ → ℕ
 in-hand None = 0
 in-hand (Some p) = 1
@@ -242,6 +242,7 @@ unfolding in-hand
 cost-took y z None l (e, k) = rw k (omega arith)
 cost-took y z (Some p) l (e, k, d) = rw k (omega (arith, cost-taken l e.some))
 
+-- a step that is also another
 pub onward-by : {S T : Progress → Type 0} {x : Progress} {p : Option ℕ} → ((y : Progress) → S y → T y) → Onward S x p → Onward T x p
 onward-by f a = record { list = a.list; step = f _ a.step; took = a.took }
 

@@ -17,7 +17,8 @@ use worklist::{Visit, Worklist};
 // The worklist has room for each point that a function may have.
 type Points = Worklist<{ Limits::POINTS }>;
 
-// The set m is merged into that of point q, which goes into the worklist if it is seen for the first time or its set has grown: true says so.
+// The set m is merged into that of point q, which goes into the worklist if it is seen for the first time or its set has grown. The result says
+// whether it was put there.
 fn merge(sets: &mut [u64], state: &mut [Visit], list: &mut Points, q: usize, m: u64) -> bool
     requires { Mergeable q (progress_of sets.old state.old list.old.points list.old.count) }
     ensures { Merged q m (progress_of sets.old state.old list.old.points list.old.count)
@@ -40,7 +41,7 @@ fn merge(sets: &mut [u64], state: &mut [Visit], list: &mut Points, q: usize, m: 
     }
 }
 
-// The same, and the last point of the worklist is taken, to be visited next: q, if it was put there.
+// The same, and the last point of the worklist is taken. Where it is q, that comes from a register: a load would wait for the store in put.
 fn follow(
     sets: &mut [u64],
     state: &mut [Visit],
@@ -59,7 +60,8 @@ fn follow(
     list.take(state)
 }
 
-// The set m is merged into that of each point that is next, the first of two last, so that it is visited first. The result is the point to visit.
+// The set m is merged into that of each point that is next, the first of two last, so that it is visited first. Then the last point of the worklist
+// is taken.
 fn propagate(
     next: Next,
     m: u64,
@@ -81,7 +83,7 @@ fn propagate(
     }
 }
 
-// Points are visited until the worklist is empty: the last one is taken, and what leaves it is merged into the points that are next.
+// Points are visited until the worklist is empty: what leaves the one that was taken last is merged into the points that are next.
 fn drain(flow: Flow, sets: &mut [u64], state: &mut [Visit], list: &mut Points)
     requires { Listed flow.span.size (progress_of sets.old state.old list.old.points list.old.count) }
     ensures { Visits (leads (func_in flow.entry.work.now flow.entry.span)) flow.entry.gens.now flow.entry.kills.now

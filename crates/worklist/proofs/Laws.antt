@@ -196,8 +196,11 @@ sound-ends r h = record { n = r.n; pending = r.pending; some = h; ends = refl }
 
 -- ---- tables of states
 
+pub code_at : (t : List Visit) (q : ℕ) → item (codes t) q ≡ code (get_or t q Unseen)
+code_at t q = get_or-map code t q Unseen
+
 pub in_state : (t : List Visit) (q : ℕ) {v : Visit} → get_or t q Unseen ≡ v → item (codes t) q ≡ code v
-in_state t q e = get_or-map code t q Unseen ∙ ap code e
+in_state t q e = code_at t q ∙ ap code e
 
 state_set : (t : List Visit) (q : ℕ) (v : Visit) → codes (set t q v) ≡ set (codes t) q (code v)
 state_set t q v = map-set code t q v

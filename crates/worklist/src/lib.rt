@@ -40,7 +40,7 @@ impl<const N: usize> Worklist<N> {
         self.count += 1;
     }
 
-    // Its last point, which the caller knows to be q, is taken, and waits no longer: no load has to wait for what was just put.
+    // Its last point, which the caller knows to be q, is taken with no load, and waits no longer.
     pub fn take_last(&mut self, state: &mut [Visit], q: usize)
         requires { Ends q (worklist_of state.old self.old.points self.old.count) }
         ensures { (worklist_of state.new self.new.points self.new.count ≡ taken (worklist_of state.old self.old.points self.old.count))
@@ -50,7 +50,7 @@ impl<const N: usize> Worklist<N> {
         state[q] = Visit::Seen;
     }
 
-    // Its last point, which is taken, where it has one.
+    // Its last point, which is taken, and waits no longer.
     pub fn take(&mut self, state: &mut [Visit]) -> Option<usize>
         requires { Sound (worklist_of state.old self.old.points self.old.count) }
         ensures { Took (worklist_of state.old self.old.points self.old.count) (worklist_of state.new self.new.points self.new.count) result }
