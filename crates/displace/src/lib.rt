@@ -91,7 +91,13 @@ fn shortest_of(
     };
     let points = FuncColumns { work, span: s };
     columns::each_point(s, levels, |p| points.level(p));
-    let level = problems::lowest_level(FitFunc { work, span: s }, levels, scratch);
+    let level = problems::lowest_level(
+        FitFunc { work, span: s },
+        levels,
+        &mut scratch.gens,
+        &mut scratch.kills,
+        &mut scratch.sets,
+    );
     s.frame + called_least(work, f + 1, h.funcs, level, b.least)
 }
 

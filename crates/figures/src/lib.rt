@@ -47,7 +47,9 @@ fn write_next(work: &mut [u32], h: Header, f: usize, buffers: &mut Buffers)
     problems::next_points(
         func,
         &buffers.values,
-        &mut buffers.scratch,
+        &mut buffers.scratch.gens,
+        &mut buffers.scratch.kills,
+        &mut buffers.scratch.sets,
         &mut buffers.out,
     );
     columns::put_points(work, Columns::NEXT, s, &buffers.out);
@@ -60,7 +62,13 @@ fn write_need(work: &mut [u32], h: Header, f: usize, buffers: &mut Buffers)
 {
     let s = tables::span_at(work, f);
     let func = FitFunc { work, span: s };
-    problems::need_points(func, &mut buffers.scratch, &mut buffers.out);
+    problems::need_points(
+        func,
+        &mut buffers.scratch.gens,
+        &mut buffers.scratch.kills,
+        &mut buffers.scratch.sets,
+        &mut buffers.out,
+    );
     columns::put_points(work, Columns::NEED, s, &buffers.out);
 }
 
@@ -71,7 +79,13 @@ fn write_dead(work: &mut [u32], h: Header, f: usize, buffers: &mut Buffers)
 {
     let s = tables::span_at(work, f);
     let func = FitFunc { work, span: s };
-    problems::dead_points(func, &mut buffers.scratch, &mut buffers.out);
+    problems::dead_points(
+        func,
+        &mut buffers.scratch.gens,
+        &mut buffers.scratch.kills,
+        &mut buffers.scratch.sets,
+        &mut buffers.out,
+    );
     columns::put_points(work, Columns::DEAD, s, &buffers.out);
 }
 
@@ -89,7 +103,10 @@ fn write_high(work: &mut [u32], h: Header, f: usize, buffers: &mut Buffers)
         func,
         start,
         &buffers.values,
-        &mut buffers.scratch,
+        &mut buffers.scratch.gens,
+        &mut buffers.scratch.kills,
+        &mut buffers.scratch.sets,
+        &mut buffers.scratch.state,
         &mut buffers.out,
     );
     columns::put_points(work, Columns::HIGH, s, &buffers.out);

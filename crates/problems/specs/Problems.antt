@@ -1,5 +1,5 @@
 -- What the functions of this crate are given and do.
-use Rattle.std.specs.Prelude.{ℕ, ◌+◌, ◌-◌, ◌≤◌, ◌<◌, min, Bool, ◌&&◌, List, ◌↔◌, ◌≡◌, T, ltb}
+use Rattle.std.specs.Prelude.{ℕ, ◌+◌, ◌-◌, ◌≤◌, ◌<◌, min, Bool, ◌&&◌, List, ◌↔◌, ◌≡◌, T, ltb, length}
 use Rattle.std.proofs.Math.Option.{some}
 use Rattle.model.specs.Basic.{lowest}
 use Rattle.model.specs.Limits.{most_stack}
@@ -9,11 +9,9 @@ use Rattle.model.specs.Figures as figure
 use Rattle.bits.specs.Bits.{set_bits, bit, Marks}
 use Rattle.tables.specs.declared.Span.{Span}
 use Rattle.tables.specs.Tables.{item, point_at, func_in}
-use Rattle.worklist.specs.Worklist.{codes}
 use Rattle.tables.specs.Valid.{Kept}
 use Rattle.effects.specs.declared.Problem.{Problem}
 use Rattle.effects.specs.Effects.{gives, takes}
-use Rattle.problems.specs.declared.Scratch.{Scratch}
 
 -- the first n entries of l' are of the kind P, each by its place, and the others are those of l
 pub record Filled (P : ℕ → ℕ → Type 0) (n : ℕ) (l l' : List ℕ) : Type 0 where
@@ -48,12 +46,17 @@ calls_over x column v p = is_call x p && ltb v (item column p)
 unfoldable pub lowest_level : Func → List ℕ → ℕ
 lowest_level x column = lowest (λ v. some_walk x (calls_over x column v) (returns x) 0) set_bits
 
--- of the scratch that a figure is lent, only the first n entries have changed
-pub record Used (n : ℕ) (x x' : Scratch) : Type 0 where
-  pub of_gens : Kept n x.gens x'.gens
-  pub of_kills : Kept n x.kills x'.kills
-  pub of_sets : Kept n x.sets x'.sets
-  pub of_state : Kept n (codes x.state) (codes x'.state)
+-- the scratch that a figure is lent has n entries at least
+pub record Room (n : ℕ) (gens kills sets : List ℕ) : Type 0 where
+  pub of_gens : n ≤ length gens
+  pub of_kills : n ≤ length kills
+  pub of_sets : n ≤ length sets
+
+-- of it only the first n entries have changed
+pub record Used (n : ℕ) (gens gens' kills kills' sets sets' : List ℕ) : Type 0 where
+  pub of_gens : Kept n gens gens'
+  pub of_kills : Kept n kills kills'
+  pub of_sets : Kept n sets sets'
 
 -- function g of the task t is the function s of the tables w, and the column has what is kept at each of its ensures
 pub record KeptIn (w : List ℕ) (s : Span) (column : List ℕ) (t : Task) (g : ℕ) : Type 0 where

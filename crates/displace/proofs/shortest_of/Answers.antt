@@ -30,7 +30,10 @@ invariant_of-lowest_level c =
 pub lowest_level-level-requires : goal.lowest_level-level-requires
 lowest_level-level-requires c =
     let a = c.requires in
-    levels-low a.0 a.1 a.2 (filled-as (λ p v h e. search rules) c.each_point.ensures)
+    let f = (ordered-fits a.0 a.1 a.2).small in (
+      levels-low a.0 a.1 a.2 (filled-as (λ p v h e. search rules) c.each_point.ensures),
+      record { of_gens = omega arith; of_kills = omega arith; of_sets = omega arith },
+    )
 
 pub returns : goal.returns
 returns c =

@@ -1,8 +1,7 @@
 -- One column more of the function.
-use native.Mathlib.Omega.{arith}
 use Rattle.figures.specs.Steps.{Dead}
-use Rattle.figures.proofs.Points.{turn-fits, turn-values, of-dead}
-use Rattle.figures.proofs.Stages.{turn-of, put-room, worked-put}
+use Rattle.figures.proofs.Points.{turn-fits, of-dead}
+use Rattle.figures.proofs.Stages.{turn-of, worked-put}
 use Rattle.figures.proofs.write_dead.Goals as goal
 
 pub returns : goal.returns

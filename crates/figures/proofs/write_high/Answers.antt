@@ -4,7 +4,7 @@ use Rattle.problems.proofs.Laws.{filled-as}
 use native.Mathlib.Omega.{arith}
 use Rattle.figures.specs.Steps.{High}
 use Rattle.figures.proofs.Points.{turn-fits, turn-values, turn-entry, turn-reached, cut-blocks, of-high}
-use Rattle.figures.proofs.Stages.{turn-of, put-room, worked-put}
+use Rattle.figures.proofs.Stages.{turn-of, worked-put}
 use Rattle.figures.proofs.write_high.Goals as goal
 
 pub returns : goal.returns
@@ -34,4 +34,11 @@ pub high_points-requires : goal.high_points-requires
 high_points-requires c =
     let a = turn-of c.requires c.span_at-s.ensures in
     let stack = a.begun.worked.ready.settled.formed.shaped.stack_high in
-    (cut-blocks c.args.work.now c.args.h c.span_at-s.result stack (filled-as (λ p v i e. search rules) c.each_point.ensures), omega (arith, c.min-start.ensures, stack), turn-reached a)
+    let n = (turn-fits a).small in (
+      cut-blocks c.args.work.now c.args.h c.span_at-s.result stack (filled-as (λ p v i e. search rules) c.each_point.ensures),
+      omega (arith, c.min-start.ensures, stack),
+      turn-reached a,
+      record { of_gens = omega arith; of_kills = omega arith; of_sets = omega arith },
+      search rules,
+      omega arith,
+    )

@@ -4,7 +4,7 @@ use Rattle.problems.proofs.Laws.{filled-as}
 use native.Mathlib.Omega.{arith}
 use Rattle.figures.specs.Steps.{Next}
 use Rattle.figures.proofs.Points.{turn-fits, turn-values, kept-blocks, of-next}
-use Rattle.figures.proofs.Stages.{turn-of, put-room, worked-put}
+use Rattle.figures.proofs.Stages.{turn-of, worked-put}
 use Rattle.figures.proofs.write_next.Goals as goal
 
 pub returns : goal.returns
@@ -28,4 +28,8 @@ invariant_of-func c = record { fits = turn-fits (turn-of c.requires c.span_at-s.
 pub next_points-requires : goal.next_points-requires
 next_points-requires c =
     let i = turn-fits (turn-of c.requires c.span_at-s.ensures) in
-    kept-blocks c.args.work.now c.span_at-s.result i.frame (filled-as (λ p v i e. search rules) c.each_point.ensures)
+    let n = i.small in (
+      kept-blocks c.args.work.now c.span_at-s.result i.frame (filled-as (λ p v i e. search rules) c.each_point.ensures),
+      record { of_gens = omega arith; of_kills = omega arith; of_sets = omega arith },
+      omega arith,
+    )

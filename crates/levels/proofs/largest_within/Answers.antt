@@ -1,7 +1,7 @@
 -- The loop goes from the last function to the first.
 use Prim.Native.Nat.{◌-◌}
 use native.Mathlib.Omega.{arith}
-use mathlib.Core.Path.{◌≡◌, sym}
+use mathlib.Core.Path.{sym}
 use Rattle.levels.specs.Levels.{level_in, shortest_in}
 use Rattle.levels.proofs.Laws.{within_none, within_in, within-out}
 use Rattle.levels.proofs.largest_within.Goals as goal

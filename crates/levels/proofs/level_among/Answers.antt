@@ -1,7 +1,7 @@
 -- The loop counts from the last function to the first.
 use Prim.Native.Nat.{◌-◌}
 use native.Mathlib.Omega.{arith}
-use mathlib.Core.Path.{◌≡◌, sym}
+use mathlib.Core.Path.{sym}
 use Rattle.levels.specs.Levels.{shortest_in}
 use Rattle.levels.proofs.Laws.{level-none, level-turn, level-most}
 use Rattle.levels.proofs.level_among.Goals as goal

@@ -15,5 +15,6 @@ returns c =
       filled-as
           (λ p v h top t g e r. high_read _ _ c.args.func.fits _ _ _ low f.0 f.1 t g e r i.1 i.2 k.0 p v h top)
           (filled-front Top _ (omega arith) c.each_set.ensures),
-      record { of_gens = f.0.kept; of_kills = f.1.kept; of_sets = k.1; of_state = k.2 },
+      record { of_gens = f.0.kept; of_kills = f.1.kept; of_sets = k.1 },
+      k.2,
     )

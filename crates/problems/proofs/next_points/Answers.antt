@@ -8,4 +8,4 @@ use Rattle.problems.proofs.next_points.Goals as goal
 pub returns : goal.returns
 returns c =
     let a = c.solve.ensures in
-    (filled-as (next-read _ _ c.args.func.fits c.requires a.0) (filled-front Top _ (omega arith) c.each_set.ensures), a.1)
+    (filled-as (next-read _ _ c.args.func.fits c.requires.0 a.0) (filled-front Top _ (omega arith) c.each_set.ensures), a.1)
