@@ -42,7 +42,7 @@ pub fn lowest_of(m: u64, k: u32) -> u32
     m.trailing_zeros().min(k)
 }
 
-// The operators have a name each, whose contract carries the proofs: no goal above opens the bits of | and &.
+// Each operator is a function, so that proofs above cite its contract and not the bits of | and &.
 pub fn union_of(a: u64, b: u64) -> u64
     ensures { result ≡ union a b }
 {

@@ -45,7 +45,7 @@ pub fn next_at(work: &[u32], s: Span, p: usize) -> Next
 }
 
 // A function in the tables whose walks a kernel can follow, and for each of its points the bits that it generates and those that it kills.
-// A proof does not know of a slice in a struct that its numbers fit their type, so words says it of the kills.
+// In words: each number of the kills is below 2^64, which a proof does not have of a slice in a struct.
 #[derive(Clone, Copy)]
 pub struct Flow<'a> {
     pub work: &'a [u32],

@@ -1,4 +1,4 @@
-// The first line of a text, read by its pattern to its line feed. A byte of the line picks the pattern that is tried.
+// The first line of a text, read by its pattern to its line feed. A byte of the line says which pattern is tried.
 #![tactic(auto)]
 
 ghost use Rattle.std.specs.Prelude.{◌≡◌, ℕ, ◌≤◌, length};
@@ -31,7 +31,7 @@ fn read_either(s: &[u8]) -> Option<(Point, usize)>
     Some((Point::Either(p, q), k))
 }
 
-// An ensure or an either line: the letter after the e picks the pattern.
+// An ensure or an either line: the letter after the e says which pattern is tried.
 fn read_e(s: &[u8]) -> Option<(Point, usize)>
     requires { 5 ≤ length s.now }
     ensures { parsed_as result ≡ parse_by ensure_or_either s.now }
@@ -57,7 +57,7 @@ fn read_return(s: &[u8]) -> Option<(Point, usize)>
 // The bytes of the shortest point lines, as "  (load 0)" with its line feed.
 const SHORTEST: usize = 11;
 
-// A point line: the letter after the two spaces and the bracket picks the pattern.
+// A point line: the letter after the two spaces and the bracket says which pattern is tried.
 fn read_point(s: &[u8]) -> Option<(Point, usize)>
     ensures { parsed_as result ≡ parse_by points s.now }
 {

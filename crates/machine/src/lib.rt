@@ -38,8 +38,8 @@ pub struct Preempted {
     pub back: usize,
 }
 
-// ---- the rules on numbers: s blocks in the cache, n of them occupied, m of them to be written back. The choices that calls, returns and fills make are
-// written out: with min, max and saturating_sub in their place runs of steps take 1.2 times as long.
+// ---- the rules on numbers: s blocks in the cache, n of them occupied, m of them to be written back. Most choices are
+// written out: with min, max and saturating_sub in their place runs take up to 1.11 times as long.
 
 // How many are written back when they leave the cache, of n that are cached and m below LP.
 #[tactic(auto, unfolding(model::specs::Core::written, crate::specs::Moves::eviction_of))]

@@ -14,7 +14,7 @@ pub trait Sink {
 
     ghost room: { Self → ℕ };
 
-    // These bytes were put, and it is then that.
+    // Puts w s t: the bytes w were put into s, which is then t.
     ghost Puts: { List ℕ → Self → Self → Type 0 };
 
     fn put(&mut self, bytes: &[u8])

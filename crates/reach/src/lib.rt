@@ -38,7 +38,7 @@ struct Scratch {
     ghost no_gens: { (p : ℕ) → item gens p ≡ 0 },
 }
 
-// Every point is marked as reached. The loop always runs through, so that several marks are looked at at a time.
+// Every point is marked as reached. The loop always runs through, so that several marks are looked at at a time; `all` would stop at the first.
 fn all_reached(state: &[Visit]) -> bool
     ensures { result ≡ true → (p : ℕ) → p < length state.now → seen (codes state.now) p ≡ true }
 {

@@ -12,7 +12,7 @@ pub enum Visit {
     Waiting,
 }
 
-// A stack with room for N points.
+// A stack with room for N points. N is Limits::POINTS: what put and take ask for (Absent, Sound) holds at no other.
 #[derive(Drop)]
 pub struct Worklist<const N: usize> {
     points: [u8; N],
