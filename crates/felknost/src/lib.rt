@@ -1,4 +1,4 @@
-// The C interface. include/felknost.h declares it.
+// The C interface. include/felknost.h declares it. Each export is written out, since C calls it by its name.
 #![tactic(auto)]
 
 ghost use Rattle.std.specs.Prelude.{◌≡◌, ◌+◌, ◌≤◌, length};

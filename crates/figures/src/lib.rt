@@ -24,6 +24,8 @@ struct Buffers {
     out: Numbers,
 }
 
+// ---- one function for each figure: over a closure and a constant it would be as long as one of them
+
 // The fill of each point of function f.
 fn write_fill(work: &mut [u32], h: Header, f: usize, buffers: &mut Buffers)
     requires { Working work.old h f (suc (index_of Fill)) }

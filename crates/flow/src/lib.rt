@@ -12,7 +12,7 @@ ghost use Rattle.flow.specs.Flow.{Given, targets};
 use model::Point;
 use tables::Span;
 
-// The points to which a point leads.
+// The points to which a point leads: none, one or two, so three cases and no Option.
 #[derive(Clone, Copy)]
 pub enum Next {
     Nowhere,

@@ -1,4 +1,5 @@
 // The functions in the order of their d, in a column: a function finds its level among those behind it, and a level gives the largest d up to it.
+// The column is written between two reads, so the working space is lent and no view of it is kept.
 #![tactic(auto)]
 
 ghost use Rattle.std.specs.Prelude.{if◌then◌else◌, ◌≡◌, suc, ◌+◌, ◌≤◌, ltb};

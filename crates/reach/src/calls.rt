@@ -34,7 +34,7 @@ fn mark_calls(task: HeldTask, marks: &mut [bool; Limits::FUNCS])
     }
 }
 
-// The first function from 1 on that has no mark.
+// The first function from 1 on that has no mark. Its place is the line that opens it, so first_failing, which goes over points, does not serve here.
 fn first_unmarked(task: HeldTask, marks: &[bool; Limits::FUNCS]) -> Verdict
     requires { (f : ℕ) → f < task.header.funcs → mark_of marks.now f ≡ is_called (task_of task.work.now task.header) f }
     ensures { result ≡ row_verdict (call_rows (task_of task.entry.work.now task.entry.header)) }

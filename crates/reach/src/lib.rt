@@ -28,7 +28,8 @@ type Sets = [u64; Limits::POINTS];
 
 type Bytes = [u8; Limits::POINTS];
 
-// What the kernel works in, with an entry for each point of a function. No point generates an offset.
+// What the kernel works in, with an entry for each point of a function. No point generates an offset: the Scratch of `problems`
+// has no such fact.
 #[derive(Drop)]
 struct Scratch {
     gens: Sets,

@@ -1,6 +1,7 @@
 // The services over a task text. Each judges what it was lent and refuses; none has a requires. Each goes the same way: 15 (and 23 where there are
 // prices), the judgement of the text, its own rows, its own work, and the working space cleared. In left: what a service returns and what it leaves of
 // every buffer. In numbers: code and place, by the table of the rules; those of a run are the plain stack's.
+// The two services that write bytes, and the two runs, have clauses of their own, and are calls of one function each.
 #![tactic(auto)]
 
 ghost use Rattle.std.specs.Prelude.{◌≡◌, []};

@@ -79,7 +79,7 @@ fn at_either(work: &[u32], h: Header, x: State) -> bool
     points::is_either(tables::point_at(work, s.base + x.p))
 }
 
-// The event of this kind and value, or 22, 20, 21 at event i. The point is looked at only where the value is no choice.
+// The event of this kind and value, which are numbers of the list that C lends, or 22, 20, 21 at event i. The point is looked at only where the value is no choice.
 pub fn decode(
     work: &[u32],
     h: Header,
