@@ -3,13 +3,17 @@
 
 use tests::{header_numbers, source};
 
-/// The words between `start` and the next `}` in a file.
-fn variants(path: &str, start: &str) -> Vec<String> {
-    let text = source(path);
+/// The variants `NAME = NUMBER` of the enum of rows, by code.
+fn declared() -> Vec<(String, u32)> {
+    let text = source("crates/model/src/lib.rt");
+    let start = "pub enum Row {";
     let at = text.find(start).expect("the declaration is there") + start.len();
     let body = text[at..].split('}').next().expect("it ends");
-    let names = body.split(',').map(|name| name.trim().to_string());
-    names.filter(|name| !name.is_empty()).collect()
+    let variant = |line: &str| {
+        let (name, number) = line.trim().strip_suffix(',')?.split_once(" = ")?;
+        Some((name.to_string(), number.parse().ok()?))
+    };
+    sorted(body.lines().filter_map(variant).collect())
 }
 
 /// Names with their codes, by code.
@@ -32,11 +36,7 @@ fn in_model() -> Vec<(String, u32)> {
 fn rows_agree() {
     let model = in_model();
     assert_eq!(model.len(), 23);
-    let mut declared = variants("crates/model/src/lib.rt", "pub enum Row {");
-    declared.sort();
-    let mut named: Vec<String> = model.iter().map(|row| row.0.clone()).collect();
-    named.sort();
-    assert_eq!(declared, named);
+    assert_eq!(declared(), model);
     let binding = felknost::Row::ALL.map(|row| (format!("{row:?}"), row.code()));
     assert_eq!(binding.to_vec(), model);
     let second = second::Row::ALL.map(|row| (format!("{row:?}"), row.code()));
