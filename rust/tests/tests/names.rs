@@ -4,7 +4,7 @@
 use tests::{header_numbers, source};
 
 /// The variants `NAME = NUMBER` of the enum of rows, by code.
-fn declared() -> Vec<(String, u32)> {
+fn rows_in_code() -> Vec<(String, u32)> {
     let text = source("crates/model/src/lib.rt");
     let start = "pub enum Row {";
     let at = text.find(start).expect("the declaration is there") + start.len();
@@ -36,7 +36,7 @@ fn in_model() -> Vec<(String, u32)> {
 fn rows_agree() {
     let model = in_model();
     assert_eq!(model.len(), 23);
-    assert_eq!(declared(), model);
+    assert_eq!(rows_in_code(), model);
     let binding = felknost::Row::ALL.map(|row| (format!("{row:?}"), row.code()));
     assert_eq!(binding.to_vec(), model);
     let second = second::Row::ALL.map(|row| (format!("{row:?}"), row.code()));
