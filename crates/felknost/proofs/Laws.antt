@@ -37,12 +37,12 @@ module _ (text : List ℕ) {r : Result Header Refusal} {w w' : List ℕ} (a : Ju
     numbered i = rw (number_is, e) i
 
 -- code and place, and behind them the numbers that are added
-pub put_all : (a b k : ℕ) (added l : List ℕ) {v : List ℕ} → v ≡ added → k ≡ length added → 2 ≤ length l
-    → put_mid 2 k (set (set l 0 a) 1 b) v ≡ over (a ∷ b ∷ added) l
+pub put_all : (a b k i j : ℕ) (added l : List ℕ) {v : List ℕ} → i ≡ 0 → j ≡ 1 → v ≡ added → k ≡ length added → 2 ≤ length l
+    → put_mid 2 k (set (set l i a) j b) v ≡ over (a ∷ b ∷ added) l
 unfolding over
-put_all a b k added [] e i h = absurd (omega arith)
-put_all a b k added (x ∷ []) e i h = absurd (omega arith)
-put_all a b k added (x ∷ y ∷ l) e i h = rw (e, i)
+put_all a b k i j added [] p q e n h = absurd (omega arith)
+put_all a b k i j added (x ∷ []) p q e n h = absurd (omega arith)
+put_all a b k i j added (x ∷ y ∷ l) p q e n h = rw (p, q, e, n)
 
 -- the bytes written, as a number of the result
 pub bytes-are : (r : Written) {n : ℕ} → n ≡ result_unwrap_or r 0 → n ≡ bytes_written r

@@ -10,5 +10,5 @@ pub returns : goal.returns
 returns c =
     let p = c.place_of.ensures in
     let n = c.code_of.ensures in
-    put_all _ _ _ c.args.added.now _ c.copy_from_slice.ensures.after (omega arith) (omega arith)
+    put_all _ _ _ _ _ c.args.added.now _ (omega arith) (omega arith) c.copy_from_slice.ensures.after (omega arith) (omega arith)
     ∙ (λ i. over (n i ∷ p i ∷ c.args.added.now) c.args.res.now)
