@@ -9,7 +9,7 @@ ghost use Rattle.model.specs.Limits.{most_stack};
 ghost use Rattle.theory.specs.Cores.{with_eviction};
 ghost use Rattle.machine.specs.Moves.{eviction_of, core_of, most_address, OnCache, Good, Does, Preempts, Entered, spilled_area};
 
-use model::{Eviction, Limits};
+use model::Limits;
 
 // Where the stack stands: the stack top ST, its block, how many blocks from ST up are cached, and how many of them lie below LP. The block is kept so
 // that no load and no store divides. lazy: the eviction as a number, 0 for an eager core. As the enum, whose padding each step copies, it made runs of
@@ -196,15 +196,11 @@ impl Machine {
     }
 
     // The same, but for which blocks are written back.
-    #[tactic(auto, unfolding(crate::specs::Moves::eviction_of))]
-    pub fn evicting(self, eviction: Eviction) -> Machine
-        ensures { ((cache memory : List ℕ) → core_of result cache memory ≡ with_eviction eviction (core_of self cache memory))
+    pub fn evicting(self, lazy: usize) -> Machine
+        ensures { ((cache memory : List ℕ) → core_of result cache memory ≡ with_eviction (eviction_of lazy) (core_of self cache memory))
             × (result.top ≡ self.top) }
     {
-        match eviction {
-            Eviction::Eager => Machine { lazy: 0, ..self },
-            Eviction::Lazy => Machine { lazy: 1, ..self },
-        }
+        Machine { lazy, ..self }
     }
 
     // Enters a frame of k blocks. The highest cached addresses are spilled where the cache is too small.

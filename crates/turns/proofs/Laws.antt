@@ -1,10 +1,12 @@
--- A step that moves nothing, and a start.
+-- A step that moves nothing, a start, and the number of an eviction.
 use Prim.Native.Nat.{ℕ, ◌≤◌, ◌<◌}
 use mathlib.Core.List.{List, [], ◌∷◌}
 use mathlib.Core.Path.{◌≡◌, refl, ap, sym, ◌∙◌}
 use native.Mathlib.Omega.{arith}
+use denote.Enum.Declared.{tag_of}
+use Rattle.model.specs.contracts.Eviction.{the_type}
 use Rattle.model.specs.declared.Eviction.{Eviction}
-use Rattle.model.specs.declared.Eviction.TheVariants.{Eager}
+use Rattle.model.specs.declared.Eviction.TheVariants.{Eager, Lazy}
 use Rattle.model.specs.Task.{count, func}
 use Rattle.model.specs.Core.{reserve, idle}
 use Rattle.model.specs.Figures.{longest}
@@ -21,7 +23,7 @@ use Rattle.prices.specs.declared.Price.{Price}
 use Rattle.prices.specs.Prices.{price_of}
 use Rattle.machine.specs.declared.Machine.{Machine}
 use Rattle.theory.specs.Cores.{with_eviction}
-use Rattle.machine.specs.Moves.{core_of, Entered}
+use Rattle.machine.specs.Moves.{eviction_of, core_of, Entered}
 use Rattle.machine.proofs.Laws.{entered-with}
 use Rattle.steps.specs.declared.Turned.{Turned}
 use Rattle.steps.specs.Frames.{frames_end, places_in}
@@ -52,18 +54,25 @@ module _ {w : List ℕ} {h : Header} (k : Settled w h) (some : 0 < h.funcs) wher
       let f = first_frame s e in
       (omega (arith, t.shaped.stack_low some-func), omega (arith, f, t.shaped.frames 0 some-func), omega (arith, f, frame-room (task_of w h) t 0 some-func))
 
-  pub start_is : (v : Eviction) (s : Span) (m r : Machine) (n : ℕ) → s ≡ span_at w 0 → Entered Eager h.stack s.frame n m
-      → ((cache memory : List ℕ) → core_of r cache memory ≡ with_eviction v (core_of m cache memory)) × (r.top ≡ m.top)
+  -- v: the eviction; l, the number that the machine has for it
+  pub start_is : (v : Eviction) (s : Span) (l : ℕ) (m r : Machine) (n : ℕ) → s ≡ span_at w 0 → eviction_of l ≡ v → Entered Eager h.stack s.frame n m
+      → ((cache memory : List ℕ) → core_of r cache memory ≡ with_eviction (eviction_of l) (core_of m cache memory)) × (r.top ≡ m.top)
       → Started v w h n (record { depth = 1; f = 0; p = 0; machine = r; moved = 0; allowed = 0 })
   unfolding places_in
-  start_is v s m r n e a b =
+  start_is v s l m r n e y a b =
       let f = k.formed.shaped.frames 0 some-func in
-      let a' = entered-with m r v Eager h.stack s.frame n (omega (arith, f, first_frame s e)) a b in
+      let a' = entered-with m r (eviction_of l) Eager h.stack s.frame n (omega (arith, f, first_frame s e)) a b in
       record {
         state = λ cache memory i j.
-            let core = a'.core cache memory i j ∙ (λ z. (reserve (first_frame s e z) (idle v cache memory)).core) in
+            let core = a'.core cache memory i j ∙ (λ z. (reserve (first_frame s e z) (idle (y z) cache memory)).core) in
             λ z. record { frames = record { fn = 0; at = 0 } ∷ []; core = core z };
         top = a'.top;
         moved = refl;
         allowed = refl;
       }
+
+-- an eviction cast to a number is the number that a machine has for it
+pub number-of : (x : Eviction) → eviction_of (tag_of the_type x) ≡ x
+unfolding eviction_of
+number-of Eager = refl
+number-of Lazy = refl

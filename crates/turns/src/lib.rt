@@ -59,7 +59,7 @@ pub fn start(work: &[u32], h: Header, eviction: Eviction, length: usize) -> Stat
     ensures { Started eviction work.now h length result }
 {
     let s = tables::span_at(work, 0);
-    let machine = Machine::fresh(h.stack, s.frame, length).evicting(eviction);
+    let machine = Machine::fresh(h.stack, s.frame, length).evicting(eviction as usize);
     State {
         depth: 1,
         f: 0,
