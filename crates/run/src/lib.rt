@@ -43,7 +43,7 @@ pub fn run_events(
             Ok(event) => event,
             Err(r) => return ended(Ending::Refused(r), done, x.moved, x.allowed),
         };
-        let turned = turns::turn(work, h, price, x, cache, memory, event);
+        let turned = turns::perform(work, h, price, x, cache, memory, event);
         answers[i] = turned.answer;
         x = turned.state;
     }

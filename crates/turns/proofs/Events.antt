@@ -5,7 +5,7 @@ use mathlib.Core.List.{List, ◌∷◌}
 use mathlib.Core.Option as option
 use Rattle.std.proofs.Common.{Result, Ok, Err}
 use mathlib.Core.Path.{◌≡◌, refl, ap, sym, subst, ◌∙◌}
-use borrow.Author.Tests.{le-leb, lt-leb}
+use borrow.Author.Tests.{ne_eqb, le-leb, lt-leb}
 use Rattle.model.specs.declared.Point.{Point}
 use Rattle.model.specs.declared.Refusal.{Refusal}
 use Rattle.model.specs.declared.Row.TheVariants.{AfterFinish, Kind, Choice}
@@ -29,9 +29,19 @@ use Rattle.steps.proofs.Laws.{frames-some}
 use Rattle.moves.specs.Moves.{StepsIn, IsPreemption}
 use Rattle.turns.specs.declared.Event.{Event}
 use Rattle.turns.specs.declared.Event.TheVariants.{Step, Preempt}
-use Rattle.turns.specs.Turns.{Turns, Decodes}
+use Rattle.turns.specs.Turns.{Turns, act_of, Decodes}
 use Rattle.turns.proofs.Laws.{stays_same}
 use Rattle.turns.proofs.Given.{top_of}
+
+-- ---- an event is a step or a preemption, by its kind
+
+pub act-step : (k v : ℕ) → k ≡ 0 → act_of k v ≡ takes v
+unfolding act
+act-step k v e = rw e refl
+
+pub act-preempt : (k v : ℕ) → (k ≡ 0 → ⊥) → act_of k v ≡ preempted v
+unfolding act
+act-preempt k v n = rw (ne_eqb k 0 n) refl
 
 -- a turn of the model under another name
 turn-as : {price : ℕ → ℕ} {m a : ℕ} {r : Turned} {w cache memory : List ℕ} {u u' : run.Turn} {n : ℕ} → u ≡ u' → IsTurn price m a r w cache memory u n

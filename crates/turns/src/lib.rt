@@ -11,7 +11,7 @@ ghost use Rattle.tables.specs.Valid.{Settled};
 ghost use Rattle.steps.specs.Frames.{frames_of};
 ghost use Rattle.steps.specs.Steps.{Stays, Counts};
 ghost use Rattle.moves.specs.Moves.{StepsIn};
-ghost use Rattle.turns.specs.Turns.{Runs, Placed, Turns, act_in, Decodes, Started, StandsAt};
+ghost use Rattle.turns.specs.Turns.{Runs, Placed, Turns, act_of, act_in, Decodes, Started, StandsAt};
 
 use machine::Machine;
 use model::{Eviction, Point, Refusal, Row};
@@ -112,7 +112,7 @@ pub fn decode(
 }
 
 // An event that no row refuses.
-pub fn turn(
+pub fn perform(
     work: &mut [u32],
     h: Header,
     price: Price,
@@ -133,4 +133,26 @@ pub fn turn(
         }
         Event::Preempt(v) => moves::preempt(work, h, price, x, s, cache, memory, v),
     }
+}
+
+// The same for an event by its numbers of the list that C lends: kind 0 is a step, any other a preemption.
+pub fn turn(
+    work: &mut [u32],
+    h: Header,
+    price: Price,
+    x: State,
+    cache: &mut [u32],
+    memory: &mut [u32],
+    kind: u32,
+    value: u32,
+) -> Turned
+    requires { Runs price work.old h x cache.old memory.old × (0 < x.depth) × Counts x }
+    ensures { Turns price work.old h x cache.old memory.old (act_of kind value)
+        result work.new cache.new memory.new }
+{
+    let event = match kind {
+        0 => Event::Step(value),
+        _ => Event::Preempt(value),
+    };
+    perform(work, h, price, x, cache, memory, event)
 }

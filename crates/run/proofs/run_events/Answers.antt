@@ -9,13 +9,13 @@ returns-in-Err c =
     serves-as c.args.eviction c.start-x.result c.requires c.start-x.ensures
     (loops-off c.loop-i.invariant (omega arith) c.requires.answered _ c.in-Err.ensures c.ended.ensures)
 
-pub turn-turned-requires : goal.turn-turned-requires
-turn-turned-requires c =
+pub perform-turned-requires : goal.perform-turned-requires
+perform-turned-requires c =
     loops-more c.loop-i.invariant (omega arith) c.requires.answered _ c.in-Ok.ensures (omega (arith, c.requires.few))
 
 pub loop-i-preserved : goal.loop-i-preserved
 loop-i-preserved c =
-    loops-on c.loop-i.invariant (omega arith) c.requires.answered _ c.in-Ok.ensures {r = c.turn-turned.result} c.turn-turned.ensures
+    loops-on c.loop-i.invariant (omega arith) c.requires.answered _ c.in-Ok.ensures {r = c.perform-turned.result} c.perform-turned.ensures
 
 pub returns : goal.returns
 returns c =
