@@ -1,21 +1,24 @@
 -- From a step and a preemption to an event, and the rows of an event by its tests.
 use Prim.Native.Nat.{ℕ, ◌+◌, ◌-◌, ◌≤◌, ◌<◌}
-use mathlib.Core.Bool.{or-true, true, false}
+use mathlib.Core.Bool.{Bool, or-true, true, false, ◌||◌}
 use mathlib.Core.List.{List, ◌∷◌}
 use mathlib.Core.Option as option
 use Rattle.std.proofs.Common.{Result, Ok, Err}
 use mathlib.Core.Path.{◌≡◌, refl, ap, sym, subst, ◌∙◌}
+use native.Mathlib.Omega.{arith}
+use lib.Dec.{eqb, leb}
 use borrow.Author.Tests.{ne_eqb, le-leb, lt-leb}
 use Rattle.model.specs.declared.Point.{Point}
 use Rattle.model.specs.declared.Refusal.{Refusal}
 use Rattle.model.specs.declared.Row.TheVariants.{AfterFinish, Kind, Choice}
-use Rattle.model.specs.Rows.{refuse}
+use Rattle.model.specs.Rows.{Verdict, refuse, row_verdict}
 use Rattle.model.specs.Task.{Task, func, point}
 use Rattle.model.specs.Sheet.{Sheet}
 use Rattle.model.specs.Refusal.{is_either, event_rows}
 use Rattle.model.specs.Plain.{Frame, Act, takes, preempted, act}
 use Rattle.model.specs.Run as run
 use Rattle.model.specs.Run.{Place, running_place, step_turn, step_bound, turn_at, turn, event_bound}
+use Rattle.theory.proofs.Search.{verdict-none}
 use Rattle.tables.specs.declared.Header.{Header}
 use Rattle.tables.specs.Tables.{task_of}
 use Rattle.prices.specs.declared.Price.{Price}
@@ -101,6 +104,21 @@ module _ (price : Price) (w : List ℕ) (h : Header) (x : State) (cache memory :
 
 -- ---- rows
 
+-- the rows by the point at which the running frame stands
+pub row_at : (t : Task) (w : List ℕ) (x : State) (i k v : ℕ) (r : Verdict) → 0 < x.depth
+    → r ≡ row_verdict (event_rows i k v (option.some (point (func t x.f) x.p)))
+    → r ≡ row_verdict (event_rows i k v (running_place t (frames_of w x)))
+row_at t w x i k v r h e =
+    e ∙ ap (λ (fs : List Place). row_verdict (event_rows i k v (running_place t fs))) (sym (frames-some w x.depth x.f x.p h))
+
+or-middle : (a c : Bool) → (a || true || c) ≡ true
+or-middle true c = refl
+or-middle false c = refl
+
+pub row_other : (y : Point) (i k v : ℕ) → k ≤ 1 → is_either y ≡ false → Ok tt ≡ row_verdict (event_rows i k v (option.some y))
+unfolding event_rows
+row_other y i k v h e = rw (le-leb k 1 h, e, or-middle (eqb k 1) (leb v 1)) refl
+
 module _ (t : Task) (w : List ℕ) (x : State) (i k v : ℕ) where
   abbrev Decoded : Result Event Refusal → Type 0
   Decoded r = Decodes i k v (running_place t (frames_of w x)) r
@@ -115,27 +133,29 @@ module _ (t : Task) (w : List ℕ) (x : State) (i k v : ℕ) where
     here = point (func t x.f) x.p
 
     -- else the rows by the point at which the running frame stands
-    row_at : (r : Result Event Refusal) → Decodes i k v (option.some here) r → Decoded r
-    row_at r d = rw (frames-some w x.depth x.f x.p some) d
+    decoded_at : (r : Result Event Refusal) → Decodes i k v (option.some here) r → Decoded r
+    decoded_at r d = rw (frames-some w x.depth x.f x.p some) d
 
     -- 20: neither a step nor a preemption
     pub row-kind : 1 < k → Decoded (Err (refuse Kind i))
     unfolding event_rows
-    row-kind h = row_at (Err (refuse Kind i)) (rw (lt-leb k 1 h) refl)
+    row-kind h = decoded_at (Err (refuse Kind i)) (rw (lt-leb k 1 h) refl)
 
     pub row-preempts : k ≡ 1 → Decoded (Ok (Preempt v))
     unfolding event_rows act
-    row-preempts e = row_at (Ok (Preempt v)) (rw e (refl, refl))
+    row-preempts e = decoded_at (Ok (Preempt v)) (rw e (refl, refl))
 
     -- 21: a value that chooses no target, at an either
     pub row-value : k ≡ 0 → v ≤ 1 → Decoded (Ok (Step v))
     unfolding event_rows act
-    row-value e l = row_at (Ok (Step v)) (rw (e, le-leb v 1 l, or-true) (refl, refl))
+    row-value e l = decoded_at (Ok (Step v)) (rw (e, le-leb v 1 l, or-true) (refl, refl))
 
     pub row-choice : k ≡ 0 → 1 < v → is_either here ≡ true → Decoded (Err (refuse Choice i))
     unfolding event_rows
-    row-choice e l h = row_at (Err (refuse Choice i)) (rw (e, lt-leb v 1 l, h) refl)
+    row-choice e l h = decoded_at (Err (refuse Choice i)) (rw (e, lt-leb v 1 l, h) refl)
 
-    pub row_other : k ≡ 0 → is_either here ≡ false → Decoded (Ok (Step v))
-    unfolding event_rows act
-    row_other e h = row_at (Ok (Step v)) (rw (e, h) (refl, refl))
+    pub row-steps-on : k ≡ 0 → is_either here ≡ false → Decoded (Ok (Step v))
+    unfolding act
+    row-steps-on e h =
+        decoded_at (Ok (Step v))
+        (verdict-none (event_rows i k v (option.some here)) (sym (row_other here i k v (omega (arith, e)) h)), rw e refl)

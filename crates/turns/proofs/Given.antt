@@ -2,19 +2,23 @@
 use Prim.Native.Nat.{ℕ, zero, suc, ◌+◌, ◌-◌, ◌≤◌, ◌<◌}
 use mathlib.Core.List.{List, [], ◌∷◌}
 use mathlib.Core.Path.{◌≡◌, refl, ap, sym, subst, ◌∙◌}
+use mathlib.Core.Bool.{false}
+use mathlib.Core.Logic.{inl}
 use native.Mathlib.Omega.{arith}
+use lib.Dec.{T, eqb, eqb_refl}
 use lib.ListN.{length}
 use Rattle.model.specs.declared.Point.{Point}
-use Rattle.model.specs.declared.Point.TheVariants.{Call, Ensure}
-use Rattle.model.specs.Limits.{most_stack, most_funcs, most_in_all}
+use Rattle.model.specs.declared.Point.TheVariants.{Load, Store, Call, Ensure}
+use Rattle.model.specs.Limits.{most_stack, most_funcs, most_points, most_in_all}
 use Rattle.model.specs.Task.{Task, func, point}
-use Rattle.model.specs.Walk.{called}
+use Rattle.model.specs.Walk.{called, touches}
 use Rattle.model.specs.Plain.{Frame}
 use Rattle.model.specs.Run.{Place}
 use Rattle.model.specs.WellFormed.{WellFormed}
+use Rattle.theory.proofs.Lists.{or-holds}
 use Rattle.theory.proofs.Links.{callee-later}
 use Rattle.theory.proofs.Frames.{places, place, In, Below, Standing}
-use Rattle.theory.proofs.Window.{room-below, ensures-frame}
+use Rattle.theory.proofs.Window.{room-below, ensures-frame, touched-cached}
 use Rattle.theory.proofs.Fair.{Running}
 use Rattle.tables.specs.declared.Header.{Header}
 use Rattle.tables.specs.declared.Span.{Span}
@@ -27,7 +31,7 @@ use Rattle.machine.specs.Moves.{core_of, most_address, Good}
 use Rattle.machine.proofs.Kept.{window-good, window-frame}
 use Rattle.steps.specs.declared.State.{State}
 use Rattle.steps.specs.Frames.{places_in, frames_from}
-use Rattle.steps.specs.Steps.{Counts, Leaves}
+use Rattle.steps.specs.Steps.{Counts, Reaches, Leaves}
 use Rattle.moves.specs.Moves.{Inside, Enters}
 use Rattle.moves.proofs.Laws.{inside-small}
 use Rattle.turns.specs.Turns.{Runs, Placed, StandsAt}
@@ -127,6 +131,13 @@ module _ {price : Price} {w : List ℕ} {h : Header} {x : State} {cache memory :
   pub frame-fits : (g : ℕ) → g < h.funcs → (func t g).frame ≤ length cache
   frame-fits g l = omega (arith, runs-top.window.blocks, formed.shaped.frames g (omega (arith, l, count-is w h)))
 
+  -- ---- at a point
+
+  touch-reaches : (o : ℕ) → T (touches (func t x.f) o x.p) → x.p < most_points → Reaches x cache o
+  touch-reaches o j l =
+      let c = touched-cached t (sheet_in price w h) formed k.sound frame top.rest _ o top_in j runs-top.window in
+      record { some = some; small = l; on = k.on; offset = omega (arith, c.1, runs-good.fits) }
+
 -- what a run gives at any time
 pub runs-placed : {price : Price} {w : List ℕ} {h : Header} {x : State} {cache memory : List ℕ} → Runs price w h x cache memory → Placed w h x
 runs-placed k = record { settled = k.bounded.readable.settled; fn_in = λ i. fn-within k i; at_in = λ i. at-within k i }
@@ -150,6 +161,15 @@ module _ {w : List ℕ} {h : Header} {x : State} (k : Placed w h x) (some : 0 < 
 -- ---- each kind of point
 
 module _ {price : Price} {w : List ℕ} {h : Header} {x : State} {cache memory : List ℕ} {s : Span} {y : Point} (k : StandsAt price w h x cache memory s y) where
+  pub load_given : {o : ℕ} → y ≡ Load o → Reaches x cache o
+  load_given {o} e =
+      let i = k.here ∙ e in
+      touch-reaches k.runs k.inside.some o (rw i ((or-holds (eqb o o) false).1 (inl (eqb_refl o)))) (inside-small k.inside)
+
+  pub store_given : {o : ℕ} → y ≡ Store o → Reaches x cache o
+  store_given {o} e =
+      let i = k.here ∙ e in touch-reaches k.runs k.inside.some o (rw i (eqb_refl o)) (inside-small k.inside)
+
   pub call-given : {g : ℕ} → y ≡ Call g → Enters price w h x cache memory g
   call-given {g} e =
       let r = k.runs in

@@ -2,7 +2,7 @@
 use native.Mathlib.Omega.{arith}
 use mathlib.Core.Path.{sym, ◌∙◌}
 use Rattle.tables.specs.Tables.{task_of}
-use Rattle.turns.proofs.Events.{row-finished, row-kind, row-preempts, row-value, row-choice, row_other}
+use Rattle.turns.proofs.Events.{row-finished, row-kind, row-preempts, row-value, row-choice, row-steps-on}
 use Rattle.turns.proofs.decode.Goals as goal
 
 pub returns-then-x-eq0 : goal.returns-then-x-eq0
@@ -20,7 +20,8 @@ returns-in-0 c =
 pub returns-in-0-2 : goal.returns-in-0-2
 returns-in-0-2 c =
     let a = c.args in
-    row_other (task_of a.work.now a.h) a.work.now a.x a.i a.kind a.value (omega arith) c.in-0.is (sym c.at_either.ensures ∙ c.if-at_either.false)
+    row-steps-on (task_of a.work.now a.h) a.work.now a.x a.i a.kind a.value (omega arith) c.in-0.is
+    (sym c.at_either.ensures ∙ c.if-at_either.false)
 
 pub returns-in-0-2-2 : goal.returns-in-0-2-2
 returns-in-0-2-2 c = let a = c.args in row-value (task_of a.work.now a.h) a.work.now a.x a.i a.kind a.value (omega arith) c.in-0.is c.if-value-gt1.false

@@ -2,7 +2,7 @@
 use native.Mathlib.Omega.{arith}
 use Rattle.tables.specs.Tables.{task_of}
 use Rattle.turns.proofs.Laws.{plain_in, stays_same}
-use Rattle.turns.proofs.Given.{call-given, ensure-given, return-given, frame_same}
+use Rattle.turns.proofs.Given.{load_given, store_given, call-given, ensure-given, return-given, frame_same}
 use Rattle.turns.proofs.step.Goals as goal
 
 pub returns-in-Load : goal.returns-in-Load
@@ -42,6 +42,12 @@ call_step-requires c = call-given c.requires c.in-Call.is
 pub ensure_step-requires : goal.ensure_step-requires
 ensure_step-requires c =
     let g = ensure-given c.requires c.in-Ensure.is in (c.requires.inside, c.requires.runs.on, g.0, g.1, g.2)
+
+pub load_step-requires : goal.load_step-requires
+load_step-requires c = load_given c.requires c.in-Load.is
+
+pub store_step-requires : goal.store_step-requires
+store_step-requires c = store_given c.requires c.in-Store.is
 
 pub return_step-requires : goal.return_step-requires
 return_step-requires c = return-given c.requires (omega (arith, c.well_formed))
