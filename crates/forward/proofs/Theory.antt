@@ -1,12 +1,12 @@
 -- What is found is carried by walks, and when the worklist is empty everything that walks carry is found. No code is mentioned.
-use Prim.Native.Nat.{ℕ, zero, suc, ◌^◌, ◌≤◌, ◌<◌, max}
+use Prim.Native.Nat.{ℕ, zero, suc, ◌+◌, ◌^◌, ◌≤◌, ◌<◌, max}
 use native.Mathlib.Omega.{arith}
 use native.Mathlib.Decide.{ℕ_discrete}
-use mathlib.Core.Path.{◌≡◌, refl, ap, ◌∙◌}
+use mathlib.Core.Path.{◌≡◌, refl, ap, sym, ◌∙◌}
 use mathlib.Core.List.Memᴰ
 use mathlib.Core.List.{List, ◌∷◌, ◌++◌, Memᴰ}
 use mathlib.Core.Logic.{⊎_elim}
-use lib.ListN.{length, take, drop, replicate}
+use lib.ListN.{length, get_or, set, take, drop, replicate}
 use Rattle.std.proofs.lemmas.List.{length-take-le, map-append, drop-map}
 use Rattle.bits.specs.Bits.{set_bits, bit, cleared}
 use Rattle.bits.proofs.Laws.{bit_le, bit-zero, bit-union, bit-transfer, length-cleared, item-cleared}
@@ -15,13 +15,13 @@ use Rattle.model.specs.Walk.{Walk, never}
 use Rattle.tables.specs.Tables.{item}
 use Rattle.tables.specs.Valid.{Kept}
 use Rattle.tables.proofs.Laws.{here, elsewhere, set-each}
-use Rattle.tables.proofs.Valid.{kept_on, kept_set}
+use Rattle.tables.proofs.Valid.{kept-later, kept_on, kept_set}
 use Rattle.flow.specs.Flow.{LeadsWithin}
 use Rattle.flow.proofs.Laws.{kept-cleared}
 use Rattle.worklist.specs.declared.Visit.{Visit}
 use Rattle.worklist.specs.declared.Visit.TheVariants.{Unseen}
-use Rattle.worklist.specs.Worklist.{unseen, seen, waiting, codes, Absent}
-use Rattle.worklist.proofs.Laws.{pending-none, pending-empty, last_within, last-waits}
+use Rattle.worklist.specs.Worklist.{unseen, seen, waiting, code, codes, Absent}
+use Rattle.worklist.proofs.Laws.{pending-none, pending-empty, last_within, last-waits, code_at}
 use Rattle.forward.specs.Forward.{Carried, Solved}
 use Rattle.forward.specs.Visits.{Progress, added_with, last_of, last_taken, leaving, Propagated, Visited, Visits, Listed}
 use Rattle.forward.proofs.Steps.{listed-added, Effect, effect, preserved-visits, preserved-taken}
@@ -291,3 +291,27 @@ module _
           kept_on (kept-cleared e i) (kept_on (rw g (kept_set s' 0 entry some)) o.sets-kept),
           kept_on (kept-cleared f j) (kept_on (rw g (kept_set t' 0 waiting some)) o.state-kept),
         )
+
+-- ---- states as numbers
+
+-- the first n entries of l' are the numbers of the states t, and the others are those of l
+pub record Coded (t : List Visit) (n : ℕ) (l l' : List ℕ) : Type 0 where
+  pub each : (p : ℕ) → p < n → item l' p ≡ item (codes t) p
+  pub kept : Kept n l l'
+
+pub coded_more : (t : List Visit) (l : List ℕ) {l₀ : List ℕ} (p v : ℕ) → p < length l → v ≡ code (get_or t p Unseen) → Coded t p l₀ l
+    → Coded t (p + 1) l₀ (set l p v)
+coded_more t l p v h e c = record {
+  each = set-each (λ q u. q < p + 1 → u ≡ item (codes t) q) l h (λ _. e ∙ sym (code_at t p)) (λ q d k. c.each q (omega arith));
+  kept = kept_on (kept-later 1 c.kept) (kept_set l p v (omega arith));
+}
+
+-- tables that agree on the n points are solved alike
+pub solved-same : {next : ℕ → List ℕ} {n entry : ℕ} {gens kills sets t u : List ℕ} → ((p : ℕ) → p < n → item u p ≡ item t p)
+    → Solved next n entry gens kills sets t → Solved next n entry gens kills sets u
+solved-same e s = record {
+  reached = λ p h. rw (e p h) (s.reached p h);
+  marked = λ p h. rw (e p h) (s.marked p h);
+  carried = s.carried;
+  held = s.held;
+}

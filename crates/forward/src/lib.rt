@@ -89,7 +89,8 @@ fn drain(flow: Flow, sets: &mut [u64], state: &mut [Visit], list: &mut Points)
     ensures { Visits (leads (func_in flow.entry.work.now flow.entry.span)) flow.entry.gens.now flow.entry.kills.now
         (progress_of sets.old state.old list.old.points list.old.count)
         (progress_of sets.new state.new list.new.points list.new.count)
-        × (list.new.count ≡ 0) }
+        × (list.new.count ≡ 0)
+        × Listed flow.entry.span.size (progress_of sets.new state.new list.new.points list.new.count) }
 {
     let mut last = list.take(state);
     while let Some(p) = last {
@@ -100,7 +101,7 @@ fn drain(flow: Flow, sets: &mut [u64], state: &mut [Visit], list: &mut Points)
 
 // For the points of a function: which of them a walk from point 0 reaches, and which bits such walks carry to each. The first entries of sets
 // and state are the answer, whatever they held; the others stay.
-pub fn forward(flow: Flow, entry: u64, sets: &mut [u64], state: &mut [Visit])
+pub fn solve(flow: Flow, entry: u64, sets: &mut [u64], state: &mut [Visit])
     requires { (flow.span.size ≤ length sets.old) × (flow.span.size ≤ length state.old) }
     ensures { Solved (leads (func_in flow.entry.work.now flow.entry.span)) flow.entry.span.size entry flow.entry.gens.now flow.entry.kills.now
         sets.new (codes state.new)
@@ -112,4 +113,18 @@ pub fn forward(flow: Flow, entry: u64, sets: &mut [u64], state: &mut [Visit])
     sets[0] = entry;
     list.put(state, 0);
     drain(flow, sets, state, &mut list);
+}
+
+// The same with the states as numbers: 1 for a point that is reached, and 0 for any other.
+pub fn forward(flow: Flow, entry: u64, sets: &mut [u64], state: &mut [u8])
+    requires { (flow.span.size ≤ length sets.old) × (flow.span.size ≤ length state.old) }
+    ensures { Solved (leads (func_in flow.entry.work.now flow.entry.span)) flow.entry.span.size entry flow.entry.gens.now flow.entry.kills.now
+        sets.new state.new
+        × Kept flow.entry.span.size sets.old sets.new × Kept flow.entry.span.size state.old state.new }
+{
+    let mut visits = [Visit::Unseen; Limits::POINTS];
+    solve(flow, entry, sets, &mut visits);
+    for p in 0..flow.span.size {
+        state[p] = visits[p] as u8;
+    }
 }

@@ -3,31 +3,28 @@
 
 ghost use Rattle.std.specs.Prelude.{◌≡◌, ℕ, ◌≤◌, length, replicate};
 ghost use Rattle.model.specs.Limits.{most_stack, most_points};
-ghost use Rattle.worklist.specs.declared.Visit.TheVariants.{Unseen};
 ghost use Rattle.model.specs.Task.{Task};
 ghost use Rattle.model.specs.Figures as figure;
 ghost use Rattle.tables.specs.Tables.{item, func_in};
 ghost use Rattle.tables.specs.Valid.{Kept};
-ghost use Rattle.worklist.specs.Worklist.{codes};
 ghost use Rattle.problems.specs.Problems.{Filled, Gives, Takes, Blocks, Answered, lowest_level, Room, Used, KeptIn, CutIn, EachReached};
 
 use effects::Problem;
 use flow::Flow;
 use model::Limits;
 pub use tables::FitFunc;
-use worklist::Visit;
 
 // A number for each point of a function.
 pub type Numbers = [u32; Limits::POINTS];
 
-// What the problems of a task are solved in: for each point of a function what it gives and takes, its set, and its state in the worklist. The functions
+// What the problems of a task are solved in: for each point of a function what it gives and takes, its set, and whether a walk reaches it. The functions
 // below take slices of it, as long as the function at least, so that they ask no more of other callers.
 #[derive(Drop)]
 pub struct Scratch {
     pub gens: [u64; Limits::POINTS],
     pub kills: [u64; Limits::POINTS],
     pub sets: [u64; Limits::POINTS],
-    pub state: [Visit; Limits::POINTS],
+    pub state: [u8; Limits::POINTS],
 }
 
 impl Scratch {
@@ -36,13 +33,13 @@ impl Scratch {
         ensures gens { result.gens ≡ replicate most_points 0 }
         ensures kills { result.kills ≡ replicate most_points 0 }
         ensures sets { result.sets ≡ replicate most_points 0 }
-        ensures state { result.state ≡ replicate most_points Unseen }
+        ensures state { result.state ≡ replicate most_points 0 }
     {
         Scratch {
             gens: [0; Limits::POINTS],
             kills: [0; Limits::POINTS],
             sets: [0; Limits::POINTS],
-            state: [Visit::Unseen; Limits::POINTS],
+            state: [0; Limits::POINTS],
         }
     }
 }
@@ -167,7 +164,7 @@ pub fn high_points(
     gens: &mut [u64],
     kills: &mut [u64],
     sets: &mut [u64],
-    state: &mut [Visit],
+    state: &mut [u8],
     high: &mut [u32],
 )
     requires { Blocks func.span.size cuts.now × (start ≤ most_stack) × EachReached func.work.now func.span
@@ -175,7 +172,7 @@ pub fn high_points(
     ensures { Filled (λ p v. (t : Task) (g e : ℕ) → CutIn func.entry.work.now func.entry.span start cuts.now t g e → v ≡ figure.high_from t g e p)
         func.entry.span.size high.old high.new
         × Used func.entry.span.size gens.old gens.new kills.old kills.new sets.old sets.new
-        × Kept func.entry.span.size (codes state.old) (codes state.new) }
+        × Kept func.entry.span.size state.old state.new }
 {
     fill(Problem::Occupied, func, cuts, gens, kills);
     let flow = Flow::new(func.work, func.span, gens, kills);

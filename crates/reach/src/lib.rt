@@ -106,7 +106,7 @@ fn solve(func: FitFunc, scratch: &mut Scratch)
 {
     fill_kills(func, &mut scratch.kills);
     let flow = Flow::new(func.work, func.span, &scratch.gens, &scratch.kills);
-    forward::forward(
+    forward::solve(
         flow,
         bits::low_bits(func.span.frame),
         &mut scratch.sets,

@@ -6,6 +6,7 @@ use mathlib.Core.Path.{◌≡◌, refl, ap, sym, ◌∙◌}
 use mathlib.Core.List.{List}
 use borrow.Author.Tests.{eq-eqb, ne_eqb}
 use denote.Enum.Bare.{sameb}
+use denote.Enum.Declared.{tag_of}
 use lib.Dec.{eqb}
 use lib.ListN.{length, get_or, set, length-set, get_or-map}
 use Rattle.std.proofs.lemmas.List.{map-set, length-map}
@@ -221,3 +222,9 @@ pub is-unseen : (v : Visit) → sameb the_type v Unseen ≡ eqb (code v) unseen
 is-unseen Unseen = refl
 is-unseen Seen = refl
 is-unseen Waiting = refl
+
+-- the number that a state is written as
+pub written_as : (v : Visit) → tag_of the_type v ≡ code v
+written_as Unseen = refl
+written_as Seen = refl
+written_as Waiting = refl

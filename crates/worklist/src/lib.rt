@@ -1,7 +1,8 @@
 // The points of one function that are still to visit: a worklist of bytes, at most Limits::POINTS of them and none twice.
 #![tactic(auto)]
 
-ghost use Rattle.std.specs.Prelude.{◌≡◌, length};
+ghost use Rattle.std.specs.Prelude.{◌≡◌, ◌-◌, ◌<◌, ◌≤◌, length};
+ghost use Rattle.tables.specs.Tables.{item};
 ghost use Rattle.worklist.specs.Worklist.{worklist_of, added, taken, Distinct, Sound, Absent, Ends, Took};
 
 // The state of a point: no walk has come to it; one has; one has, and the point is in the worklist.
@@ -15,8 +16,8 @@ pub enum Visit {
 // A stack with room for N points. N is Limits::POINTS: what put and take ask for (Absent, Sound) holds at no other.
 #[derive(Drop)]
 pub struct Worklist<const N: usize> {
-    points: [u8; N],
-    count: usize,
+    pub points: [u8; N],
+    pub count: usize,
 }
 
 impl<const N: usize> Worklist<N> {
@@ -40,6 +41,14 @@ impl<const N: usize> Worklist<N> {
         self.count += 1;
     }
 
+    // Its last point.
+    pub fn last(&self) -> usize
+        requires { (0 < self.now.count) × (self.now.count ≤ length self.now.points) }
+        ensures { result ≡ item self.now.points (self.now.count - 1) }
+    {
+        self.points[self.count - 1] as usize
+    }
+
     // Its last point, which the caller knows to be q, is taken with no load, and waits no longer.
     pub fn take_last(&mut self, state: &mut [Visit], q: usize)
         requires { Ends q (worklist_of state.old self.old.points self.old.count) }
@@ -58,8 +67,8 @@ impl<const N: usize> Worklist<N> {
         if self.count == 0 {
             return None;
         }
+        let p = self.last();
         self.count -= 1;
-        let p = self.points[self.count] as usize;
         state[p] = Visit::Seen;
         Some(p)
     }

@@ -37,4 +37,5 @@ loop-last-preserved c =
 pub returns : goal.returns
 returns c =
     let e = rw c.in_default.is at c.loop-last.invariant.took in
-    (rw (progress-same e.1) c.loop-last.invariant.step.0, ap (λ (x : Worklist). x.count) e.1 ∙ e.0)
+    let i = c.loop-last.invariant.step in
+    (rw (progress-same e.1) i.0, ap (λ (x : Worklist). x.count) e.1 ∙ e.0, rw (progress-same e.1) i.1.list)

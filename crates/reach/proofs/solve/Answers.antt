@@ -3,12 +3,12 @@ use native.Mathlib.Omega.{arith}
 use Rattle.reach.proofs.Answers.{answered}
 use Rattle.reach.proofs.solve.Goals as goal
 
-pub forward-requires : goal.forward-requires
-forward-requires c = rw c.new-flow.ensures.1 (omega arith, omega arith)
+pub solve-requires : goal.solve-requires
+solve-requires c = rw c.new-flow.ensures.1 (omega arith, omega arith)
 
 pub returns : goal.returns
 returns c =
     let s = c.args.func.fits in
     let e = c.new-flow.ensures in
-    let k = rw (e.0, e.1, e.2, e.3) at c.forward.ensures in
+    let k = rw (e.0, e.1, e.2, e.3) at c.solve.ensures in
     answered s c.low_bits.ensures c.args.scratch.now.no_gens c.fill_kills.ensures k.0
