@@ -19,7 +19,7 @@ use Rattle.tables.specs.Tables.{item, point_at, func_in}
 use Rattle.tables.specs.Valid.{Lies}
 use Rattle.tables.proofs.Laws.{here, elsewhere, point-there}
 use Rattle.columns.specs.Columns.{Changed}
-use Rattle.columns.specs.Values.{raised_by, callee_at, Raised}
+use Rattle.columns.specs.Values.{raised_by, func_called_at, Raised}
 use Rattle.columns.proofs.Values.{among-some, among-none}
 use Rattle.columns.proofs.Writes.{changed-none, changed-set, changed-agree}
 
@@ -50,7 +50,7 @@ module _ (a : ℕ) (s : Span) (v : List ℕ) {w₀ : List ℕ} (w : List ℕ) (p
       ap (λ (x : Point). is f (called x)) (point-there w₀ s.base s.size p h
       ∙ sym ((changed-agree behind r.changed 0 (omega arith)).point (s.base + p) (omega (arith, lies.within))))
 
-  pub raising-call : {g x : ℕ} → callee_at w s p ≡ some g → g < most_funcs → a + most_funcs ≤ length w → x ≡ max (item w (a + g)) (item v p)
+  pub raising-call : {g x : ℕ} → func_called_at w s p ≡ some g → g < most_funcs → a + most_funcs ≤ length w → x ≡ max (item w (a + g)) (item v p)
       → Raising a s v (p + 1) w₀ (set w (a + g) x)
   raising-call {g} {x} e l room m =
       let calls-test : (f : ℕ) → calls (func_in w₀ s) f p ≡ eqb f g =
@@ -69,7 +69,7 @@ module _ (a : ℕ) (s : Span) (v : List ℕ) {w₀ : List ℕ} (w : List ℕ) (p
             ];
       }
 
-  pub raising-other : callee_at w s p ≡ none → Raising a s v (p + 1) w₀ w
+  pub raising-other : func_called_at w s p ≡ none → Raising a s v (p + 1) w₀ w
   raising-other e =
       record {
         changed = r.changed;

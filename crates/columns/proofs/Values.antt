@@ -11,7 +11,7 @@ use Rattle.tables.specs.declared.Header.{Header}
 use Rattle.tables.specs.declared.Span.{Span}
 use Rattle.tables.specs.Tables.{item}
 use Rattle.columns.specs.Columns.{shortest_column, level_column}
-use Rattle.columns.specs.Values.{among_funcs, callee_at, at_callee, kept_at, cut_at, level_at}
+use Rattle.columns.specs.Values.{among_funcs, func_called_at, at_callee, kept_at, cut_at, level_at}
 
 -- a function whose number is below most_funcs is the callee, and no other
 pub among-few : {o : Option ℕ} {g : ℕ} → o ≡ some g → g < most_funcs → among_funcs o ≡ some g
@@ -34,7 +34,7 @@ among-none (some m) e n i =
 module _ (w : List ℕ) (h : Header) (s : Span) (p : ℕ) where
   pub cut-stack : cut_at w h s p ≤ h.stack
   unfolding cut_at
-  cut-stack = at (callee_at w s p)
+  cut-stack = at (func_called_at w s p)
     where
       at : (o : Option ℕ) → at_callee (λ g. h.stack - item w (shortest_column + g)) o ≤ h.stack
       at none = omega arith
@@ -46,10 +46,10 @@ kept_low w s p e = omega arith
 
 -- the level of a callee
 module _ (w : List ℕ) (s : Span) (p : ℕ) where
-  pub level-call : {g : ℕ} → callee_at w s p ≡ some g → item w (level_column + g) ≡ level_at w s p
+  pub level-call : {g : ℕ} → func_called_at w s p ≡ some g → item w (level_column + g) ≡ level_at w s p
   unfolding level_at
   level-call i = rw i
 
-  pub level-none : callee_at w s p ≡ none → 0 ≡ level_at w s p
+  pub level-none : func_called_at w s p ≡ none → 0 ≡ level_at w s p
   unfolding level_at
   level-none i = rw i

@@ -14,13 +14,16 @@ use Rattle.columns.specs.Columns.{fill_column, longest_column, shortest_column, 
 abbrev pub most_chain : ℕ
 most_chain = most_price * (most_funcs - 1)
 
--- the function that point p of s calls, whose number is below most_funcs; and whether it is an ensure
+-- the function that point p of s calls; the same where its number is below most_funcs; and whether the point is an ensure
+abbrev pub callee_at : List ℕ → Span → ℕ → Option ℕ
+callee_at w s p = called (point_at w (s.base + p))
+
 abbrev pub among_funcs : Option ℕ → Option ℕ
 among_funcs none = none
 among_funcs (some g) = if ltb g most_funcs then some g else none
 
-abbrev pub callee_at : List ℕ → Span → ℕ → Option ℕ
-callee_at w s p = among_funcs (called (point_at w (s.base + p)))
+abbrev pub func_called_at : List ℕ → Span → ℕ → Option ℕ
+func_called_at w s p = among_funcs (callee_at w s p)
 
 -- a number of the callee, 0 where there is none
 abbrev pub at_callee : (ℕ → ℕ) → Option ℕ → ℕ
@@ -38,16 +41,16 @@ CallFits w s p = (g : ℕ) → called (point_at w (s.base + p)) ≡ some g → g
 -- callee at p; the chain of the callee at p, where that of the caller is own and a move has this price
 unfoldable pub filled_at : List ℕ → Header → Span → ℕ → ℕ
 filled_at w h s p =
-    if ensure_at w s p then at_callee (λ g. s.frame - (h.stack - item w (longest_column + g))) (callee_at w s (p - 1)) else 0
+    if ensure_at w s p then at_callee (λ g. s.frame - (h.stack - item w (longest_column + g))) (func_called_at w s (p - 1)) else 0
 
 unfoldable pub kept_at : List ℕ → Span → ℕ → ℕ
 kept_at w s p = s.frame - item w (fill_column + s.base + p)
 
 unfoldable pub cut_at : List ℕ → Header → Span → ℕ → ℕ
-cut_at w h s p = at_callee (λ g. h.stack - item w (shortest_column + g)) (callee_at w s p)
+cut_at w h s p = at_callee (λ g. h.stack - item w (shortest_column + g)) (func_called_at w s p)
 
 unfoldable pub level_at : List ℕ → Span → ℕ → ℕ
-level_at w s p = at_callee (λ g. item w (level_column + g)) (callee_at w s p)
+level_at w s p = at_callee (λ g. item w (level_column + g)) (func_called_at w s p)
 
 unfoldable pub chained_at : List ℕ → Span → ℕ → Price → ℕ → ℕ
 chained_at w s own price p = if ltb (p + 1) s.size then own + price_of price (kept_at w s (p + 1)) else 0

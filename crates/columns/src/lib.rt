@@ -10,7 +10,7 @@ ghost use Rattle.tables.specs.Valid.{Lies};
 ghost use Rattle.prices.specs.Prices.{Small};
 ghost use Rattle.problems.specs.Problems.{Filled};
 ghost use Rattle.columns.specs.Columns.{columns_end, high_column, entry_column, chain_column, Funcs, Changed};
-ghost use Rattle.columns.specs.Values.{most_chain, callee_at, ensure_at, filled_at, kept_at, cut_at, level_at, chained_at, Put, Raised};
+ghost use Rattle.columns.specs.Values.{most_chain, callee_at, func_called_at, ensure_at, filled_at, kept_at, cut_at, level_at, chained_at, Put, Raised};
 
 use model::Limits;
 use prices::Price;
@@ -20,9 +20,17 @@ use tables::{Header, Span};
 // The function that point p of s calls.
 pub fn callee_at(work: &[u32], s: Span, p: usize) -> Option<usize>
     requires { Lies work.now s × (p < s.size) }
-    ensures { MatchOption result (callee_at work.now s p ≡ none) (λ g. (callee_at work.now s p ≡ some g) × (g < most_funcs)) }
+    ensures { MatchOption result (callee_at work.now s p ≡ none) (λ g. callee_at work.now s p ≡ some g) }
 {
-    match points::callee_of(tables::point_at(work, s.base + p)) {
+    points::callee_of(tables::point_at(work, s.base + p))
+}
+
+// The same, where its number is one that a function can have: the columns have a number for each of these.
+pub fn func_called_at(work: &[u32], s: Span, p: usize) -> Option<usize>
+    requires { Lies work.now s × (p < s.size) }
+    ensures { MatchOption result (func_called_at work.now s p ≡ none) (λ g. (func_called_at work.now s p ≡ some g) × (g < most_funcs)) }
+{
+    match callee_at(work, s, p) {
         Some(g) if g < Limits::FUNCS => Some(g),
         _ => None,
     }
@@ -69,7 +77,7 @@ impl FuncColumns<'_> {
         if !self.is_ensure(p) {
             return 0;
         }
-        match callee_at(self.work, self.span, p.saturating_sub(1)) {
+        match func_called_at(self.work, self.span, p.saturating_sub(1)) {
             Some(g) => {
                 let left = h.stack.saturating_sub(self.work[Columns::LONGEST + g]);
                 self.span.frame.saturating_sub(left)
@@ -92,7 +100,7 @@ impl FuncColumns<'_> {
         requires { p < self.span.size }
         ensures { result ≡ cut_at self.entry.work.now h self.entry.span p }
     {
-        match callee_at(self.work, self.span, p) {
+        match func_called_at(self.work, self.span, p) {
             Some(g) => h.stack.saturating_sub(self.work[Columns::SHORTEST + g]),
             None => 0,
         }
@@ -103,7 +111,7 @@ impl FuncColumns<'_> {
         requires { p < self.span.size }
         ensures { result ≡ level_at self.entry.work.now self.entry.span p }
     {
-        match callee_at(self.work, self.span, p) {
+        match func_called_at(self.work, self.span, p) {
             Some(g) => self.work[Columns::LEVEL + g],
             None => 0,
         }
@@ -155,7 +163,7 @@ pub fn raise(work: &mut [u32], s: Span, at: usize, values: &[u32])
     ensures { Raised at s values.now work.old work.new }
 {
     for p in 0..s.size {
-        if let Some(g) = callee_at(work, s, p) {
+        if let Some(g) = func_called_at(work, s, p) {
             work[at + g] = work[at + g].max(values[p]);
         }
     }

@@ -16,7 +16,7 @@ use Rattle.tables.specs.declared.Span.{Span}
 use Rattle.tables.specs.Tables.{item, point_at, points_of}
 use Rattle.tables.proofs.Laws.{length-points, point-there}
 use Rattle.columns.specs.Columns.{longest_column, shortest_column}
-use Rattle.columns.specs.Values.{callee_at, CallFits}
+use Rattle.columns.specs.Values.{func_called_at, CallFits}
 use Rattle.columns.proofs.Values.{among-some, among-none}
 use Rattle.displace.specs.declared.CalleeRange.{CalleeRange}
 use Rattle.displace.specs.Range.{widened, most_of, RangeIn, RangeOf}
@@ -71,14 +71,14 @@ module _ (w : List ℕ) (s : Span) where
         )
 
     -- a point that calls g, and one that calls nothing
-    pub seen-call : {n g : ℕ} (r : Option CalleeRange) → n ≡ p + 1 → callee_at w s p ≡ maybe.some g → Seen w s n r
+    pub seen-call : {n g : ℕ} (r : Option CalleeRange) → n ≡ p + 1 → func_called_at w s p ≡ maybe.some g → Seen w s n r
         → Seen w s p (Some (widened r (item w (longest_column + g)) (item w (shortest_column + g))))
     seen-call {g = g} r i e k =
         let c : called_from w s p ≡ g ∷ called_from w s (p + 1) =
         called_more ∙ ap (λ (o : maybe.Option ℕ). the_called o ++ called_from w s (p + 1)) (among-some (called (point_at w (s.base + p))) e) in
         rw c (range-more w (called_from w s (p + 1)) r g (rw i at k))
 
-    pub seen_other : {n : ℕ} (r : Option CalleeRange) → n ≡ p + 1 → CallFits w s p → callee_at w s p ≡ maybe.none → Seen w s n r → Seen w s p r
+    pub seen_other : {n : ℕ} (r : Option CalleeRange) → n ≡ p + 1 → CallFits w s p → func_called_at w s p ≡ maybe.none → Seen w s n r → Seen w s p r
     seen_other r i fits e k =
         let c : called_from w s p ≡ called_from w s (p + 1) =
         called_more ∙ none-called (called (point_at w (s.base + p))) (λ g j. omega (arith, fits g j, among-none _ e g j)) in

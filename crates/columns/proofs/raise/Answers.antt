@@ -11,7 +11,7 @@ pub loop-p-preserved : goal.loop-p-preserved
 loop-p-preserved c =
     let l = c.loop-p in
     let a = c.args in
-    elim c.match-callee_at.branch [
+    elim c.match-func_called_at.branch [
       | in-Some w ↦
           rw w.work-is
           (raising-call a.at a.s a.values.now l.work l.p (omega arith) c.requires.0 (omega arith) l.invariant w.in-Some.ensures.0 w.in-Some.ensures.1
