@@ -15,7 +15,8 @@ ghost use Rattle.levels.specs.Levels.{largest_within, shortest_in, level_in, Roo
 ghost use Rattle.displace.specs.Ordered.{Ordered};
 
 use columns::{Columns, FuncColumns};
-use problems::{FitFunc, Numbers, Scratch};
+use model::Limits;
+use problems::{FitFunc, Numbers};
 use tables::{Header, Span};
 
 // The largest D and the smallest d of the functions that a function calls.
@@ -48,7 +49,7 @@ fn callee_range(work: &[u32], s: Span) -> Option<CalleeRange>
 {
     let mut range = None;
     for p in (0..s.size).rev() {
-        if let Some(g) = columns::callee_at(work, s, p) {
+        if let Some(g) = columns::func_called_at(work, s, p) {
             range = Some(widened(
                 range,
                 work[Columns::LONGEST + g],
@@ -81,7 +82,9 @@ fn shortest_of(
     s: Span,
     range: Option<CalleeRange>,
     levels: &mut Numbers,
-    scratch: &mut Scratch,
+    gens: &mut [u64; Limits::POINTS],
+    kills: &mut [u64; Limits::POINTS],
+    sets: &mut [u64; Limits::POINTS],
 ) -> u32
     requires { Ordered work.now h (f + 1) × (f < h.funcs) × (s ≡ span_at work.now f) × RangeOf work.now s range }
     ensures { result ≡ shortest (task_of work.now h) f }
@@ -91,35 +94,44 @@ fn shortest_of(
     };
     let points = FuncColumns { work, span: s };
     columns::each_point(s, levels, |p| points.level(p));
-    let level = problems::lowest_level(
-        FitFunc { work, span: s },
-        levels,
-        &mut scratch.gens,
-        &mut scratch.kills,
-        &mut scratch.sets,
-    );
+    let level = problems::lowest_level(FitFunc { work, span: s }, levels, gens, kills, sets);
     s.frame + called_least(work, f + 1, h.funcs, level, b.least)
 }
 
 // D, d and the level of function f; the functions behind it have theirs.
-fn displace(work: &mut [u32], h: Header, f: usize, levels: &mut Numbers, scratch: &mut Scratch)
+fn displace(
+    work: &mut [u32],
+    h: Header,
+    f: usize,
+    levels: &mut Numbers,
+    gens: &mut [u64; Limits::POINTS],
+    kills: &mut [u64; Limits::POINTS],
+    sets: &mut [u64; Limits::POINTS],
+)
     requires { Ordered work.old h (f + 1) × (f < h.funcs) }
     ensures { Ordered work.new h f × OnlyColumns work.old work.new }
 {
     let s = tables::span_at(work, f);
     let range = callee_range(work, s);
-    let d = shortest_of(work, h, f, s, range, levels, scratch);
+    let d = shortest_of(work, h, f, s, range, levels, gens, kills, sets);
     work[Columns::LONGEST + f] = s.frame + range.map_or(0, |b| b.most);
     work[Columns::SHORTEST + f] = d;
     levels::insert(work, f, h.funcs);
 }
 
-// D and d of every function, from the last to the first: calls lead to later functions.
-pub fn displacements(work: &mut [u32], h: Header, levels: &mut Numbers, scratch: &mut Scratch)
+// D and d of every function, from the last to the first: calls lead to later functions. It is lent arrays, and not a Scratch: it has no use for states.
+pub fn displacements(
+    work: &mut [u32],
+    h: Header,
+    levels: &mut Numbers,
+    gens: &mut [u64; Limits::POINTS],
+    kills: &mut [u64; Limits::POINTS],
+    sets: &mut [u64; Limits::POINTS],
+)
     requires { Ready work.old h }
     ensures { Displacing work.new h 0 × OnlyColumns work.old work.new }
 {
     for f in (0..h.funcs).rev() {
-        displace(work, h, f, levels, scratch);
+        displace(work, h, f, levels, gens, kills, sets);
     }
 }

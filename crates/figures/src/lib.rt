@@ -171,7 +171,14 @@ pub fn figure_task(work: &mut [u32], h: Header, price: Price)
         scratch: Scratch::new(),
         out: [0; Limits::POINTS],
     };
-    displace::displacements(work, h, &mut buffers.values, &mut buffers.scratch);
+    displace::displacements(
+        work,
+        h,
+        &mut buffers.values,
+        &mut buffers.scratch.gens,
+        &mut buffers.scratch.kills,
+        &mut buffers.scratch.sets,
+    );
     columns::clear_column(work, Columns::CHAIN);
     columns::clear_column(work, Columns::ENTRY);
     figure_funcs(work, h, price, &mut buffers);
