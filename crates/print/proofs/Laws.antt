@@ -13,7 +13,7 @@ use Rattle.model.specs.Basic.{joined, count_from, up_to}
 use Rattle.model.specs.Text.{bytes}
 use Rattle.model.specs.Sheet.{decimal, line_text}
 use Rattle.model.specs.Services.{over}
-use Rattle.theory.proofs.Lists.{joined-append, joined_snoc, length-joined, sum_room}
+use Rattle.theory.proofs.Lists.{joined-append, joined_snoc, joined-next, length-joined, sum_room}
 use Rattle.theory.proofs.Decimal.{decimal-small, decimal-large, length-small, length-large}
 use Rattle.print.specs.Wrote.{wrote_on, wrote-length}
 use Rattle.print.specs.Print.{pasted, Wrote, spaced}
@@ -126,6 +126,10 @@ module _ (g : ℕ → List ℕ) where
   pub none-length : length (joined g (up_to 0)) ≡ 0
   unfolding joined count_from
   none-length = refl
+
+  pub next-wrote : {at e r : ℕ} (n : ℕ) {out o o' : List ℕ} → at ≤ length out → Wrote at (joined g (up_to n)) out e o → Wrote e (g n) o r o'
+      → Wrote at (joined g (up_to (n + 1))) out r o'
+  next-wrote n h a b = rw (joined-next g n) (wrote_on h a b)
 
   pub next-room : (k n : ℕ) → k < n → length (joined g (up_to k)) + length (g k) ≤ length (joined g (up_to n))
   next-room k n h = omega (arith, length-joined g (up_to k), length-joined g (up_to n), sum_room (λ i. length (g i)) k n h)

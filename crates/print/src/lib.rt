@@ -1,9 +1,9 @@
 // Words, decimal numbers and lines of them, written into a lent buffer, or only counted.
 #![tactic(auto)]
 
-ghost use Rattle.std.specs.Prelude.{◌≡◌, ℕ, ◌+◌, ◌≤◌, List, length};
+ghost use Rattle.std.specs.Prelude.{◌≡◌, ℕ, ◌+◌, ◌*◌, ◌≤◌, List, length};
 ghost use Rattle.model.specs.Sheet.{decimal, line_text};
-ghost use Rattle.print.specs.Print.{spaced_number, spaced};
+ghost use Rattle.print.specs.Print.{Wrote, spaced_number, spaced};
 ghost use Rattle.print.specs.Sink.{SinkLaws};
 ghost use Rattle.print.specs.Sinks.{most_counted, Counted, counter_laws, Written, writer_laws};
 
@@ -61,6 +61,25 @@ fn put_digits(out: &mut [u8], n: u32)
     }
 }
 
+// Writes n in decimal from byte at on, and returns where it ends. Most numbers of a report have one or two digits.
+pub fn put_number(out: &mut [u8], at: usize, n: u32) -> usize
+    requires { at + length (decimal n) ≤ length out.old }
+    ensures { Wrote at (decimal n) out.old result out.new }
+{
+    if n < 10 {
+        out[at] = b'0' + n as u8;
+        return at + 1;
+    }
+    if n < 100 {
+        out[at + 1] = b'0' + (n % 10) as u8;
+        out[at] = b'0' + (n / 10) as u8;
+        return at + 2;
+    }
+    let end = at + number_length(n);
+    put_digits(&mut out[at..end], n);
+    end
+}
+
 // A count of the bytes that are put.
 #[derive(Drop)]
 pub struct Counter {
@@ -107,25 +126,10 @@ impl Sink for Writer<'_> {
         self.end = end;
     }
 
-    // Most numbers of a report have one or two digits.
     fn put_number(&mut self, n: u32) {
         let space = self.end;
-        let at = space + 1;
         self.out[space] = b' ';
-        if n < 10 {
-            self.out[at] = b'0' + n as u8;
-            self.end = at + 1;
-            return;
-        }
-        if n < 100 {
-            self.out[at + 1] = b'0' + (n % 10) as u8;
-            self.out[at] = b'0' + (n / 10) as u8;
-            self.end = at + 2;
-            return;
-        }
-        let end = at + number_length(n);
-        put_digits(&mut self.out[at..end], n);
-        self.end = end;
+        self.end = put_number(self.out, space + 1, n);
     }
 }
 
@@ -147,4 +151,15 @@ pub fn put_line<S: Sink>(out: &mut S, word: &[u8], numbers: &[u32])
     out.put(word);
     put_numbers(out, numbers);
     out.put(b")\n");
+}
+
+// How many bytes a line has: at most 11 for each number.
+pub fn line_length(word: &[u8], numbers: &[u32]) -> usize
+    requires { (length word.now ≤ 16) × (length numbers.now ≤ 16) }
+    ensures { (result ≡ length (line_text word.now numbers.now))
+        × (result ≤ length word.now + 11 * length numbers.now + 2) }
+{
+    let mut line = Counter { count: 0 };
+    put_line(&mut line, word, numbers);
+    line.count
 }
