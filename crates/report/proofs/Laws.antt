@@ -1,5 +1,5 @@
 -- The lines of the report by the figures that are read back, part after part.
-use Prim.Native.Nat.{ℕ, ◌+◌, ◌≤◌, ◌<◌}
+use Prim.Native.Nat.{ℕ, ◌+◌, ◌≤◌, ◌<◌, zero-le}
 use native.Mathlib.Omega.{arith}
 use mathlib.Core.Bool.{Bool, true, false}
 use mathlib.Core.Path.{◌≡◌, refl, ap, sym, ◌∙◌}
@@ -8,6 +8,7 @@ use lib.ListN.{length, take, length-append}
 use Rattle.model.specs.Basic.{joined, sum_of, count_from, up_to}
 use Rattle.model.specs.Text.{bytes}
 use Rattle.model.specs.Task.{Task, count}
+use Rattle.model.specs.Services.{over}
 use Rattle.model.specs.Sheet.{Sheet, PointSheet, line_text, record_at, records_in, records_of, total_of, total_text, head_text, point_text, func_text, report_with}
 use Rattle.theory.proofs.Lists.{joined-map, joined-next, sum-joined, sum-next, sum_room}
 use Rattle.theory.proofs.Total.{total-in}
@@ -15,7 +16,10 @@ use Rattle.tables.specs.declared.Header.{Header}
 use Rattle.tables.specs.Tables.{size_at, task_of}
 use Rattle.tables.proofs.Laws.{size_is, count-is}
 use Rattle.prices.specs.declared.Price.{Price}
+use Rattle.print.specs.Print.{Wrote}
+use Rattle.print.specs.Wrote.{wrote_on}
 use Rattle.print.specs.Sink.{SinkLaws}
+use Rattle.print.proofs.Laws.{wrote-over}
 use Rattle.print.proofs.Sinks.{then, room-after, piece-room}
 use Rattle.readout.specs.declared.FuncFigures.{FuncFigures}
 use Rattle.readout.specs.Sheet.{sheet_in}
@@ -151,3 +155,12 @@ module _ (price : Price) (w : List ℕ) (h : Header) where
       → Puts (bytes "(report\n") s t → Puts (funcs_part price w h h.funcs).text t u → Puts (foot_text price w h) u v → Puts (bytes ")\n") v z
       → Puts (report_in price w h) s z
   report-put laws a b c d = rw report-lines (then laws (then laws (then laws a b) c) d)
+
+  -- the same of a buffer, written line after line
+  pub report-wrote : {e r y z : ℕ} {out o o' o'' o''' : List ℕ} → Wrote 0 (bytes "(report\n") out e o
+      → Wrote e (funcs_part price w h h.funcs).text o r o' → Wrote r (foot_text price w h) o' y o'' → Wrote y (bytes ")\n") o'' z o'''
+      → (z ≡ length (report_in price w h)) × (o''' ≡ over (report_in price w h) out)
+  report-wrote {z = z} {out = out} {o''' = o'''} a b c d =
+      let l = report_in price w h in
+      let x : Wrote 0 l out z o''' = rw report-lines (wrote_on zero-le (wrote_on zero-le (wrote_on zero-le a b) c) d) in
+      wrote-over l out x
