@@ -245,8 +245,8 @@ list-most {ranks} k =
 
 -- from no rank, the points of all functions have been taken in
 pub listing : {price : Price} {w : List ℕ} {h : Header} (ranks : List ℕ) → Readable price w h
-    → ranks ≡ best (replicate most_dearest 0) (ranks_in price w h) → Lists price w h ranks
-listing {price} {w} {h} ranks k e =
+    → ranks ≡ best (replicate most_dearest 0) (ranks_in price w h) → length ranks ≡ most_dearest → Lists price w h ranks
+listing {price} {w} {h} ranks k e m =
     let t = task_of w h in
     let s = sheet_in price w h in
     let shaped = k.settled.formed.shaped in
@@ -256,13 +256,15 @@ listing {price} {w} {h} ranks k e =
     let c : n ≡ min most_dearest (length r) = omega (arith, size) in
     let top : take n ranks ≡ map rank_of (dearest (records_of t s)) =
     (λ i. take (c i) (e i)) ∙ best-zeros r ∙ ap (λ (q : ℕ). take most_dearest (sorted higher (func_ranks t s q))) (sym (count-is w h))
-    ∙ highest-listed t s shaped (records-low k) in
-    record {
-      printable = record {
-        few = omega (arith, length-take n ranks);
-        low = λ i l.
-            listed-low t s shaped (records-low k) (get_or (take n ranks) i 0)
-            (subst (λ q. Memᴰ (get_or (take n ranks) i 0) q) top (mem-get_or (take n ranks) i 0 l));
-      };
-      text = ap (joined rank_text) top ∙ listed-lines t s shaped (records-low k);
-    }
+    ∙ highest-listed t s shaped (records-low k) in (
+      omega (arith, m),
+      record {
+        printable = record {
+          few = omega (arith, length-take n ranks);
+          low = λ i l.
+              listed-low t s shaped (records-low k) (get_or (take n ranks) i 0)
+              (subst (λ q. Memᴰ (get_or (take n ranks) i 0) q) top (mem-get_or (take n ranks) i 0 l));
+        };
+        text = ap (joined rank_text) top ∙ listed-lines t s shaped (records-low k);
+      },
+    )

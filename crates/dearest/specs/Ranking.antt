@@ -84,6 +84,6 @@ pub record Listing (t : Task) (s : Sheet) (ranks : List ℕ) : Type 0 where
 abbrev pub listed : Header → ℕ
 listed h = min most_dearest h.points
 
--- the first of these ranks, as many as are listed, have that list
+-- there are as many of these ranks as are listed, and the first of them, as many, have that list
 abbrev pub Lists : Price → List ℕ → Header → List ℕ → Type 0
-Lists price w h ranks = Listing (task_of w h) (sheet_in price w h) (take (listed h) ranks)
+Lists price w h ranks = (listed h ≤ length ranks) × Listing (task_of w h) (sheet_in price w h) (take (listed h) ranks)
