@@ -4,7 +4,7 @@ use native.Mathlib.Omega.{arith}
 use mathlib.Core.List.{List}
 use lib.ListN.{length}
 use mathlib.Core.Path.{◌≡◌, ap, sym, subst, ◌∙◌}
-use Rattle.model.specs.Limits.{most_stack, most_in_all}
+use Rattle.model.specs.Limits.{most_stack, most_points, most_in_all}
 use Rattle.model.specs.Task.{func}
 use Rattle.model.specs.Sheet.{PointSheet, costed}
 use Rattle.tables.specs.declared.Header.{Header}
@@ -13,15 +13,23 @@ use Rattle.tables.specs.Layout.{frame_table, base_table}
 use Rattle.tables.specs.Tables.{item, base_at, size_at, span_at, task_of}
 use Rattle.tables.specs.Valid.{Lies}
 use Rattle.tables.proofs.Laws.{frame_is}
-use Rattle.tables.proofs.Valid.{lies_in}
+use Rattle.tables.proofs.Valid.{lies_in, settled-fits}
 use Rattle.prices.specs.declared.Price.{Price}
 use Rattle.prices.specs.Prices.{price_of}
 use Rattle.columns.specs.Columns.{high_column, dead_column, need_column, next_column, fill_column, longest_column, shortest_column, entry_column}
-use Rattle.columns.specs.Columns.{chain_column}
+use Rattle.columns.specs.Columns.{chain_column, PointsLow}
 use Rattle.columns.proofs.Limits.{frame-low}
 use Rattle.readout.specs.Sheet.{front, spill_from, chain_from, figures_from, sheet_in}
-use Rattle.readout.specs.Readable.{Readable, figured_of, func_figures}
+use Rattle.readout.specs.Readable.{Readable, InFunc, figured_of, func_figures}
 use Rattle.readout.proofs.Same.{front-item}
+
+-- function f as it is read
+pub there : {price : Price} {w : List ℕ} {h : Header} {f : ℕ} {s : Span} → Readable price w h → f < h.funcs → s ≡ span_at w f → InFunc price w h f s
+there k l e = record { readable = k; low = l; span = e }
+
+-- a function has few points
+pub size_low : {price : Price} {w : List ℕ} {h : Header} {f : ℕ} {s : Span} → InFunc price w h f s → s.size ≤ most_points
+size_low {f = f} k = omega (arith, ap (λ (s : Span). s.size) k.span, (settled-fits k.readable.settled f k.low).small)
 
 module _ {price : Price} {w : List ℕ} {h : Header} {f : ℕ} {s : Span} (k : Readable price w h) (l : f < h.funcs) (e : s ≡ span_at w f) where
   pub lies-there : Lies w s
@@ -65,6 +73,11 @@ module _ {price : Price} {w : List ℕ} {h : Header} {f : ℕ} {s : Span} (k : R
     pub need-there : item w (need_column + s.base + p) ≡ ((sheet_in price w h).at f p).need
     unfolding costed
     need-there = ap (λ (x : PointSheet). x.need) at_there
+
+    -- the numbers are in their ranges
+    pub low-there : {m a : ℕ} → PointsLow m a h.funcs w → item w (a + s.base + p) ≤ m
+    low-there {a = a} c =
+        omega (arith, ap (λ (s : Span). item w (a + s.base + p)) e, c.each f p l (omega (arith, ap (λ (s : Span). s.size) e)))
 
     pub figures-are : {high dead need next fill save reload later filled cost : ℕ} → high ≡ item w (high_column + s.base + p)
         → dead ≡ item w (dead_column + s.base + p)

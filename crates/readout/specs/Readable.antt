@@ -1,11 +1,12 @@
 -- What a reader of the columns relies on, and the figures as they are read back.
-use Rattle.std.specs.Prelude.{ℕ, ◌≤◌, List, length}
+use Rattle.std.specs.Prelude.{ℕ, ◌≤◌, ◌<◌, ◌≡◌, List, length}
 use Rattle.model.specs.Limits.{most_stack, work_length}
 use Rattle.model.specs.Task.{func}
 use Rattle.model.specs.Figures as model
 use Rattle.model.specs.Sheet as sheet
 use Rattle.tables.specs.declared.Header.{Header}
-use Rattle.tables.specs.Tables.{task_of}
+use Rattle.tables.specs.declared.Span.{Span}
+use Rattle.tables.specs.Tables.{span_at, task_of}
 use Rattle.tables.specs.Valid.{Settled}
 use Rattle.prices.specs.declared.Price.{Price}
 use Rattle.prices.specs.Prices.{Small}
@@ -31,6 +32,12 @@ pub record Readable (price : Price) (w : List ℕ) (h : Header) : Type 0 where
   pub need : PointsLow most_stack need_column h.funcs w
   pub next : PointsLow most_stack next_column h.funcs w
   pub fill : PointsLow most_stack fill_column h.funcs w
+
+-- function f of such a task, which is s
+pub record InFunc (price : Price) (w : List ℕ) (h : Header) (f : ℕ) (s : Span) : Type 0 where
+  pub readable : Readable price w h
+  pub low : f < h.funcs
+  pub span : s ≡ span_at w f
 
 -- the figures of a point as the definitions have them
 abbrev pub figured_of : PointFigures → sheet.PointSheet
