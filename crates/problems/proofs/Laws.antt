@@ -12,7 +12,7 @@ use Rattle.bits.specs.Bits.{set_bits, bit, Marks}
 use Rattle.bits.proofs.Laws.{bit_le, marked}
 use Rattle.tables.specs.Tables.{item}
 use Rattle.tables.proofs.Laws.{set-each}
-use Rattle.tables.proofs.Valid.{kept-later, kept_on, kept_set}
+use Rattle.tables.proofs.Valid.{kept_same, kept-later, kept_on, kept_set}
 use Rattle.problems.specs.Problems.{Filled}
 
 -- a bit that is not in a set
@@ -22,7 +22,10 @@ unmarked {t} {m} k j h = (
   λ e. let n : bit m j ≡ 1 → ⊥ = λ b. T_not (t j) e ((marked k j h).0 b) in omega (arith, bit_le m j),
 )
 
--- a buffer with one entry more
+-- a buffer of which nothing is filled, and one more entry
+pub filled_none : {P : ℕ → ℕ → Type 0} (l : List ℕ) → Filled P 0 l l
+filled_none l = record { each = λ p h. absurd (omega arith); kept = kept_same 0 l }
+
 pub filled_more : (P : ℕ → ℕ → Type 0) (l : List ℕ) {l₀ : List ℕ} (p v : ℕ) → p < length l → P p v → Filled P p l₀ l
     → Filled P (p + 1) l₀ (set l p v)
 filled_more P l p v h i f =
