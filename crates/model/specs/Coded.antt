@@ -14,7 +14,7 @@ use Rattle.model.specs.Text.{bytes}
 use Rattle.model.specs.Task.{Func, Task, without, Judged, refused, task, Step, goes, stop, between, inside, read_line, read_text}
 use Rattle.model.specs.Rows.{code_of, verdict_code, verdict_place, refuse}
 use Rattle.model.specs.Refusal.{with_rows, task_rows, judged, work_row, priced_rows, judge, no_rows, run_rows}
-use Rattle.model.specs.Services.{judged_numbers, check_of, check_number, result_numbers, after_write, report_of, run_judged, run_of, run_result_numbers}
+use Rattle.model.specs.Services.{judged_numbers, check_of, check_number, result_numbers, after_write, written_by, report_of, dearest_of, run_judged, run_of, run_result_numbers}
 use Rattle.model.specs.Opened.{opened}
 use Rattle.model.specs.Examples.{lines, five, sample, sample_report, space, space_after, seven_steps, with_preemption, sample_run}
 
@@ -190,3 +190,15 @@ pub starred_numbers :
     ≡ record { number = 5 * 65536 + 3; code = 5; place = 3; work = space_after })
 unfolding opened lines five sample sample_report space space_after seven_steps with_preemption
 starred_numbers = (refl, refl, refl, refl, refl, refl, refl, refl, refl)
+
+-- the numbers of a result of refusal: no bytes are written, be it for a row of the service's own, the output, the working space or the price
+pub refused_numbers :
+    (result_numbers (written_by 2 none (λ t. some (refuse Choice 6)) (λ t. 1 ∷ []) sample (3 ∷ 3 ∷ 3 ∷ []) []).result ≡ 21 ∷ 6 ∷ 0 ∷ [])
+    × (result_numbers (written_by 2 none no_rows (λ t. 1 ∷ []) sample (3 ∷ 3 ∷ 3 ∷ []) []).result ≡ 14 ∷ 1 ∷ 0 ∷ [])
+    × (result_numbers (report_of sample 0 1 space (replicate 296 7)).result ≡ 14 ∷ 297 ∷ 0 ∷ [])
+    × (result_numbers (dearest_of sample 0 1 space (replicate 103 7)).result ≡ 14 ∷ 104 ∷ 0 ∷ [])
+    × (result_numbers (report_of [] 0 1 space (replicate 21 7)).result ≡ 14 ∷ 22 ∷ 0 ∷ [])
+    × (result_numbers (report_of [] 0 1 (9 ∷ []) (replicate 30 7)).result ≡ 15 ∷ 16384 ∷ 0 ∷ [])
+    × (result_numbers (report_of [] 256 1 space []).result ≡ 23 ∷ 0 ∷ 0 ∷ [])
+unfolding opened lines sample space
+refused_numbers = (refl, refl, refl, refl, refl, refl, refl)
