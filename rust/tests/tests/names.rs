@@ -10,10 +10,11 @@ fn rows_in_code() -> Vec<(String, u32)> {
     let at = text.find(start).expect("the declaration is there") + start.len();
     let body = text[at..].split('}').next().expect("it ends");
     let variant = |line: &str| {
-        let (name, number) = line.trim().strip_suffix(',')?.split_once(" = ")?;
-        Some((name.to_string(), number.parse().ok()?))
+        let (name, number) = line.split_once(" = ").expect("each has its number");
+        (name.to_string(), number.parse().expect("a number"))
     };
-    sorted(body.lines().filter_map(variant).collect())
+    let lines = body.split(',').map(str::trim);
+    sorted(lines.filter(|line| !line.is_empty()).map(variant).collect())
 }
 
 /// Names with their codes, by code.
