@@ -4,7 +4,7 @@ use Prim.Native.Nat.{ℕ, zero, suc, ◌+◌, ◌-◌, ◌*◌, ◌≤◌, ◌<�
 use mathlib.Core.Bool.{Bool, false}
 use mathlib.Core.List.{List, [], ◌∷◌, ◌++◌, map, map-map, map-append, Memᴰ}
 use mathlib.Core.Logic.{◌⊎◌, inl, inr, ⊎_elim}
-use mathlib.Core.Path.{◌≡◌, sym, ap, subst, ◌∙◌}
+use mathlib.Core.Path.{◌≡◌, refl, sym, ap, subst, ◌∙◌}
 use native.Mathlib.Decide.{dec_lt}
 use native.Mathlib.Nat.{mul-le-mul_right, suc-mul}
 use native.Mathlib.Numerals.{add-one}
@@ -33,7 +33,7 @@ use Rattle.readout.proofs.Limits.{Low, records-low}
 use Rattle.print.proofs.Laws.{none-length}
 use Rattle.print.proofs.Digits.{taken, digits-line}
 use Rattle.ranks.specs.Ranks.{higher, best}
-use Rattle.ranks.proofs.Laws.{best-append, best-zeros}
+use Rattle.ranks.proofs.Laws.{best-append, best-zeros, length-best}
 use Rattle.dearest.specs.Ranking.{rank_of, rank_at, point_ranks, func_ranks, ranks_in, ranked_func, ranked_point, ranked_cost, rank_text}
 use Rattle.dearest.specs.Ranking.{save_end, cost_end, rank_end, most_line, most_list, list_text, Printable, Lists, listed}
 
@@ -245,8 +245,8 @@ list-most {ranks} k =
 
 -- from no rank, the points of all functions have been taken in
 pub listing : {price : Price} {w : List ℕ} {h : Header} (ranks : List ℕ) → Readable price w h
-    → ranks ≡ best (replicate most_dearest 0) (ranks_in price w h) → length ranks ≡ most_dearest → Lists price w h ranks
-listing {price} {w} {h} ranks k e m =
+    → ranks ≡ best (replicate most_dearest 0) (ranks_in price w h) → Lists price w h ranks
+listing {price} {w} {h} ranks k e =
     let t = task_of w h in
     let s = sheet_in price w h in
     let shaped = k.settled.formed.shaped in
@@ -256,7 +256,8 @@ listing {price} {w} {h} ranks k e m =
     let c : n ≡ min most_dearest (length r) = omega (arith, size) in
     let top : take n ranks ≡ map rank_of (dearest (records_of t s)) =
     (λ i. take (c i) (e i)) ∙ best-zeros r ∙ ap (λ (q : ℕ). take most_dearest (sorted higher (func_ranks t s q))) (sym (count-is w h))
-    ∙ highest-listed t s shaped (records-low k) in (
+    ∙ highest-listed t s shaped (records-low k) in
+    let m : length ranks ≡ most_dearest = ap length e ∙ length-best (replicate most_dearest 0) r refl in (
       omega (arith, m),
       record {
         printable = record {

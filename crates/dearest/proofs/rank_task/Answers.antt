@@ -8,4 +8,4 @@ use Rattle.dearest.proofs.rank_task.Goals as goal
 pub returns : goal.returns
 returns c =
     let s = c.args.sheet in
-    listing _ s.readable (c.rank_funcs.ensures ∙ ap (λ l. best l (ranks_in s.price s.work.now s.header)) c.none-ranks.ensures) c.rank_funcs.new.ranks.ten
+    listing _ s.readable (c.rank_funcs.ensures ∙ ap (λ l. best l (ranks_in s.price s.work.now s.header)) c.none-ranks.ensures)
