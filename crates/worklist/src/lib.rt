@@ -13,6 +13,14 @@ pub enum Visit {
     Waiting,
 }
 
+// The last of the first points, which are so many.
+pub fn last(points: &[u8], count: usize) -> usize
+    requires { (0 < count) × (count ≤ length points.now) }
+    ensures { result ≡ item points.now (count - 1) }
+{
+    points[count - 1] as usize
+}
+
 // A stack with room for N points. N is Limits::POINTS: what put and take ask for (Absent, Sound) holds at no other.
 #[derive(Drop)]
 pub struct Worklist<const N: usize> {
@@ -41,14 +49,6 @@ impl<const N: usize> Worklist<N> {
         self.count += 1;
     }
 
-    // Its last point.
-    pub fn last(&self) -> usize
-        requires { (0 < self.now.count) × (self.now.count ≤ length self.now.points) }
-        ensures { result ≡ item self.now.points (self.now.count - 1) }
-    {
-        self.points[self.count - 1] as usize
-    }
-
     // Its last point, which the caller knows to be q, is taken with no load, and waits no longer.
     pub fn take_last(&mut self, state: &mut [Visit], q: usize)
         requires { Ends q (worklist_of state.old self.old.points self.old.count) }
@@ -67,7 +67,7 @@ impl<const N: usize> Worklist<N> {
         if self.count == 0 {
             return None;
         }
-        let p = self.last();
+        let p = last(&self.points, self.count);
         self.count -= 1;
         state[p] = Visit::Seen;
         Some(p)
